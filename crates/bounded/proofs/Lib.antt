@@ -1,0 +1,5 @@
+pub mod Truth
+pub mod Bounded
+pub mod Loops
+pub mod Mask
+pub mod Table

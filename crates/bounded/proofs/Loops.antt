@@ -1,0 +1,111 @@
+-- What a loop that goes up from 0 knows of the tests: at its start, after one turn more, where it stops early, and at its end.
+-- Assumes nothing.
+use mathlib.Core.Path.{_≡_, refl, sym, ap, subst, _∙_}
+use mathlib.Core.Bool.{Bool, true, false, not, _&&_, _||_}
+use mathlib.Core.Logic.{_⊎_, inl, inr, ⊎-elim}
+use Prim.Native.Nat.{ℕ, zero, suc, _+_, _≤_, _<_}
+use native.Mathlib.Numerals.{add-one}
+use native.Mathlib.Omega.{arith}
+use lib.Dec.{T}
+use Rattle.bounded.specs.Bounded.{all, any, lowest, imp, sumTo}
+use Rattle.bounded.proofs.Truth.{T-true, T-false, T-of, T-not, T-ext, T-dec, or-iff, clash, at-or-below, both}
+use Rattle.bounded.proofs.Bounded.{all-iff, any-iff, lowest-unique, lowest-least, lowest-passes}
+
+-- ---- all
+
+pub all-none : (f : ℕ → Bool) → all 0 f ≡ true
+unfolding all
+all-none f = refl
+
+pub all-intro : (f : ℕ → Bool) (n : ℕ) → ((k : ℕ) → k < n → f k ≡ true) → all n f ≡ true
+all-intro f n h = T-true (all n f) (all-iff n f .1 (λ k l. T-of (h k l)))
+
+pub all-each : (f : ℕ → Bool) (n : ℕ) → all n f ≡ true → (k : ℕ) → k < n → f k ≡ true
+all-each f n e k l = T-true (f k) (all-iff n f .0 (T-of e) k l)
+
+pub all-more : (f : ℕ → Bool) (n : ℕ) → all n f ≡ true → f n ≡ true → all (n + 1) f ≡ true
+all-more f n p q = all-intro f (n + 1) (λ k l. ⊎-elim (λ e. ap f e ∙ q) (λ m. all-each f n p k m) (at-or-below (rw add-one at l)))
+
+-- one that fails
+pub all-fail : (f : ℕ → Bool) (n k : ℕ) → k < n → f k ≡ false → all n f ≡ false
+all-fail f n k l e = T-false (all n f) (λ t. T-not e (all-iff n f .0 t k l))
+
+-- a loop's end: i has come to n
+pub all-end : (f : ℕ → Bool) (n i : ℕ) → n ≤ i → all i f ≡ true → all n f ≡ true
+all-end f n i l e = all-intro f n (λ k m. all-each f i e k (omega arith))
+
+-- ---- any
+
+pub any-none : (f : ℕ → Bool) → any 0 f ≡ false
+unfolding any
+any-none f = refl
+
+pub any-intro : (f : ℕ → Bool) (n : ℕ) → ((k : ℕ) → k < n → f k ≡ false) → any n f ≡ false
+any-intro f n h = T-false (any n f) (λ t. let x = any-iff n f .0 t in T-not (h (x .0) (x .1)) (x .2))
+
+pub any-each : (f : ℕ → Bool) (n : ℕ) → any n f ≡ false → (k : ℕ) → k < n → f k ≡ false
+any-each f n e k l = T-false (f k) (λ t. T-not e (any-iff n f .1 (k, l, t)))
+
+pub any-more : (f : ℕ → Bool) (n : ℕ) → any n f ≡ false → f n ≡ false → any (n + 1) f ≡ false
+any-more f n p q = any-intro f (n + 1) (λ k l. ⊎-elim (λ e. ap f e ∙ q) (λ m. any-each f n p k m) (at-or-below (rw add-one at l)))
+
+-- one that holds
+pub any-hit : (f : ℕ → Bool) (n k : ℕ) → k < n → f k ≡ true → any n f ≡ true
+any-hit f n k l e = T-true (any n f) (any-iff n f .1 (k, l, T-of e))
+
+pub any-end : (f : ℕ → Bool) (n i : ℕ) → n ≤ i → any i f ≡ false → any n f ≡ false
+any-end f n i l e = any-intro f n (λ k m. any-each f i e k (omega arith))
+
+-- one more, whatever it is
+pub any-next : (f : ℕ → Bool) (n : ℕ) → any (n + 1) f ≡ (any n f || f n)
+any-next f n =
+    T-ext (
+      λ t. let x = any-iff (n + 1) f .0 t in or-iff (any n f) (f n) .1 (⊎-elim (λ e. inr (subst (λ (k : ℕ). T (f k)) e (x .2))) (λ m. inl (any-iff n f .1 (x .0, m, x .2))) (at-or-below {k = x .0} {n = n} (omega (arith, x .1)))),
+      λ t. ⊎-elim (λ u. let x = any-iff n f .0 u in any-iff (n + 1) f .1 (x .0, omega (arith, x .1), x .2)) (λ u. any-iff (n + 1) f .1 (n, omega arith, u)) (or-iff (any n f) (f n) .0 t),
+    )
+
+-- ---- lowest
+
+pub lowest-none : (f : ℕ → Bool) → lowest 0 f ≡ 0
+unfolding lowest
+lowest-none f = refl
+
+-- none below k: what a search knows when it comes to k
+pub lowest-before : (f : ℕ → Bool) (n k : ℕ) → k < lowest n f → f k ≡ false
+lowest-before f n k l = T-false (f k) (lowest-least n f k l)
+
+-- none so far, nor here
+pub lowest-more : (f : ℕ → Bool) (n : ℕ) → lowest n f ≡ n → f n ≡ false → lowest (n + 1) f ≡ n + 1
+lowest-more f n p q =
+    lowest-unique (n + 1) f (n + 1) (omega arith)
+    (λ k l t. ⊎-elim (λ e. T-not (ap f e ∙ q) t) (λ m. lowest-least n f k (omega (arith, p)) t) (at-or-below (rw add-one at l)))
+    (λ l. absurd (omega arith))
+
+-- none before k, and one at k
+pub lowest-hit : (f : ℕ → Bool) (n k : ℕ) → k < n → lowest k f ≡ k → f k ≡ true → lowest n f ≡ k
+lowest-hit f n k l p q = lowest-unique n f k (omega arith) (λ m h t. lowest-least k f m (omega (arith, p)) t) (λ h. T-of q)
+
+-- a loop's end: i has come to n
+pub lowest-end : (f : ℕ → Bool) (n i : ℕ) → n ≤ i → i ≤ n → lowest i f ≡ i → lowest n f ≡ n
+lowest-end f n i l m e = let q : i ≡ n = omega arith in subst (λ (k : ℕ). lowest k f ≡ k) q e
+
+-- ---- sums
+
+pub sum-none : (f : ℕ → ℕ) → sumTo 0 f ≡ 0
+unfolding sumTo
+sum-none f = refl
+
+pub sum-more : (f : ℕ → ℕ) (n : ℕ) → sumTo (n + 1) f ≡ sumTo n f + f n
+unfolding sumTo
+sum-more f n = rw add-one
+
+-- ---- tests joined
+
+pub imp-fail : {p q : Bool} → p ≡ true → q ≡ false → imp p q ≡ false
+imp-fail {p} {q} a b = rw (a, b)
+
+pub imp-met : {p q : Bool} → p ≡ true → q ≡ true → imp p q ≡ true
+imp-met {p} {q} a b = rw (a, b)
+
+pub imp-off : {p : Bool} (q : Bool) → p ≡ false → imp p q ≡ true
+imp-off {p} q a = rw a

@@ -1,0 +1,218 @@
+-- Sets of small numbers as one number: members, the bitwise operations, and equality by members. Assumes nothing.
+use Prim.Native.Nat.{ℕ, zero, suc, _+_, _-_, _*_, _/_, _%_, _^_, _<_, _≤_, min, max}
+use mathlib.Core.Path.{_≡_, refl, sym, ap, _∙_, subst}
+use mathlib.Core.Bool.{Bool, true, false, cond, not, _&&_, _||_, Bool·beq}
+use mathlib.Core.Logic.{_⊎_, inl, inr, ⊎-elim, _↔_}
+use native.Mathlib.Nat.{not-suc-le-zero, add-mul-div-right, zero-div, lt-of-le-of-lt, div-eq-of-lt, pow-le-pow-right}
+use native.Mathlib.Numerals.{add-one}
+use native.Mathlib.Omega.{arith}
+use lib.Dec.{T, eqb}
+use lib.Bits.{bitAnd, and-step, and-shr, and-le-l, bitOr, or-step, or-shr, or-lt}
+use lib.Pow.{shr-shr, pow-add, pow-pos, high}
+use borrow.Author.Tests.{eq-eqb, ne-eqb, eqb-true, eqb-false}
+use Rattle.bounded.specs.Bounded.{all, any, imp}
+use Rattle.bounded.specs.Mask.{bit, maskOf, without}
+use Rattle.bounded.proofs.Truth.{T-ext, T-true, T-of, and-iff, imp-iff, eqb-iff, split, clash, at-or-below, lt-dec}
+use Rattle.bounded.proofs.Bounded.{all-iff, all-ext, any-ext}
+use Rattle.bounded.proofs.Loops.{all-each, any-each, any-intro}
+
+-- ---- a digit is 0 or 1
+
+digit : (n : ℕ) → n % 2 < 2
+digit n = omega arith
+
+and-digit : (p q : ℕ) → p < 2 → q < 2 → eqb (min p q) 1 ≡ (eqb p 1 && eqb q 1)
+and-digit zero zero l m = refl
+and-digit zero (suc zero) l m = refl
+and-digit (suc zero) zero l m = refl
+and-digit (suc zero) (suc zero) l m = refl
+and-digit (suc (suc p)) q l m = absurd (omega arith)
+and-digit zero (suc (suc q)) l m = absurd (omega arith)
+and-digit (suc zero) (suc (suc q)) l m = absurd (omega arith)
+
+or-digit : (p q : ℕ) → p < 2 → q < 2 → eqb (max p q) 1 ≡ (eqb p 1 || eqb q 1)
+or-digit zero zero l m = refl
+or-digit zero (suc zero) l m = refl
+or-digit (suc zero) zero l m = refl
+or-digit (suc zero) (suc zero) l m = refl
+or-digit (suc (suc p)) q l m = absurd (omega arith)
+or-digit zero (suc (suc q)) l m = absurd (omega arith)
+or-digit (suc zero) (suc (suc q)) l m = absurd (omega arith)
+
+and-mod2 : (a b : ℕ) → bitAnd a b % 2 ≡ min (a % 2) (b % 2)
+and-mod2 a b = omega (arith, and-step a b)
+
+or-mod2 : (a b : ℕ) → bitOr a b % 2 ≡ max (a % 2) (b % 2)
+or-mod2 a b = omega (arith, or-step a b)
+
+pub bit-and : (x y c : ℕ) → bit (bitAnd x y) c ≡ (bit x c && bit y c)
+bit-and x y c =
+    ap (λ (n : ℕ). eqb (n % 2) 1) (and-shr x y c)
+    ∙ ap (λ (n : ℕ). eqb n 1) (and-mod2 (x / 2 ^ c) (y / 2 ^ c))
+    ∙ and-digit (x / 2 ^ c % 2) (y / 2 ^ c % 2) (digit (x / 2 ^ c)) (digit (y / 2 ^ c))
+
+pub bit-or : (x y c : ℕ) → bit (bitOr x y) c ≡ (bit x c || bit y c)
+bit-or x y c =
+    ap (λ (n : ℕ). eqb (n % 2) 1) (or-shr x y c)
+    ∙ ap (λ (n : ℕ). eqb n 1) (or-mod2 (x / 2 ^ c) (y / 2 ^ c))
+    ∙ or-digit (x / 2 ^ c % 2) (y / 2 ^ c % 2) (digit (x / 2 ^ c)) (digit (y / 2 ^ c))
+
+pub bit-none : (c : ℕ) → bit 0 c ≡ false
+bit-none c = ap (λ (n : ℕ). eqb (n % 2) 1) (zero-div (2 ^ c))
+
+-- no bit is set above a number
+pub bit-high : (n x c : ℕ) → x < 2 ^ n → n ≤ c → bit x c ≡ false
+bit-high n x c h l =
+    let q : x < 2 ^ c = lt-of-lt-of-le h (pow-le-pow-right (omega arith) l) in
+    ap (λ (k : ℕ). eqb (k % 2) 1) (div-eq-of-lt q)
+  where
+    lt-of-lt-of-le : {a b c : ℕ} → a < b → b ≤ c → a < c
+    lt-of-lt-of-le p q = omega arith
+
+-- ---- sets with the same members are one number
+
+bit-zero : (x : ℕ) → bit x 0 ≡ eqb (x % 2) 1
+bit-zero x = let e : x / 2 ^ 0 ≡ x = omega arith in ap (λ (n : ℕ). eqb (n % 2) 1) e
+
+bit-suc : (x c : ℕ) → bit x (suc c) ≡ bit (x / 2) c
+bit-suc x c = ap (λ (n : ℕ). eqb (n % 2) 1) (sym (shr-shr x 1 c ∙ ap (λ (k : ℕ). x / 2 ^ k) (omega arith)))
+
+same-digit : (p q : ℕ) → p < 2 → q < 2 → eqb p 1 ≡ eqb q 1 → p ≡ q
+same-digit p q l m e =
+    ⊎-elim
+    (λ t. eqb-true p 1 t ∙ sym (eqb-true q 1 (sym e ∙ t)))
+    (λ t. let h = eqb-false p 1 t in let k = eqb-false q 1 (sym e ∙ t) in omega arith)
+    (split (eqb p 1))
+
+double : (n : ℕ) → 2 ^ suc n ≡ 2 ^ n * 2
+double n = ap (λ (k : ℕ). 2 ^ k) (sym (add-one n)) ∙ pow-add 2 n 1
+
+pub mask-ext : (n x y : ℕ) → x < 2 ^ n → y < 2 ^ n → ((c : ℕ) → c < n → bit x c ≡ bit y c) → x ≡ y
+mask-ext zero x y l m h = omega arith
+mask-ext (suc n) x y l m h =
+    let p : 2 ^ suc n ≡ 2 ^ n * 2 = double n in
+    let d : x % 2 ≡ y % 2 = same-digit _ _ (digit x) (digit y) (sym (bit-zero x) ∙ h 0 (omega arith) ∙ bit-zero y) in
+    let e : x / 2 ≡ y / 2 = mask-ext n (x / 2) (y / 2) (omega arith) (omega arith) (λ c k. sym (bit-suc x c) ∙ h (suc c) (omega arith) ∙ bit-suc y c) in
+    omega arith
+
+-- ---- the set of a test
+
+weight-le : (b : Bool) (x : ℕ) → cond b x 0 ≤ x
+weight-le true x = omega arith
+weight-le false x = omega arith
+
+pub mask-lt : (n : ℕ) (f : ℕ → Bool) → maskOf n f < 2 ^ n
+unfolding maskOf
+mask-lt zero f = omega arith
+mask-lt (suc n) f = omega (arith, mask-lt n f, weight-le (f n) (2 ^ n), double n)
+
+-- a low part below 2 ^ n, and a digit at n
+bit-top : (n x : ℕ) (b : Bool) → x < 2 ^ n → bit (x + cond b (2 ^ n) 0) n ≡ b
+bit-top n x true l =
+    let q : x + 2 ^ n ≡ 1 * 2 ^ n + x = omega arith in
+    ap (λ (m : ℕ). eqb (m / 2 ^ n % 2) 1) q ∙ ap (λ (m : ℕ). eqb (m % 2) 1) (high 1 n l)
+bit-top n x false l =
+    let q : x + 0 ≡ 0 * 2 ^ n + x = omega arith in
+    ap (λ (m : ℕ). eqb (m / 2 ^ n % 2) 1) q ∙ ap (λ (m : ℕ). eqb (m % 2) 1) (high 0 n l)
+
+-- below n the digit at n does not show
+bit-low : (n x c : ℕ) (b : Bool) → c < n → bit (x + cond b (2 ^ n) 0) c ≡ bit x c
+bit-low n x c true l =
+    let d : ℕ = n - suc c in
+    let e : n ≡ suc d + c = omega arith in
+    let p : 2 ^ n ≡ 2 ^ d * 2 * 2 ^ c = ap (λ (k : ℕ). 2 ^ k) e ∙ pow-add 2 (suc d) c ∙ ap (λ (k : ℕ). k * 2 ^ c) (double d) in
+    let q : (x + 2 ^ n) / 2 ^ c ≡ x / 2 ^ c + 2 ^ d * 2 = ap (λ (k : ℕ). (x + k) / 2 ^ c) p ∙ add-mul-div-right x (2 ^ d * 2) (pow-pos c) in
+    ap (λ (m : ℕ). eqb (m % 2) 1) q ∙ (let r : (x / 2 ^ c + 2 ^ d * 2) % 2 ≡ x / 2 ^ c % 2 = omega arith in ap (λ (m : ℕ). eqb m 1) r)
+bit-low n x c false l = let q : x + 0 ≡ x = omega arith in ap (λ (m : ℕ). bit m c) q
+
+pub bit-mask : (n : ℕ) (f : ℕ → Bool) (c : ℕ) → c < n → bit (maskOf n f) c ≡ f c
+unfolding maskOf
+bit-mask zero f c l = absurd (not-suc-le-zero l)
+bit-mask (suc n) f c l =
+    ⊎-elim
+    (λ e. subst (λ (k : ℕ). bit (maskOf n f + cond (f n) (2 ^ n) 0) k ≡ f k) (sym e) (bit-top n (maskOf n f) (f n) (mask-lt n f)))
+    (λ m. bit-low n (maskOf n f) c (f n) m ∙ bit-mask n f c m)
+    (at-or-below l)
+
+-- what has f's members is f's set
+pub mask-is : (n x : ℕ) (f : ℕ → Bool) → x < 2 ^ n → ((c : ℕ) → c < n → bit x c ≡ f c) → x ≡ maskOf n f
+mask-is n x f l h = mask-ext n x (maskOf n f) l (mask-lt n f) (λ c k. h c k ∙ sym (bit-mask n f c k))
+
+-- a set whose test holds only below n, read back at any number
+pub bit-mask-all : (n : ℕ) (f : ℕ → Bool) → ((k : ℕ) → T (f k) → k < n) → (k : ℕ) → bit (maskOf n f) k ≡ f k
+bit-mask-all n f h k = ⊎-elim (λ l. bit-mask n f k l) (λ l. bit-high n (maskOf n f) k (mask-lt n f) l ∙ sym (off l)) (lt-dec k n)
+  where
+    off : n ≤ k → f k ≡ false
+    off l = ⊎-elim (λ t. absurd (omega (arith, h k (T-of t)))) (λ t. t) (split (f k))
+
+pub mask-none : (f : ℕ → Bool) → 0 ≡ maskOf 0 f
+unfolding maskOf
+mask-none f = refl
+
+pub mask-more : (n : ℕ) (f : ℕ → Bool) → maskOf (n + 1) f ≡ maskOf n f + cond (f n) (2 ^ n) 0
+unfolding maskOf
+mask-more n f = rw (add-one n)
+
+-- the set of all numbers below z, as a number
+mask-all : (z : ℕ) → maskOf z (λ _. true) ≡ 2 ^ z - 1
+unfolding maskOf
+mask-all zero = refl
+mask-all (suc z) = let e = mask-all z in let p = double z in let q = pow-pos z in omega arith
+
+pub full-bit : (z b : ℕ) → b < z → bit (2 ^ z - 1) b ≡ true
+full-bit z b h = ap (λ (x : ℕ). bit x b) (sym (mask-all z)) ∙ bit-mask z (λ _. true) b h
+
+-- ---- one member taken out
+
+-- both sides of a computed test of Bools agree
+beq-true : (a b : Bool) → Bool·beq a b ≡ true → a ≡ b
+beq-true true true e = refl
+beq-true true false e = sym e
+beq-true false true e = e
+beq-true false false e = refl
+
+-- one computed test of all places, for each of the two sizes of set
+others : (n : ℕ) → all n (λ b. all n (λ c. Bool·beq (bit (2 ^ n - 1 - 2 ^ b) c) (not (eqb c b)))) ≡ true → (b c : ℕ) → b < n → c < n → bit (2 ^ n - 1 - 2 ^ b) c ≡ not (eqb c b)
+others n e b c l m =
+    beq-true _ _ (all-each (λ c. Bool·beq (bit (2 ^ n - 1 - 2 ^ b) c) (not (eqb c b))) n (all-each (λ b. all n (λ c. Bool·beq (bit (2 ^ n - 1 - 2 ^ b) c) (not (eqb c b)))) n e b l) c m)
+
+bit-without : (n : ℕ) → ((b c : ℕ) → b < n → c < n → bit (2 ^ n - 1 - 2 ^ b) c ≡ not (eqb c b)) → (x b c : ℕ) → b < n → c < n → bit (without n x b) c ≡ (bit x c && not (eqb c b))
+bit-without n h x b c l m = bit-and x (2 ^ n - 1 - 2 ^ b) c ∙ ap (λ (t : Bool). bit x c && t) (h b c l m)
+
+pub bit-without16 : (x b c : ℕ) → b < 16 → c < 16 → bit (without 16 x b) c ≡ (bit x c && not (eqb c b))
+unfolding all
+bit-without16 = bit-without 16 (others 16 refl)
+
+pub bit-without32 : (x b c : ℕ) → b < 32 → c < 32 → bit (without 32 x b) c ≡ (bit x c && not (eqb c b))
+unfolding all
+bit-without32 = bit-without 32 (others 32 refl)
+
+-- ---- whole words
+
+-- x is within y, as one comparison
+pub within : (n x y : ℕ) → x < 2 ^ n → eqb (bitAnd x y) x ≡ all n (λ c. imp (bit x c) (bit y c))
+within n x y h =
+    T-ext (
+      λ t. all-iff n _ .1 (λ c l. imp-iff (bit x c) (bit y c) .1 (λ u. and-iff (bit x c) (bit y c) .0 (subst T (bit-and x y c) (subst (λ (z : ℕ). T (bit z c)) (sym (eqb-iff (bitAnd x y) x .0 t)) u)) .1)),
+      λ t. eqb-iff (bitAnd x y) x .1 (mask-ext n (bitAnd x y) x (lt-of-le-of-lt (and-le-l x y) h) h (λ c l. bit-and x y c ∙ T-ext (λ u. and-iff (bit x c) (bit y c) .0 u .0, λ u. and-iff (bit x c) (bit y c) .1 (u, imp-iff (bit x c) (bit y c) .0 (all-iff n _ .0 t c l) u)))),
+    )
+
+-- the members that x and y share are within z
+pub within-both : (n x y z : ℕ) → x < 2 ^ n → eqb (bitAnd (bitAnd x y) z) (bitAnd x y) ≡ all n (λ c. imp (bit x c && bit y c) (bit z c))
+within-both n x y z l =
+    within n (bitAnd x y) z (lt-of-le-of-lt (and-le-l x y) l)
+    ∙ all-ext n _ _ (λ c k. ap (λ (t : Bool). imp t (bit z c)) (bit-and x y c))
+
+-- a set that is 0 has no member
+pub zero-bits : (n x : ℕ) → x < 2 ^ n → eqb x 0 ≡ not (any n (bit x))
+zero-bits n x l =
+    ⊎-elim
+    (λ t. ne-eqb x 0 (λ e. clash t (ap (λ (m : ℕ). any n (bit m)) e ∙ any-intro (bit 0) n (λ k h. bit-none k))) ∙ ap not (sym t))
+    (λ t. eq-eqb x 0 (mask-ext n x 0 l (pow-pos n) (λ c k. any-each (bit x) n t c k ∙ sym (bit-none c))) ∙ ap not (sym t))
+    (split (any n (bit x)))
+
+-- x and y share no member
+pub none-both : (n x y : ℕ) → x < 2 ^ n → eqb (bitAnd x y) 0 ≡ not (any n (λ c. bit x c && bit y c))
+none-both n x y l =
+    zero-bits n (bitAnd x y) (lt-of-le-of-lt (and-le-l x y) l)
+    ∙ ap not (any-ext n (bit (bitAnd x y)) (λ c. bit x c && bit y c) (λ c k. bit-and x y c))

@@ -1,0 +1,36 @@
+-- Tests over the numbers below a bound. They stop at the first number that decides, so that they compute quickly.
+use mathlib.Core.Bool.{Bool, true, false, not, _||_}
+use Prim.Native.Nat.{ℕ, zero, suc, _+_}
+
+-- if p then q
+abbrev pub imp : Bool → Bool → Bool
+imp p q = not p || q
+
+-- f holds at each number below n
+unfoldable pub all : ℕ → (ℕ → Bool) → Bool
+all zero f = true
+all (suc n) f = elim (f n) [ true ↦ all n f | false ↦ false ]
+
+-- f holds at some number below n
+unfoldable pub any : ℕ → (ℕ → Bool) → Bool
+any zero f = false
+any (suc n) f = elim (f n) [ true ↦ true | false ↦ any n f ]
+
+-- the lowest number below n at which f holds, or n where there is none
+unfoldable pub lowest : ℕ → (ℕ → Bool) → ℕ
+lowest zero f = zero
+lowest (suc n) f = elim (f zero) [ true ↦ zero | false ↦ suc (lowest n (λ k. f (suc k))) ]
+
+-- f 0 + f 1 + .. + f (n - 1)
+unfoldable pub sumTo : ℕ → (ℕ → ℕ) → ℕ
+sumTo zero f = zero
+sumTo (suc n) f = sumTo n f + f n
+
+-- 1 for true, 0 for false
+abbrev pub one : Bool → ℕ
+one true = 1
+one false = 0
+
+-- how many numbers below n pass f
+unfoldable pub count : ℕ → (ℕ → Bool) → ℕ
+count n f = sumTo n (λ k. one (f k))

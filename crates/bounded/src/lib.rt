@@ -1,0 +1,36 @@
+// Sets of small numbers as masks.
+ghost use mathlib.Core.Path.{_≡_};
+ghost use Prim.Native.Nat.{_^_, _<_, _≤_};
+ghost use Rattle.bounded.specs.Mask.{bit, without as withoutOf};
+
+// Whether c is in a set of 16.
+pub fn has16(x: u16, c: usize) -> bool
+    requires { ⌜ c < 16 ⌝ }
+    ensures { λ r. ⌜ r ≡ bit x c ⌝ }
+{
+    (x >> c) % 2 == 1
+}
+
+// Whether c is in a set of 32.
+pub fn has32(x: u32, c: usize) -> bool
+    requires { ⌜ c < 32 ⌝ }
+    ensures { λ r. ⌜ r ≡ bit x c ⌝ }
+{
+    (x >> c) % 2 == 1
+}
+
+// A set of 16 without b.
+pub fn without16(x: u16, b: usize) -> u16
+    requires { ⌜ b < 16 ⌝ }
+    ensures { λ r. ⌜ r ≡ withoutOf 16 x b ⌝ }
+{
+    x & !(1u16 << b)
+}
+
+// A set of 32 without b.
+pub fn without32(x: u32, b: usize) -> u32
+    requires { ⌜ b < 32 ⌝ }
+    ensures { λ r. ⌜ r ≡ withoutOf 32 x b ⌝ }
+{
+    x & !(1u32 << b)
+}

@@ -1,0 +1,6 @@
+pub mod Problem
+pub mod Reduce
+pub mod Manual
+pub mod Extend
+pub mod Masks
+pub mod Solutions

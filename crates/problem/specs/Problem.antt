@@ -1,0 +1,136 @@
+-- Document 01, "State and the five rules": a problem, a state of it, the five rules, and what a step does.
+-- Every test reads the problem through `n`, `size` and `allowed` only.
+use mathlib.Core.Path.{_≡_}
+use mathlib.Core.Bool.{Bool, true, false, not, _&&_}
+use Prim.Native.Nat.{ℕ}
+use lib.Dec.{eqb, ltb}
+use Rattle.bounded.specs.Bounded.{imp, all, any, lowest, sumTo, count}
+
+-- A binary constraint problem. Document 01's items are variables, its settings values, both numbered from 0.
+pub record Problem : Type 0 where
+  -- how many items
+  pub n : ℕ
+  -- how many settings each has
+  pub size : ℕ → ℕ
+  -- setting a of item i may stand with setting b of item j: `allowed i a j b`
+  pub allowed : ℕ → ℕ → ℕ → ℕ → Bool
+  pub symmetric : (i a j b : ℕ) → allowed i a j b ≡ allowed j b i a
+
+-- "A state says which items are in and, for each, which settings are on."
+pub record State : Type 0 where
+  -- the item is in
+  pub active : ℕ → Bool
+  -- the setting is on at the item
+  pub live : ℕ → ℕ → Bool
+
+-- "At first all items are in and all settings on."
+unfoldable pub full : Problem → State
+full P = record { active = λ i. ltb i (P .n); live = λ i a. ltb i (P .n) && ltb a (P .size i) }
+
+-- the largest numbers of items and of settings of one item that a sheet may list
+abbrev pub maxVariables : ℕ
+maxVariables = 32
+
+abbrev pub maxValues : ℕ
+maxValues = 16
+
+module _ (P : Problem) (s : State) where
+  -- ---- quantifiers: at every item in, at every setting on at l, at some setting on at l, and the lowest such setting
+
+  unfoldable pub allActive : (ℕ → Bool) → Bool
+  allActive f = all (P .n) (λ l. imp (s .active l) (f l))
+
+  unfoldable pub allLive : ℕ → (ℕ → Bool) → Bool
+  allLive l f = all (P .size l) (λ c. imp (s .live l c) (f c))
+
+  unfoldable pub anyLive : ℕ → (ℕ → Bool) → Bool
+  anyLive l f = any (P .size l) (λ c. s .live l c && f c)
+
+  unfoldable pub lowestLive : ℕ → (ℕ → Bool) → ℕ
+  lowestLive l f = lowest (P .size l) (λ c. s .live l c && f c)
+
+  -- "Other item": one still in that is not i; and every item other than i and j
+  unfoldable pub allOther : ℕ → (ℕ → Bool) → Bool
+  allOther i f = allActive (λ j. imp (not (eqb j i)) (f j))
+
+  unfoldable pub allThird : ℕ → ℕ → (ℕ → Bool) → Bool
+  allThird i j f = allActive (λ l. imp (not (eqb l i)) (imp (not (eqb l j)) (f l)))
+
+  -- cause 11: no item in is not below n, no item out has a setting on, and no setting on is not below its size
+  unfoldable pub fits : Bool
+  fits =
+      all maxVariables (λ i. imp (s .active i) (ltb i (P .n)))
+      && all maxVariables (λ i. all maxValues (λ a. imp (s .live i a) (s .active i && ltb a (P .size i))))
+
+  -- no item in is without a setting on
+  unfoldable pub noneEmpty : Bool
+  noneEmpty = allActive (λ l. anyLive l (λ c. true))
+
+  -- ---- the rules
+
+  -- "Setting a covers b at item l when every setting on at l that is allowed with b is allowed with a": a substitutes for b at l.
+  -- a is a setting of i and b one of j. The cover of one item's settings has i for j too; fold compares settings of two items.
+  unfoldable pub substitutes : (i a j b l : ℕ) → Bool
+  substitutes i a j b l = allLive l (λ c. imp (P .allowed j b l c) (P .allowed i a l c))
+
+  -- kind 1, bare: "b is on at i and no setting on at another item k is allowed with it"
+  unfoldable pub unsupported : (i b k : ℕ) → Bool
+  unsupported i b k = s .live i b && (s .active k && (not (eqb k i) && allLive k (λ c. not (P .allowed i b k c))))
+
+  -- kind 2: w' "is allowed with v and covers w at every item other than i and j"
+  unfoldable pub snakeServes : (i v j w w' : ℕ) → Bool
+  snakeServes i v j w w' = P .allowed i v j w' && allThird i j (λ l. substitutes j w' j w l)
+
+  -- kind 2, snake: "v is on at i; for every other item j and every setting w on at j barred with v, some w' on at j" serves
+  unfoldable pub snake : (i v : ℕ) → Bool
+  snake i v = s .live i v && allOther i (λ j. allLive j (λ w. imp (not (P .allowed i v j w)) (anyLive j (λ w'. snakeServes i v j w w'))))
+
+  -- kind 3: u "is allowed with v, and covers v at every item other than i and j"
+  unfoldable pub triangleServes : (i j v u : ℕ) → Bool
+  triangleServes i j v u = P .allowed i u j v && allThird i j (λ l. substitutes i u j v l)
+
+  -- kind 3, fold: "j is another item; for every v on at j some u on at i" serves
+  unfoldable pub triangle : (i j : ℕ) → Bool
+  triangle i j = s .active i && (s .active j && (not (eqb j i) && allLive j (λ v. anyLive i (λ u. triangleServes i j v u))))
+
+  -- kind 4, cover: "a and b are different and on at i; a covers b at every other item"
+  unfoldable pub neighbourhood : (i b a : ℕ) → Bool
+  neighbourhood i b a = s .live i b && (s .live i a && (not (eqb a b) && allOther i (λ l. substitutes i a i b l)))
+
+  -- kind 5: e "is allowed with a and covers d at every item other than k". With `spare` the item i is left out of these items, as
+  -- document 001 has it; document 01 is narrower and keeps it in.
+  unfoldable pub slideServes : (spare : Bool) (i a k d e : ℕ) → Bool
+  slideServes spare i a k d e = P .allowed i a k e && allOther k (λ l. imp (not (spare && eqb l i)) (substitutes k e k d l))
+
+  -- kind 5, slide: "a and b are different and on at i; for each other item k and each d on at k allowed with b, some e on at k" serves
+  unfoldable pub snakeSubstitution : (spare : Bool) (i b a : ℕ) → Bool
+  snakeSubstitution spare i b a =
+      s .live i b
+      && (s .live i a
+      && (not (eqb a b) && allOther i (λ k. allLive k (λ d. imp (P .allowed i b k d) (anyLive k (λ e. slideServes spare i a k d e))))))
+
+  -- ---- what a step does
+
+  -- "Kinds 1, 4 and 5 switch b off at i."
+  unfoldable pub remove : (i b : ℕ) → State
+  remove i b = record { active = s .active; live = λ j w. s .live j w && not (eqb j i && eqb w b) }
+
+  -- "Kinds 2 and 3 take i out, all its settings going off, and, in the same step, switch off at every other item each setting that
+  -- had no partner on at i." A partner is a setting on there and allowed with it.
+  unfoldable pub eliminate : (i : ℕ) → State
+  eliminate i =
+      record {
+        active = λ j. s .active j && not (eqb j i);
+        live = λ j w. s .live j w && (not (eqb j i) && anyLive i (λ c. P .allowed j w i c));
+      }
+
+-- document 01's slide rule keeps i among the items where e covers d: request Four changes this word
+abbrev pub slideSpares : Bool
+slideSpares = false
+
+-- how many settings are on, and how many the problem lists
+unfoldable pub liveCount : Problem → State → ℕ
+liveCount P s = sumTo (P .n) (λ i. count (P .size i) (s .live i))
+
+unfoldable pub sizeSum : Problem → ℕ
+sizeSum P = sumTo (P .n) (P .size)

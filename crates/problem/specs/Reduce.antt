@@ -1,0 +1,112 @@
+-- Document 01, "The run": records, lawful records and traces, the next step in the required order, the run and its end.
+use mathlib.Core.Bool.{Bool, true, false, _&&_, not}
+use mathlib.Core.List.{List, [], _∷_}
+use Prim.Native.Nat.{ℕ, zero, suc}
+use lib.Dec.{T}
+use Rattle.bounded.specs.Bounded.{any, all, imp}
+use Rattle.problem.specs.Problem.{Problem, State, full, noneEmpty, unsupported, snake, triangle, neighbourhood, snakeSubstitution, slideSpares, remove, eliminate, liveCount}
+use Rattle.problem.specs.declared.Record.{Record}
+use Rattle.problem.specs.declared.Record.the-variants.{Unsupported, Snake, Triangle, Neighbourhood, SnakeSubstitution}
+use Rattle.problem.specs.declared.Next.{Next}
+use Rattle.problem.specs.declared.Next.the-variants.{Step, Nothing}
+use Rattle.problem.specs.declared.End.{End}
+use Rattle.problem.specs.declared.End.the-variants.{Impossible, Solved, Rest}
+
+-- ---- one record
+
+-- the kind of a record, as the table of the rules numbers it
+abbrev pub kindOf : Record → ℕ
+kindOf (Unsupported i b k) = 1
+kindOf (Snake i v) = 2
+kindOf (Triangle i j) = 3
+kindOf (Neighbourhood i b a) = 4
+kindOf (SnakeSubstitution i b a) = 5
+
+-- the rule of the record's kind holds for its fields
+unfoldable pub holds : Problem → State → Record → Bool
+holds P s (Unsupported i b k) = unsupported P s i b k
+holds P s (Snake i v) = snake P s i v
+holds P s (Triangle i j) = triangle P s i j
+holds P s (Neighbourhood i b a) = neighbourhood P s i b a
+holds P s (SnakeSubstitution i b a) = snakeSubstitution P s slideSpares i b a
+
+-- "No step is taken once some item in has no setting on."
+unfoldable pub lawful : Problem → State → Record → Bool
+lawful P s r = noneEmpty P s && holds P s r
+
+-- the state after the step
+unfoldable pub after : Problem → State → Record → State
+after P s (Unsupported i b k) = remove P s i b
+after P s (Snake i v) = eliminate P s i
+after P s (Triangle i j) = eliminate P s i
+after P s (Neighbourhood i b a) = remove P s i b
+after P s (SnakeSubstitution i b a) = remove P s i b
+
+-- ---- a trace
+
+-- each record is lawful in the state reached
+unfoldable pub lawfulTrace : Problem → State → List Record → Bool
+lawfulTrace P s [] = true
+lawfulTrace P s (r ∷ t) = elim (lawful P s r) [ true ↦ lawfulTrace P (after P s r) t | false ↦ false ]
+
+-- the state that a trace leads to
+unfoldable pub afterTrace : Problem → State → List Record → State
+afterTrace P s [] = s
+afterTrace P s (r ∷ t) = afterTrace P (after P s r) t
+
+-- ---- "the next step is of the lowest kind that holds anywhere, then the lowest i, then the lowest third field, then the lowest fourth"
+
+-- the step where the test holds
+unfoldable pub when : Bool → Record → Next
+when true r = Step r
+when false r = Nothing
+
+-- what f finds at the lowest number below n at which it finds a step
+unfoldable pub first : ℕ → (ℕ → Next) → Next
+first zero f = Nothing
+first (suc n) f = elim (f zero) [ Step r ↦ Step r | Nothing ↦ first n (λ k. f (suc k)) ]
+
+module _ (P : Problem) (s : State) where
+  -- the lowest step of each kind
+  unfoldable pub nextUnsupported : Next
+  nextUnsupported = first (P .n) (λ i. first (P .size i) (λ b. first (P .n) (λ k. when (unsupported P s i b k) (Unsupported i b k))))
+
+  unfoldable pub nextSnake : Next
+  nextSnake = first (P .n) (λ i. first (P .size i) (λ v. when (snake P s i v) (Snake i v)))
+
+  unfoldable pub nextTriangle : Next
+  nextTriangle = first (P .n) (λ i. first (P .n) (λ j. when (triangle P s i j) (Triangle i j)))
+
+  unfoldable pub nextNeighbourhood : Next
+  nextNeighbourhood = first (P .n) (λ i. first (P .size i) (λ b. first (P .size i) (λ a. when (neighbourhood P s i b a) (Neighbourhood i b a))))
+
+  unfoldable pub nextSnakeSubstitution : Next
+  nextSnakeSubstitution =
+      first (P .n) (λ i. first (P .size i) (λ b. first (P .size i) (λ a. when (snakeSubstitution P s slideSpares i b a) (SnakeSubstitution i b a))))
+
+  -- the kinds in their order
+  unfoldable pub nextOfKind : ℕ → Next
+  nextOfKind zero = Nothing
+  nextOfKind (suc zero) = nextUnsupported
+  nextOfKind (suc (suc zero)) = nextSnake
+  nextOfKind (suc (suc (suc zero))) = nextTriangle
+  nextOfKind (suc (suc (suc (suc zero)))) = nextNeighbourhood
+  nextOfKind (suc (suc (suc (suc (suc k))))) = nextSnakeSubstitution
+
+  unfoldable pub next : Next
+  next = elim (noneEmpty P s) [ true ↦ first 6 nextOfKind | false ↦ Nothing ]
+
+-- ---- the run
+
+-- the records of at most f steps
+unfoldable pub runFrom : ℕ → Problem → State → List Record
+runFrom zero P s = []
+runFrom (suc f) P s = elim (next P s) [ Nothing ↦ [] | Step r ↦ r ∷ runFrom f P (after P s r) ]
+
+-- the run from a state to its end. Each step uses up a setting that was on, so that as many steps as settings are on are enough.
+unfoldable pub run : Problem → State → List Record
+run P s = runFrom (suc (liveCount P s)) P s
+
+-- "The end is impossible (an item in has no setting on), solved (no item in) or rest (items in, no rule holds)."
+unfoldable pub endOf : Problem → State → End
+endOf P s = elim (noneEmpty P s) [ false ↦ Impossible | true ↦ elim (any (P .n) (s .active)) [ true ↦ Rest | false ↦ Solved ] ]
