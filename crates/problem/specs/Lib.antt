@@ -4,3 +4,4 @@ pub mod Manual
 pub mod Extend
 pub mod Masks
 pub mod Solutions
+pub mod Held

@@ -37,20 +37,20 @@ start P = pruneTimes (suc (liveCount P (full P))) P (full P)
 unfoldable pub call : Problem → State → ℕ → Call
 call P s i =
     elim (fits P s) [
-      false ↦ Misfit
-    | true ↦
-      elim (ltb i (P .n) && s .active i) [
-        false ↦ NotActive
+      | false ↦ Misfit
       | true ↦
-        elim (noneEmpty P s) [
-          false ↦ Emptied
-        | true ↦
-          elim (anyLive P s i (λ v. snake P s i v)) [
-            false ↦ NoSnake
-          | true ↦ Eliminated (lowestLive P s i (λ v. snake P s i v))
+          elim (ltb i (P .n) && s .active i) [
+            | false ↦ NotActive
+            | true ↦
+                elim (noneEmpty P s) [
+                  | false ↦ Emptied
+                  | true ↦
+                      elim (anyLive P s i (λ v. snake P s i v)) [
+                        | false ↦ NoSnake
+                        | true ↦ Eliminated (lowestLive P s i (λ v. snake P s i v))
+                      ]
+                ]
           ]
-        ]
-      ]
     ]
 
 -- the state that a call answers: "a refused hand call answers the state it was given"
