@@ -1,0 +1,12 @@
+pub mod Reflect
+pub mod Published
+pub mod Sound
+pub mod Count
+pub mod Trace
+pub mod Run
+pub mod Start
+pub mod Order
+pub mod Bridge
+pub mod Same
+pub mod HeldTable
+pub mod Solvable

@@ -1,0 +1,21 @@
+-- A state with fewer values has a smaller count, and the full state counts every value. Assumes nothing.
+use mathlib.Core.Path.{_≡_, refl}
+use Prim.Native.Nat.{ℕ, _<_, _≤_}
+use mathlib.Core.Bool.{_&&_}
+use lib.Dec.{T, ltb}
+use Rattle.bounded.specs.Bounded.{sumTo, count}
+use Rattle.bounded.proofs.Truth.{and-iff, ltb-iff}
+use Rattle.bounded.proofs.Bounded.{sum-lt, sum-ext, count-le, count-lt, count-all}
+use Rattle.problem.specs.Problem.{Problem, State, full, liveCount, sizeSum}
+use Rattle.problem.proofs.Reflect.{Live}
+
+pub count-falls : (P : Problem) (s r : State) → ((i a : ℕ) → Live r i a → Live s i a) → (i a : ℕ) → i < P .n → a < P .size i → Live s i a → (Live r i a → ⊥) → liveCount P r < liveCount P s
+unfolding liveCount
+count-falls P s r f i a hi ha o x =
+    sum-lt (P .n) _ _ (λ k l. count-le (P .size k) (r .live k) (s .live k) (λ c m. f k c)) i hi
+    (count-lt (P .size i) (r .live i) (s .live i) (λ c m. f i c) a ha x o)
+
+pub full-count : (P : Problem) → liveCount P (full P) ≡ sizeSum P
+unfolding liveCount sizeSum full
+full-count P =
+    sum-ext (P .n) _ _ (λ i l. count-all (P .size i) (λ a. ltb i (P .n) && ltb a (P .size i)) (λ a m. and-iff (ltb i (P .n)) (ltb a (P .size i)) .1 (ltb-iff i (P .n) .1 l, ltb-iff a (P .size i) .1 m)))

@@ -1,0 +1,233 @@
+-- What each test of specs/Problem.antt says, as a proposition, in a state that fits. Assumes nothing.
+use mathlib.Core.Path.{_≡_, refl, sym, subst}
+use mathlib.Core.Bool.{Bool, true, false, not, _&&_}
+use mathlib.Core.Logic.{_⊎_, inl, inr, _≢_, _↔_, Iff·rfl}
+use Prim.Native.Nat.{ℕ, _<_}
+use lib.Dec.{T, eqb, ltb}
+use Rattle.bounded.specs.Bounded.{imp, all, any, lowest}
+use Rattle.bounded.proofs.Truth.{T-dec, T-true, T-ext, and-iff, imp-iff, imp-fails, not-iff, eqb-iff, ltb-iff}
+use Rattle.bounded.proofs.Bounded.{all-iff, any-iff, all-or, lowest-is}
+use Rattle.problem.specs.Problem.{Problem, State, full, maxVariables, maxValues, allActive, allLive, anyLive, lowestLive, allOther, allThird, fits, noneEmpty, substitutes, unsupported, snakeServes, snake, triangleServes, triangle, neighbourhood, slideServes, snakeSubstitution, remove, eliminate}
+use Rattle.problem.specs.Manual.{supported, arcConsistent, finished, pairLeft}
+
+abbrev pub Active : State → ℕ → Type 0
+Active s i = T (s .active i)
+
+abbrev pub Live : State → ℕ → ℕ → Type 0
+Live s i a = T (s .live i a)
+
+abbrev pub Allowed : Problem → ℕ → ℕ → ℕ → ℕ → Type 0
+Allowed P i a j b = T (P .allowed i a j b)
+
+pub turn : (P : Problem) (i a j b : ℕ) → Allowed P i a j b → Allowed P j b i a
+turn P i a j b t = subst T (P .symmetric i a j b) t
+
+-- the state fits the problem: no cause of 11 speaks against it, at any number
+pub record Fits (P : Problem) (s : State) : Type 0 where
+  pub active-lt : (i : ℕ) → Active s i → i < P .n
+  pub live-active : (i a : ℕ) → Live s i a → Active s i
+  pub live-lt : (i a : ℕ) → Live s i a → a < P .size i
+
+pub full-fits : (P : Problem) → Fits P (full P)
+unfolding full
+full-fits P =
+    record {
+      active-lt = λ i h. ltb-iff i (P .n) .0 h;
+      live-active = λ i a o. (simp and-iff at o) .0;
+      live-lt = λ i a o. ltb-iff a (P .size i) .0 ((simp and-iff at o) .1);
+    }
+
+-- what the test of cause 11 says, at the numbers that a state can name
+pub fits-says : (P : Problem) (s : State) → T (fits P s) ↔ (((i : ℕ) → i < maxVariables → Active s i → i < P .n) × ((i : ℕ) → i < maxVariables → (a : ℕ) → a < maxValues → Live s i a → Active s i × (a < P .size i)))
+unfolding fits
+fits-says P s = simp (and-iff, all-iff, imp-iff, ltb-iff) Iff·rfl
+
+pub fits-test : {P : Problem} {s : State} → Fits P s → T (fits P s)
+fits-test {P} {s} F = fits-says P s .1 (λ i l h. F .active-lt i h, λ i l a m o. (F .live-active i a o, F .live-lt i a o))
+
+-- ---- quantifiers
+
+module _ {P : Problem} {s : State} (F : Fits P s) where
+  pub allLive-iff : (l : ℕ) (f : ℕ → Bool) → T (allLive P s l f) ↔ ((c : ℕ) → Live s l c → T (f c))
+  unfolding allLive
+  allLive-iff l f = (λ t c o. (simp (all-iff, imp-iff) at t) c (F .live-lt l c o) o, λ h. simp (all-iff, imp-iff) (λ c lt o. h c o))
+
+  pub anyLive-iff : (l : ℕ) (f : ℕ → Bool) → T (anyLive P s l f) ↔ ((c : ℕ) × Live s l c × T (f c))
+  unfolding anyLive
+  anyLive-iff l f = (
+    λ t. let h = simp (any-iff, and-iff) at t in (h .0, h .2 .0, h .2 .1),
+    λ h. simp (any-iff, and-iff) (h .0, F .live-lt l (h .0) (h .1), (h .1, h .2)),
+  )
+
+  pub allActive-iff : (f : ℕ → Bool) → T (allActive P s f) ↔ ((l : ℕ) → Active s l → T (f l))
+  unfolding allActive
+  allActive-iff f = (λ t l o. (simp (all-iff, imp-iff) at t) l (F .active-lt l o) o, λ h. simp (all-iff, imp-iff) (λ l lt o. h l o))
+
+  pub allOther-iff : (i : ℕ) (f : ℕ → Bool) → T (allOther P s i f) ↔ ((l : ℕ) → Active s l → l ≢ i → T (f l))
+  unfolding allOther
+  allOther-iff i f = simp (allActive-iff, imp-iff, not-iff, eqb-iff) Iff·rfl
+
+  pub allThird-iff : (i j : ℕ) (f : ℕ → Bool) → T (allThird P s i j f) ↔ ((l : ℕ) → Active s l → l ≢ i → l ≢ j → T (f l))
+  unfolding allThird
+  allThird-iff i j f = simp (allActive-iff, imp-iff, not-iff, eqb-iff) Iff·rfl
+
+  -- where some value in the domain passes, the lowest is in the domain and passes
+  pub lowestLive-is : (l : ℕ) (f : ℕ → Bool) → ((c : ℕ) × Live s l c × T (f c)) → Live s l (lowestLive P s l f) × T (f (lowestLive P s l f))
+  unfolding lowestLive
+  lowestLive-is l f x = (simp and-iff at (lowest-is (P .size l) (λ c. s .live l c && f c) (x .0, F .live-lt l (x .0) (x .1), simp and-iff (x .1, x .2)))) .1
+
+-- all pass, or one that fails is found
+pub allLive-or : (P : Problem) (s : State) (l : ℕ) (f : ℕ → Bool) → T (allLive P s l f) ⊎ ((c : ℕ) × Live s l c × (T (f c) → ⊥))
+unfolding allLive
+allLive-or P s l f = elim (all-or (P .size l) (λ c. imp (s .live l c) (f c))) [ inl t ↦ inl t | inr x ↦ inr (let y = imp-fails (s .live l (x .0)) (f (x .0)) (x .2) in (x .0, y .0, y .1)) ]
+
+pub allActive-or : (P : Problem) (s : State) (f : ℕ → Bool) → T (allActive P s f) ⊎ ((l : ℕ) × Active s l × (T (f l) → ⊥))
+unfolding allActive
+allActive-or P s f = elim (all-or (P .n) (λ l. imp (s .active l) (f l))) [ inl t ↦ inl t | inr x ↦ inr (let y = imp-fails (s .active (x .0)) (f (x .0)) (x .2) in (x .0, y .0, y .1)) ]
+
+-- ---- the rules, as propositions, and their tests
+
+module _ (P : Problem) (s : State) where
+  abbrev pub Substitutes : (i a j b l : ℕ) → Type 0
+  Substitutes i a j b l = (c : ℕ) → Live s l c → Allowed P j b l c → Allowed P i a l c
+
+  abbrev pub Unsupported : (i b k : ℕ) → Type 0
+  Unsupported i b k = Live s i b × Active s k × (k ≢ i) × ((c : ℕ) → Live s k c → Allowed P i b k c → ⊥)
+
+  abbrev pub SnakeServes : (i v j w w' : ℕ) → Type 0
+  SnakeServes i v j w w' = Allowed P i v j w' × ((l : ℕ) → Active s l → l ≢ i → l ≢ j → Substitutes j w' j w l)
+
+  abbrev pub Snake : (i v : ℕ) → Type 0
+  Snake i v = Live s i v × ((j : ℕ) → Active s j → j ≢ i → (w : ℕ) → Live s j w → (Allowed P i v j w → ⊥) → (w' : ℕ) × Live s j w' × SnakeServes i v j w w')
+
+  abbrev pub TriangleServes : (i j v u : ℕ) → Type 0
+  TriangleServes i j v u = Allowed P i u j v × ((l : ℕ) → Active s l → l ≢ i → l ≢ j → Substitutes i u j v l)
+
+  abbrev pub Triangle : (i j : ℕ) → Type 0
+  Triangle i j = Active s i × (Active s j × (j ≢ i × ((v : ℕ) → Live s j v → (u : ℕ) × Live s i u × TriangleServes i j v u)))
+
+  abbrev pub Neighbourhood : (i b a : ℕ) → Type 0
+  Neighbourhood i b a = Live s i b × (Live s i a × (a ≢ b × ((l : ℕ) → Active s l → l ≢ i → Substitutes i a i b l)))
+
+  abbrev pub SlideServes : (spare : Bool) (i a k d e : ℕ) → Type 0
+  SlideServes spare i a k d e = Allowed P i a k e × ((l : ℕ) → Active s l → l ≢ k → ((T spare × l ≡ i) → ⊥) → Substitutes k e k d l)
+
+  abbrev pub SnakeSubstitution : (spare : Bool) (i b a : ℕ) → Type 0
+  SnakeSubstitution spare i b a =
+      Live s i b × (Live s i a × (a ≢ b × ((k : ℕ) → Active s k → k ≢ i → (d : ℕ) → Live s k d → Allowed P i b k d → (e : ℕ) × Live s k e × SlideServes spare i a k d e)))
+
+  -- every value in a domain has a support at each other active variable
+  abbrev pub Supported : ℕ → ℕ → Type 0
+  Supported i a = (j : ℕ) → Active s j → j ≢ i → (b : ℕ) × Live s j b × Allowed P i a j b
+
+  abbrev pub ArcConsistent : Type 0
+  ArcConsistent = (i a : ℕ) → Live s i a → Supported i a
+
+  -- the snake rule holds for no active variable
+  abbrev pub Finished : Type 0
+  Finished = (i : ℕ) → Active s i → (v : ℕ) → Snake i v → ⊥
+
+  -- every active variable has a value
+  abbrev pub NoneEmpty : Type 0
+  NoneEmpty = (i : ℕ) → Active s i → (a : ℕ) × Live s i a
+
+module _ {P : Problem} {s : State} (F : Fits P s) where
+  pub substitutes-iff : (i a j b l : ℕ) → T (substitutes P s i a j b l) ↔ Substitutes P s i a j b l
+  unfolding substitutes
+  substitutes-iff i a j b l = simp (allLive-iff F, imp-iff) Iff·rfl
+
+  pub unsupported-iff : (i b k : ℕ) → T (unsupported P s i b k) ↔ Unsupported P s i b k
+  unfolding unsupported
+  unsupported-iff i b k = (
+    λ t. let h = simp (and-iff, allLive-iff F, not-iff, eqb-iff) at t in (h .0, h .1 .0, h .1 .1 .0, h .1 .1 .1),
+    λ h. simp (and-iff, allLive-iff F, not-iff, eqb-iff) (h .0, (h .1, (h .2, h .3))),
+  )
+
+  pub snakeServes-iff : (i v j w w' : ℕ) → T (snakeServes P s i v j w w') ↔ SnakeServes P s i v j w w'
+  unfolding snakeServes
+  snakeServes-iff i v j w w' = simp (and-iff, allThird-iff F, substitutes-iff) Iff·rfl
+
+  pub snake-iff : (i v : ℕ) → T (snake P s i v) ↔ Snake P s i v
+  unfolding snake
+  snake-iff i v = simp (and-iff, allOther-iff F, allLive-iff F, anyLive-iff F, imp-iff, not-iff, snakeServes-iff) Iff·rfl
+
+  pub triangleServes-iff : (i j v u : ℕ) → T (triangleServes P s i j v u) ↔ TriangleServes P s i j v u
+  unfolding triangleServes
+  triangleServes-iff i j v u = simp (and-iff, allThird-iff F, substitutes-iff) Iff·rfl
+
+  pub triangle-iff : (i j : ℕ) → T (triangle P s i j) ↔ Triangle P s i j
+  unfolding triangle
+  triangle-iff i j = simp (and-iff, allLive-iff F, anyLive-iff F, not-iff, eqb-iff, triangleServes-iff) Iff·rfl
+
+  pub neighbourhood-iff : (i b a : ℕ) → T (neighbourhood P s i b a) ↔ Neighbourhood P s i b a
+  unfolding neighbourhood
+  neighbourhood-iff i b a = simp (and-iff, allOther-iff F, not-iff, eqb-iff, substitutes-iff) Iff·rfl
+
+  pub slideServes-iff : (spare : Bool) (i a k d e : ℕ) → T (slideServes P s spare i a k d e) ↔ SlideServes P s spare i a k d e
+  unfolding slideServes
+  slideServes-iff spare i a k d e = simp (and-iff, allOther-iff F, imp-iff, not-iff, eqb-iff, substitutes-iff) Iff·rfl
+
+  pub snakeSubstitution-iff : (spare : Bool) (i b a : ℕ) → T (snakeSubstitution P s spare i b a) ↔ SnakeSubstitution P s spare i b a
+  unfolding snakeSubstitution
+  snakeSubstitution-iff spare i b a = simp (and-iff, allOther-iff F, allLive-iff F, anyLive-iff F, imp-iff, not-iff, eqb-iff, slideServes-iff) Iff·rfl
+
+  pub supported-iff : (i a : ℕ) → T (supported P s i a) ↔ Supported P s i a
+  unfolding supported
+  supported-iff i a = simp (allOther-iff F, anyLive-iff F) Iff·rfl
+
+  pub arcConsistent-iff : T (arcConsistent P s) ↔ ArcConsistent P s
+  unfolding arcConsistent
+  arcConsistent-iff = (
+    λ t i a o. (simp (allActive-iff F, allLive-iff F, supported-iff) at t) i (F .live-active i a o) a o,
+    λ C. simp (allActive-iff F, allLive-iff F, supported-iff) (λ i h a o. C i a o),
+  )
+
+  pub finished-iff : T (finished P s) ↔ Finished P s
+  unfolding finished
+  finished-iff = (
+    λ t i h v N. (simp (allActive-iff F, not-iff, anyLive-iff F, snake-iff) at t) i h (v, N .0, N),
+    λ f. simp (allActive-iff F, not-iff, anyLive-iff F, snake-iff) (λ i h x. f i h (x .0) (x .2)),
+  )
+
+  pub noneEmpty-iff : T (noneEmpty P s) ↔ NoneEmpty P s
+  unfolding noneEmpty
+  noneEmpty-iff = (
+    λ t i h. let x = (simp (allActive-iff F, anyLive-iff F) at t) i h in (x .0, x .1),
+    λ f. simp (allActive-iff F, anyLive-iff F) (λ i h. (f i h .0, f i h .1, tt)),
+  )
+
+-- ---- the steps
+
+module _ (P : Problem) (s : State) where
+  pub remove-live : (i b j w : ℕ) → Live (remove P s i b) j w ↔ (Live s j w × ((j ≡ i × w ≡ b) → ⊥))
+  unfolding remove
+  remove-live i b j w = simp (and-iff, not-iff, eqb-iff) Iff·rfl
+
+  pub remove-active : (i b j : ℕ) → Active (remove P s i b) j ↔ Active s j
+  unfolding remove
+  remove-active i b j = Iff·rfl
+
+  pub eliminate-active : (i j : ℕ) → Active (eliminate P s i) j ↔ (Active s j × j ≢ i)
+  unfolding eliminate
+  eliminate-active i j = simp (and-iff, not-iff, eqb-iff) Iff·rfl
+
+  pub eliminate-live : Fits P s → (i j w : ℕ) → Live (eliminate P s i) j w ↔ (Live s j w × (j ≢ i × ((c : ℕ) × Live s i c × Allowed P j w i c)))
+  unfolding eliminate
+  eliminate-live F i j w = simp (and-iff, not-iff, eqb-iff, anyLive-iff F) Iff·rfl
+
+  pub remove-fits : Fits P s → (i b : ℕ) → Fits P (remove P s i b)
+  unfolding remove
+  remove-fits F i b =
+      record {
+        active-lt = F .active-lt;
+        live-active = λ j w o. F .live-active j w (remove-live i b j w .0 o .0);
+        live-lt = λ j w o. F .live-lt j w (remove-live i b j w .0 o .0);
+      }
+
+  pub eliminate-fits : Fits P s → (i : ℕ) → Fits P (eliminate P s i)
+  eliminate-fits F i =
+      record {
+        active-lt = λ j h. F .active-lt j (eliminate-active i j .0 h .0);
+        live-active = λ j w o. let x = eliminate-live F i j w .0 o in eliminate-active i j .1 (F .live-active j w (x .0), x .1 .0);
+        live-lt = λ j w o. F .live-lt j w (eliminate-live F i j w .0 o .0);
+      }

@@ -1,0 +1,234 @@
+-- The search for the next step is complete, kind by kind; the run's records are lawful and it goes on until no rule holds. Assumes nothing.
+use mathlib.Core.Path.{_≡_, refl, sym, ap, subst, _∙_}
+use mathlib.Core.Bool.{Bool, true, false, _&&_}
+use mathlib.Core.List.{List, [], _∷_}
+use mathlib.Core.Logic.{_≢_, _↔_, _⊎_, inl, inr}
+use Prim.Native.Nat.{ℕ, zero, suc, _+_, _≤_, _<_}
+use native.Mathlib.Nat.{not-suc-le-zero, le-of-suc-le-suc}
+use native.Mathlib.Omega.{arith}
+use lib.Dec.{T}
+use lib.ListN.{length}
+use Rattle.bounded.specs.Bounded.{any}
+use Rattle.bounded.proofs.Truth.{T-of, T-true, T-false, T-not, T-dec, clash}
+use Rattle.bounded.proofs.Bounded.{any-iff}
+use Rattle.problem.specs.Problem.{Problem, State, full, noneEmpty, unsupported, snake, triangle, neighbourhood, snakeSubstitution, slideSpares, liveCount, sizeSum}
+use Rattle.problem.specs.Reduce.{holds, lawful, after, lawfulTrace, afterTrace, when, first, nextUnsupported, nextSnake, nextTriangle, nextNeighbourhood, nextSnakeSubstitution, nextOfKind, next, runFrom, run, endOf}
+use Rattle.problem.specs.declared.Record.{Record}
+use Rattle.problem.specs.declared.Record.the-variants.{Unsupported, Snake, Triangle, Neighbourhood, SnakeSubstitution}
+use Rattle.problem.specs.declared.Next.{Next}
+use Rattle.problem.specs.declared.Next.the-variants.{Step, Nothing}
+use Rattle.problem.specs.declared.End.{End}
+use Rattle.problem.specs.declared.End.the-variants.{Impossible, Solved, Rest}
+use Rattle.problem.proofs.Reflect.{Active, Live, Fits, full-fits, noneEmpty-iff, unsupported-iff, snake-iff, triangle-iff, neighbourhood-iff, snakeSubstitution-iff}
+use Rattle.problem.proofs.Trace.{after-fits, trace-fits, step-falls, lawful-iff, trace-iff, trace-short}
+
+-- ---- searching
+
+never : {r : Record} → Nothing ≡ Step r → ⊥
+never e = let z : _≡_ {A = ℕ} 0 1 = cc in omega arith
+
+never-step : {r : Record} → Step r ≡ Nothing → ⊥
+never-step e = let z : _≡_ {A = ℕ} 0 1 = cc in omega arith
+
+same-step : {r x : Record} → Step r ≡ Step x → r ≡ x
+same-step e = cc
+
+-- what is found is found somewhere, so what holds of every step found holds of it
+first-found : (Q : Record → Type 0) (n : ℕ) (f : ℕ → Next) → ((k : ℕ) (r : Record) → f k ≡ Step r → Q r) → (r : Record) → first n f ≡ Step r → Q r
+unfolding first
+first-found Q zero f h r e = absurd (never e)
+first-found Q (suc n) f h r e = go (f zero) refl e (first-found Q n (λ k. f (suc k)) (λ k. h (suc k)) r)
+  where
+    go : (x : Next) → f zero ≡ x → (elim x as (λ y. Next) [ Step r ↦ Step r | Nothing ↦ first n (λ k. f (suc k)) ]) ≡ Step r → (first n (λ k. f (suc k)) ≡ Step r → Q r) → Q r
+    go Nothing p e ih = ih e
+    go (Step x) p e ih = h zero r (p ∙ e)
+
+when-found : (Q : Record → Type 0) (b : Bool) (r : Record) → (T b → Q r) → (x : Record) → when b r ≡ Step x → Q x
+unfolding when
+when-found Q true r h x e = subst Q (same-step e) (h tt)
+when-found Q false r h x e = absurd (never e)
+
+-- where none is found there is none anywhere
+first-none : (n : ℕ) (f : ℕ → Next) → first n f ≡ Nothing → (k : ℕ) → k < n → f k ≡ Nothing
+unfolding first
+first-none zero f e k h = absurd (not-suc-le-zero h)
+first-none (suc n) f e k h = go (f zero) refl e k h (first-none n (λ k. f (suc k)))
+  where
+    go : (x : Next) → f zero ≡ x → _≡_ {A = Next} (elim x as (λ y. Next) [ Step r ↦ Step r | Nothing ↦ first n (λ k. f (suc k)) ]) Nothing → (k : ℕ) → k < suc n → (first n (λ k. f (suc k)) ≡ Nothing → (k : ℕ) → k < n → f (suc k) ≡ Nothing) → f k ≡ Nothing
+    go Nothing p e zero h ih = p
+    go Nothing p e (suc k) h ih = ih e k (le-of-suc-le-suc h)
+    go (Step x) p e k h ih = absurd (never-step e)
+
+when-none : (b : Bool) (r : Record) → when b r ≡ Nothing → T b → ⊥
+unfolding when
+when-none true r e t = never-step e
+when-none false r e t = t
+
+module _ (P : Problem) (s : State) where
+  -- the rule of a record holds
+  abbrev Holds : Record → Type 0
+  Holds r = T (holds P s r)
+
+  -- ---- each kind: a step that is found holds; where none is found none holds, whatever its fields
+
+  unsupported-found : (r : Record) → nextUnsupported P s ≡ Step r → Holds r
+  unfolding nextUnsupported holds
+  unsupported-found = first-found Holds _ _ (λ i. first-found Holds _ _ (λ b. first-found Holds _ _ (λ k. when-found Holds (unsupported P s i b k) (Unsupported i b k) (λ t. t))))
+
+  unsupported-complete : Fits P s → nextUnsupported P s ≡ Nothing → (i b k : ℕ) → T (unsupported P s i b k) → ⊥
+  unfolding nextUnsupported
+  unsupported-complete F e i b k h =
+      let x = unsupported-iff F i b k .0 h in
+      when-none (unsupported P s i b k) (Unsupported i b k)
+      (first-none _ _ (first-none _ _ (first-none _ _ e i (F .active-lt i (F .live-active i b (x .0)))) b (F .live-lt i b (x .0))) k (F .active-lt k (x .1))) h
+
+  snake-found : (r : Record) → nextSnake P s ≡ Step r → Holds r
+  unfolding nextSnake holds
+  snake-found = first-found Holds _ _ (λ i. first-found Holds _ _ (λ v. when-found Holds (snake P s i v) (Snake i v) (λ t. t)))
+
+  snake-complete : Fits P s → nextSnake P s ≡ Nothing → (i v : ℕ) → T (snake P s i v) → ⊥
+  unfolding nextSnake
+  snake-complete F e i v h =
+      let x = snake-iff F i v .0 h in
+      when-none (snake P s i v) (Snake i v) (first-none _ _ (first-none _ _ e i (F .active-lt i (F .live-active i v (x .0)))) v (F .live-lt i v (x .0))) h
+
+  triangle-found : (r : Record) → nextTriangle P s ≡ Step r → Holds r
+  unfolding nextTriangle holds
+  triangle-found = first-found Holds _ _ (λ i. first-found Holds _ _ (λ j. when-found Holds (triangle P s i j) (Triangle i j) (λ t. t)))
+
+  triangle-complete : Fits P s → nextTriangle P s ≡ Nothing → (i j : ℕ) → T (triangle P s i j) → ⊥
+  unfolding nextTriangle
+  triangle-complete F e i j h =
+      let x = triangle-iff F i j .0 h in
+      when-none (triangle P s i j) (Triangle i j) (first-none _ _ (first-none _ _ e i (F .active-lt i (x .0))) j (F .active-lt j (x .1 .0))) h
+
+  neighbourhood-found : (r : Record) → nextNeighbourhood P s ≡ Step r → Holds r
+  unfolding nextNeighbourhood holds
+  neighbourhood-found = first-found Holds _ _ (λ i. first-found Holds _ _ (λ b. first-found Holds _ _ (λ a. when-found Holds (neighbourhood P s i b a) (Neighbourhood i b a) (λ t. t))))
+
+  neighbourhood-complete : Fits P s → nextNeighbourhood P s ≡ Nothing → (i b a : ℕ) → T (neighbourhood P s i b a) → ⊥
+  unfolding nextNeighbourhood
+  neighbourhood-complete F e i b a h =
+      let x = neighbourhood-iff F i b a .0 h in
+      when-none (neighbourhood P s i b a) (Neighbourhood i b a)
+      (first-none _ _ (first-none _ _ (first-none _ _ e i (F .active-lt i (F .live-active i b (x .0)))) b (F .live-lt i b (x .0))) a (F .live-lt i a (x .1 .0))) h
+
+  slide-found : (r : Record) → nextSnakeSubstitution P s ≡ Step r → Holds r
+  unfolding nextSnakeSubstitution holds
+  slide-found = first-found Holds _ _ (λ i. first-found Holds _ _ (λ b. first-found Holds _ _ (λ a. when-found Holds (snakeSubstitution P s slideSpares i b a) (SnakeSubstitution i b a) (λ t. t))))
+
+  slide-complete : Fits P s → nextSnakeSubstitution P s ≡ Nothing → (i b a : ℕ) → T (snakeSubstitution P s slideSpares i b a) → ⊥
+  unfolding nextSnakeSubstitution
+  slide-complete F e i b a h =
+      let x = snakeSubstitution-iff F slideSpares i b a .0 h in
+      when-none (snakeSubstitution P s slideSpares i b a) (SnakeSubstitution i b a)
+      (first-none _ _ (first-none _ _ (first-none _ _ e i (F .active-lt i (F .live-active i b (x .0)))) b (F .live-lt i b (x .0))) a (F .live-lt i a (x .1 .0))) h
+
+  -- ---- the kinds joined
+
+  kind-found : (k : ℕ) (r : Record) → nextOfKind P s k ≡ Step r → Holds r
+  unfolding nextOfKind
+  kind-found zero r e = absurd (never e)
+  kind-found (suc zero) r e = unsupported-found r e
+  kind-found (suc (suc zero)) r e = snake-found r e
+  kind-found (suc (suc (suc zero))) r e = triangle-found r e
+  kind-found (suc (suc (suc (suc zero)))) r e = neighbourhood-found r e
+  kind-found (suc (suc (suc (suc (suc k))))) r e = slide-found r e
+
+  -- what `next` is, by whether some active variable is without a value
+  next-open : noneEmpty P s ≡ true → next P s ≡ first 6 (nextOfKind P s)
+  unfolding next
+  next-open e = rw (e, next)
+
+  next-shut : noneEmpty P s ≡ false → next P s ≡ Nothing
+  unfolding next
+  next-shut e = rw (e, next)
+
+  pub next-lawful : (r : Record) → next P s ≡ Step r → T (lawful P s r)
+  next-lawful r e = go (noneEmpty P s) refl
+    where
+      go : (b : Bool) → noneEmpty P s ≡ b → T (lawful P s r)
+      go true p = lawful-iff P s r .1 (T-of p, first-found Holds 6 (nextOfKind P s) kind-found r (sym (next-open p) ∙ e))
+      go false p = absurd (never (sym (next-shut p) ∙ e))
+
+  -- where no step is found, no record of any kind with any fields is lawful
+  pub next-complete : Fits P s → next P s ≡ Nothing → (r : Record) → T (lawful P s r) → ⊥
+  unfolding holds nextOfKind
+  next-complete F e r t = by-kind r (x .1)
+    where
+      x : T (noneEmpty P s) × T (holds P s r)
+      x = lawful-iff P s r .0 t
+
+      none : (k : ℕ) → k < 6 → nextOfKind P s k ≡ Nothing
+      none = first-none 6 (nextOfKind P s) (sym (next-open (T-true (noneEmpty P s) (x .0))) ∙ e)
+
+      by-kind : (r : Record) → T (holds P s r) → ⊥
+      by-kind (Unsupported i b k) h = unsupported-complete F (none 1 (omega arith)) i b k h
+      by-kind (Snake i v) h = snake-complete F (none 2 (omega arith)) i v h
+      by-kind (Triangle i j) h = triangle-complete F (none 3 (omega arith)) i j h
+      by-kind (Neighbourhood i b a) h = neighbourhood-complete F (none 4 (omega arith)) i b a h
+      by-kind (SnakeSubstitution i b a) h = slide-complete F (none 5 (omega arith)) i b a h
+
+-- ---- the run
+
+module _ (P : Problem) where
+  pub run-step : (f : ℕ) (s : State) (r : Record) → next P s ≡ Step r → runFrom (suc f) P s ≡ r ∷ runFrom f P (after P s r)
+  unfolding runFrom
+  run-step f s r e = rw (e, runFrom)
+
+  pub run-stop : (f : ℕ) (s : State) → next P s ≡ Nothing → runFrom f P s ≡ []
+  unfolding runFrom
+  run-stop zero s e = refl
+  run-stop (suc f) s e = rw (e, runFrom)
+
+  runFrom-lawful : (f : ℕ) (s : State) → T (lawfulTrace P s (runFrom f P s))
+  unfolding runFrom lawfulTrace
+  runFrom-lawful zero s = tt
+  runFrom-lawful (suc f) s = go (next P s) refl (λ q. runFrom-lawful f q)
+    where
+      go : (x : Next) → next P s ≡ x → ((q : State) → T (lawfulTrace P q (runFrom f P q))) → T (lawfulTrace P s (runFrom (suc f) P s))
+      go Nothing e ih = rw (run-stop (suc f) s e) tt
+      go (Step r) e ih = rw (run-step f s r e) (trace-iff P s r (runFrom f P (after P s r)) .1 (next-lawful P s r e, ih (after P s r)))
+
+  runFrom-ends : (f : ℕ) (s : State) → Fits P s → liveCount P s < f → next P (afterTrace P s (runFrom f P s)) ≡ Nothing
+  unfolding runFrom afterTrace
+  runFrom-ends zero s F h = absurd (not-suc-le-zero h)
+  runFrom-ends (suc f) s F h = go (next P s) refl (λ q. runFrom-ends f q)
+    where
+      go : (x : Next) → next P s ≡ x → ((q : State) → Fits P q → liveCount P q < f → next P (afterTrace P q (runFrom f P q)) ≡ Nothing) → next P (afterTrace P s (runFrom (suc f) P s)) ≡ Nothing
+      go Nothing e ih = rw (run-stop (suc f) s e) e
+      go (Step r) e ih = rw (run-step f s r e) (ih (after P s r) (after-fits P F r) (omega (arith, step-falls P F r (next-lawful P s r e))))
+
+  -- any number of steps that is large enough gives the same run
+  pub run-enough : (f g : ℕ) (s : State) → Fits P s → liveCount P s < f → liveCount P s < g → runFrom f P s ≡ runFrom g P s
+  run-enough zero g s F h k = absurd (not-suc-le-zero h)
+  run-enough (suc f) zero s F h k = absurd (not-suc-le-zero k)
+  run-enough (suc f) (suc g) s F h k = go (next P s) refl (λ q. run-enough f g q)
+    where
+      go : (x : Next) → next P s ≡ x → ((q : State) → Fits P q → liveCount P q < f → liveCount P q < g → runFrom f P q ≡ runFrom g P q) → runFrom (suc f) P s ≡ runFrom (suc g) P s
+      go Nothing e ih = run-stop (suc f) s e ∙ sym (run-stop (suc g) s e)
+      go (Step r) e ih =
+          let l = step-falls P F r (next-lawful P s r e) in
+          run-step f s r e ∙ ap (λ (t : List Record). r ∷ t) (ih (after P s r) (after-fits P F r) (omega arith) (omega arith)) ∙ sym (run-step g s r e)
+
+  -- every record of the run is lawful
+  pub run-lawful : (s : State) → T (lawfulTrace P s (run P s))
+  unfolding run
+  run-lawful s = runFrom-lawful (suc (liveCount P s)) s
+
+  -- the run stops only where no record of any kind with any fields is lawful
+  pub run-complete : {s : State} → Fits P s → (r : Record) → T (lawful P (afterTrace P s (run P s)) r) → ⊥
+  unfolding run
+  run-complete {s} F = next-complete P (afterTrace P s (run P s)) (trace-fits P F (run P s)) (runFrom-ends (suc (liveCount P s)) s F (omega arith))
+
+  -- "the steps are at most the sum of the sizes"
+  pub run-short : length (run P (full P)) ≤ sizeSum P
+  run-short = trace-short P (run P (full P)) (run-lawful (full P))
+
+  -- ---- the end, as document 01 has it
+
+  -- what each end says of a state
+  abbrev pub EndSays : State → End → Type 0
+  EndSays s Impossible = (i : ℕ) × Active s i × ((a : ℕ) → Live s i a → ⊥)
+  EndSays s Solved = (i : ℕ) → Active s i → ⊥
+  EndSays s Rest = ((i : ℕ) × Active s i) × ((i : ℕ) → Active s i → (a : ℕ) × Live s i a)

@@ -1,0 +1,115 @@
+-- What holds of every step, by kind and then of every record; and of every lawful trace, whoever wrote it. Assumes nothing.
+use mathlib.Core.Path.{_≡_, refl, sym, subst}
+use mathlib.Core.Bool.{Bool, true, false, _&&_}
+use mathlib.Core.List.{List, [], _∷_}
+use mathlib.Core.Logic.{_≢_, _↔_}
+use Prim.Native.Nat.{ℕ, zero, suc, _+_, _≤_, _<_}
+use native.Mathlib.Omega.{arith}
+use lib.Dec.{T}
+use lib.ListN.{length}
+use Rattle.bounded.proofs.Truth.{and-iff}
+use Rattle.problem.specs.Problem.{Problem, State, full, noneEmpty, slideSpares, remove, eliminate, liveCount, sizeSum}
+use Rattle.problem.specs.Reduce.{holds, lawful, after, lawfulTrace, afterTrace}
+use Rattle.problem.specs.Extend.{undo, undoTrace}
+use Rattle.problem.specs.declared.Record.{Record}
+use Rattle.problem.specs.declared.Record.the-variants.{Unsupported, Snake, Triangle, Neighbourhood, SnakeSubstitution}
+use Rattle.problem.proofs.Reflect.{Active, Live, Fits, full-fits, NoneEmpty, noneEmpty-iff, unsupported-iff, snake-iff, triangle-iff, neighbourhood-iff, snakeSubstitution-iff, remove-live, eliminate-live, remove-fits, eliminate-fits}
+use Rattle.problem.proofs.Sound.{Solution, Solvable, remove-undone, triangle-undone, snake-undone, unsupported-kept, eliminate-kept, neighbourhood-kept, slide-kept}
+use Rattle.problem.proofs.Count.{count-falls, full-count}
+
+module _ (P : Problem) where
+  -- ---- one record
+
+  pub after-fits : {s : State} → Fits P s → (r : Record) → Fits P (after P s r)
+  unfolding after
+  after-fits {s} F (Unsupported i b k) = remove-fits P s F i b
+  after-fits {s} F (Snake i v) = eliminate-fits P s F i
+  after-fits {s} F (Triangle i j) = eliminate-fits P s F i
+  after-fits {s} F (Neighbourhood i b a) = remove-fits P s F i b
+  after-fits {s} F (SnakeSubstitution i b a) = remove-fits P s F i b
+
+  -- a solution after, undone with the lowest choices, is a solution before
+  pub step-undone : {s : State} → Fits P s → (r : Record) → T (holds P s r) → (p : ℕ → ℕ) → Solution P (after P s r) p → Solution P s (undo P s r p)
+  unfolding after undo holds
+  step-undone F (Unsupported i b k) t p A = remove-undone F i b p A
+  step-undone F (Snake i v) t p A = snake-undone F i p A v (snake-iff F i v .0 t)
+  step-undone F (Triangle i j) t p A = triangle-undone F i p A j (triangle-iff F i j .0 t)
+  step-undone F (Neighbourhood i b a) t p A = remove-undone F i b p A
+  step-undone F (SnakeSubstitution i b a) t p A = remove-undone F i b p A
+
+  -- a solution before gives a solution after
+  pub step-kept : {s : State} → Fits P s → (r : Record) → T (holds P s r) → Solvable P s → Solvable P (after P s r)
+  unfolding after holds
+  step-kept F (Unsupported i b k) t x = (x .0, unsupported-kept F i b k (x .0) (unsupported-iff F i b k .0 t) (x .1))
+  step-kept F (Snake i v) t x = (x .0, eliminate-kept F i (x .0) (F .live-active i v (snake-iff F i v .0 t .0)) (x .1))
+  step-kept F (Triangle i j) t x = (x .0, eliminate-kept F i (x .0) (triangle-iff F i j .0 t .0) (x .1))
+  step-kept F (Neighbourhood i b a) t x = neighbourhood-kept F i b a (x .0) (neighbourhood-iff F i b a .0 t) (x .1)
+  step-kept F (SnakeSubstitution i b a) t x = slide-kept F slideSpares i b a (x .0) (snakeSubstitution-iff F slideSpares i b a .0 t) (x .1)
+
+  remove-falls : {s : State} → Fits P s → (i b : ℕ) → Live s i b → liveCount P (remove P s i b) < liveCount P s
+  remove-falls {s} F i b o =
+      count-falls P s (remove P s i b) (λ j w x. remove-live P s i b j w .0 x .0) i b (F .active-lt i (F .live-active i b o)) (F .live-lt i b o) o
+      (λ x. remove-live P s i b i b .0 x .1 (refl, refl))
+
+  eliminate-falls : {s : State} → Fits P s → (i a : ℕ) → Live s i a → liveCount P (eliminate P s i) < liveCount P s
+  eliminate-falls {s} F i a o =
+      count-falls P s (eliminate P s i) (λ j w x. eliminate-live P s F i j w .0 x .0) i a (F .active-lt i (F .live-active i a o)) (F .live-lt i a o) o
+      (λ x. eliminate-live P s F i i a .0 x .1 .0 refl)
+
+  -- "Each step uses up at least one setting that was on", where no item in is without one
+  holds-falls : {s : State} → Fits P s → NoneEmpty P s → (r : Record) → T (holds P s r) → liveCount P (after P s r) < liveCount P s
+  unfolding after holds
+  holds-falls F e (Unsupported i b k) t = remove-falls F i b (unsupported-iff F i b k .0 t .0)
+  holds-falls F e (Snake i v) t = eliminate-falls F i v (snake-iff F i v .0 t .0)
+  holds-falls F e (Triangle i j) t = let x = e i (triangle-iff F i j .0 t .0) in eliminate-falls F i (x .0) (x .1)
+  holds-falls F e (Neighbourhood i b a) t = remove-falls F i b (neighbourhood-iff F i b a .0 t .0)
+  holds-falls F e (SnakeSubstitution i b a) t = remove-falls F i b (snakeSubstitution-iff F slideSpares i b a .0 t .0)
+
+  pub lawful-iff : (s : State) (r : Record) → T (lawful P s r) ↔ (T (noneEmpty P s) × T (holds P s r))
+  unfolding lawful
+  lawful-iff s r = and-iff (noneEmpty P s) (holds P s r)
+
+  pub step-falls : {s : State} → Fits P s → (r : Record) → T (lawful P s r) → liveCount P (after P s r) < liveCount P s
+  step-falls {s} F r t = let x = lawful-iff s r .0 t in holds-falls F (noneEmpty-iff F .0 (x .0)) r (x .1)
+
+  -- ---- a trace
+
+  pub trace-iff : (s : State) (r : Record) (t : List Record) → T (lawfulTrace P s (r ∷ t)) ↔ (T (lawful P s r) × T (lawfulTrace P (after P s r) t))
+  unfolding lawfulTrace
+  trace-iff s r t = go (lawful P s r)
+    where
+      go : (b : Bool) → T (elim b as (λ x. Bool) [ true ↦ lawfulTrace P (after P s r) t | false ↦ false ]) ↔ (T b × T (lawfulTrace P (after P s r) t))
+      go true = (λ h. (tt, h), λ h. h .1)
+      go false = (λ h. absurd h, λ h. h .0)
+
+  pub trace-fits : {s : State} → Fits P s → (t : List Record) → Fits P (afterTrace P s t)
+  unfolding afterTrace
+  trace-fits F [] = F
+  trace-fits F (r ∷ t) = trace-fits (after-fits F r) t
+
+  pub trace-undone : {s : State} → Fits P s → (t : List Record) → T (lawfulTrace P s t) → (p : ℕ → ℕ) → Solution P (afterTrace P s t) p → Solution P s (undoTrace P s t p)
+  unfolding undoTrace afterTrace
+  trace-undone F [] h p A = A
+  trace-undone {s} F (r ∷ t) h p A =
+      let x = trace-iff s r t .0 h in
+      step-undone F r (lawful-iff s r .0 (x .0) .1) (undoTrace P (after P s r) t p) (trace-undone (after-fits F r) t (x .1) p A)
+
+  pub trace-kept : {s : State} → Fits P s → (t : List Record) → T (lawfulTrace P s t) → Solvable P s → Solvable P (afterTrace P s t)
+  unfolding afterTrace
+  trace-kept F [] h x = x
+  trace-kept {s} F (r ∷ t) h x = let y = trace-iff s r t .0 h in trace-kept (after-fits F r) t (y .1) (step-kept F r (lawful-iff s r .0 (y .0) .1) x)
+
+  -- what is left has a solution exactly when the state before the trace has one
+  pub trace-solvable : {s : State} → Fits P s → (t : List Record) → T (lawfulTrace P s t) → Solvable P (afterTrace P s t) ↔ Solvable P s
+  trace-solvable {s} F t h = (λ x. (undoTrace P s t (x .0), trace-undone F t h (x .0) (x .1)), trace-kept F t h)
+
+  pub trace-falls : {s : State} → Fits P s → (t : List Record) → T (lawfulTrace P s t) → length t + liveCount P (afterTrace P s t) ≤ liveCount P s
+  unfolding afterTrace
+  trace-falls F [] h = omega arith
+  trace-falls {s} F (r ∷ t) h =
+      let x = trace-iff s r t .0 h in
+      omega (arith, trace-falls (after-fits F r) t (x .1), step-falls F r (x .0))
+
+  -- a lawful trace of the whole problem has at most as many records as the problem lists values
+  pub trace-short : (t : List Record) → T (lawfulTrace P (full P) t) → length t ≤ sizeSum P
+  trace-short t h = omega (arith, trace-falls (full-fits P) t h, full-count P)
