@@ -199,3 +199,8 @@ count-all (suc n) f h =
     let e : one (f n) ≡ 1 = ap one (T-true (f n) (h n (omega arith))) in
     let i : sumTo n (λ k. one (f k)) ≡ n = count-all n f (λ k l. h k (omega arith)) in
     omega arith
+
+pub count-most : (n : ℕ) (f : ℕ → Bool) → count n f ≤ n
+unfolding count sumTo
+count-most zero f = le-refl 0
+count-most (suc n) f = let e : one (f n) ≤ 1 = one-le (f n) true (λ t. tt) in let i : sumTo n (λ k. one (f k)) ≤ n = count-most n f in omega arith

@@ -4,18 +4,19 @@ use mathlib.Core.Bool.{Bool, true, false, _&&_, not}
 use mathlib.Core.List.{List, [], _∷_}
 use mathlib.Core.Logic.{_≢_, _↔_, _⊎_, inl, inr}
 use Prim.Native.Nat.{ℕ, zero, suc, _+_, _≤_, _<_}
-use native.Mathlib.Nat.{not-suc-le-zero}
+use native.Mathlib.Nat.{not-suc-le-zero, lt-of-lt-of-le}
 use native.Mathlib.Omega.{arith}
 use lib.Dec.{T, ltb}
 use lib.ListN.{length}
-use Rattle.bounded.proofs.Truth.{T-ext, T-of, T-true, T-false, T-dec, eq-dec, and-iff, not-iff, ltb-iff}
-use Rattle.problem.specs.Problem.{Problem, State, full, fits, noneEmpty, allActive, anyLive, lowestLive, snake, eliminate, liveCount}
-use Rattle.problem.specs.Manual.{call, stateAfter, callState, callsState, finished, pairLeft, arcConsistent, start}
+use Rattle.bounded.specs.Bounded.{count}
+use Rattle.bounded.proofs.Truth.{T-ext, T-true, T-false, T-dec, eq-dec, and-iff, not-iff, ltb-iff}
+use Rattle.bounded.proofs.Bounded.{count-lt, count-most}
+use Rattle.problem.specs.Problem.{Problem, State, fits, noneEmpty, allActive, anyLive, lowestLive, snake, eliminate}
+use Rattle.problem.specs.Manual.{call, stateAfter, callState, callsState, finished, pairLeft, arcConsistent}
 use Rattle.problem.specs.declared.Call.{Call}
 use Rattle.problem.specs.declared.Call.the-variants.{Eliminated, Misfit, NotActive, Emptied, NoSnake}
-use Rattle.problem.proofs.Reflect.{Active, Live, Allowed, Fits, turn, fits-test, allActive-or, anyLive-iff, Snake, ArcConsistent, Finished, NoneEmpty, snake-iff, arcConsistent-iff, finished-iff, noneEmpty-iff, lowestLive-is, eliminate-active, eliminate-live, eliminate-fits}
+use Rattle.problem.proofs.Reflect.{Active, Live, Allowed, Fits, turn, fits-test, allActive-or, anyLive-iff, Snake, ArcConsistent, Finished, NoneEmpty, snake-iff, finished-iff, noneEmpty-iff, lowestLive-is, eliminate-active, eliminate-live, eliminate-fits}
 use Rattle.problem.proofs.Sound.{Solvable, snake-undone, eliminate-kept}
-use Rattle.problem.proofs.Trace.{step-falls}
 
 module _ (P : Problem) where
   -- ---- one call
@@ -253,8 +254,89 @@ module _ (P : Problem) where
       values : (callsState P s k) .live ≡ (callsState P s l) .live
       values = fun-ext λ j. fun-ext λ w. T-ext (same A B ab ba j w, same B A ba ab j w)
 
-  -- ---- a finished list exists
+  -- ---- a finished list exists, from a state in which every value has a support
 
-  -- an accepted call uses up a value, so that calls end; where some active variable is empty or the rule holds for none, no call is accepted
-  Ends : State → Type 0
-  Ends s = (l : List ℕ) × T (finished P (callsState P s l))
+  -- in such a state with none empty, eliminating a variable switches nothing off elsewhere
+  eliminate-consistent : {s : State} → Fits P s → ArcConsistent P s → (i : ℕ) → Active s i → ArcConsistent P (eliminate P s i)
+  eliminate-consistent {s} F C i hi j w o k hk d =
+      let x = eliminate-live P s F i j w .0 o in
+      let y = eliminate-active P s i k .0 hk in
+      let z = C j w (x .0) k (y .0) d in
+      (z .0, eliminate-live P s F i k (z .0) .1 (z .1, (y .1, C k (z .0) (z .1) i hi (λ e. y .1 (sym e)))), z .2)
+
+  eliminate-none-empty : {s : State} → Fits P s → ArcConsistent P s → NoneEmpty P s → (i : ℕ) → Active s i → NoneEmpty P (eliminate P s i)
+  eliminate-none-empty {s} F C e i hi j hj =
+      let y = eliminate-active P s i j .0 hj in
+      let x = e j (y .0) in
+      (x .0, eliminate-live P s F i j (x .0) .1 (x .1, (y .1, C j (x .0) (x .1) i hi (λ z. y .1 (sym z)))))
+
+  -- finished, or some variable can go
+  finished-or : {s : State} → Fits P s → T (finished P s) ⊎ ((i : ℕ) × Active s i × ((v : ℕ) × Snake P s i v))
+  unfolding finished
+  finished-or {s} F = go (allActive-or P s (λ i. not (anyLive P s i (λ v. snake P s i v))))
+    where
+      go : T (allActive P s (λ i. not (anyLive P s i (λ v. snake P s i v)))) ⊎ ((i : ℕ) × Active s i × (T (not (anyLive P s i (λ v. snake P s i v))) → ⊥)) → T (finished P s) ⊎ ((i : ℕ) × Active s i × ((v : ℕ) × Snake P s i v))
+      go (inl t) = inl t
+      go (inr x) = some (T-dec (anyLive P s (x .0) (λ v. snake P s (x .0) v)))
+        where
+          some : T (anyLive P s (x .0) (λ v. snake P s (x .0) v)) ⊎ (T (anyLive P s (x .0) (λ v. snake P s (x .0) v)) → ⊥) → T (finished P s) ⊎ ((i : ℕ) × Active s i × ((v : ℕ) × Snake P s i v))
+          some (inl t) = let y = anyLive-iff F (x .0) (λ v. snake P s (x .0) v) .0 t in inr (x .0, x .1, (y .0, snake-iff F (x .0) (y .0) .0 (y .2)))
+          some (inr n) = absurd (x .2 (not-iff (anyLive P s (x .0) (λ v. snake P s (x .0) v)) .1 n))
+
+  -- an accepted call eliminates the variable that it names
+  call-accepted : {s : State} → Fits P s → NoneEmpty P s → (i v : ℕ) → Active s i → Snake P s i v → callState P s i ≡ eliminate P s i
+  unfolding callState
+  call-accepted {s} F e i v h N = elim (call-cases F i) [ inl x ↦ ap (stateAfter P s i) (x .2 .2) | inr x ↦ absurd (x .1 v h e N) ]
+
+  active-falls : {s : State} → Fits P s → (i : ℕ) → Active s i → count (P .n) ((eliminate P s i) .active) < count (P .n) (s .active)
+  active-falls {s} F i h =
+      count-lt (P .n) ((eliminate P s i) .active) (s .active) (λ j l x. eliminate-active P s i j .0 x .0) i (F .active-lt i h) (λ x. eliminate-active P s i i .0 x .1 refl) h
+
+  -- at most f calls finish, where at most f variables are active
+  ends-within : (f : ℕ) {s : State} → Fits P s → ArcConsistent P s → NoneEmpty P s → count (P .n) (s .active) ≤ f → (l : List ℕ) × (length l ≤ f) × T (finished P (callsState P s l))
+  unfolding callsState
+  ends-within zero {s} F C e m =
+      elim (finished-or F) [ inl t ↦ ([], omega arith, t) | inr x ↦ absurd (not-suc-le-zero (lt-of-lt-of-le (active-falls F (x .0) (x .1)) m)) ]
+  ends-within (suc f) {s} F C e m = go (finished-or F) (λ i h. ends-within f (eliminate-fits P s F i) (eliminate-consistent F C i h) (eliminate-none-empty F C e i h) (lt-to-le (lt-of-lt-of-le (active-falls F i h) m)))
+    where
+      lt-to-le : {a b : ℕ} → a < suc b → a ≤ b
+      lt-to-le h = omega arith
+
+      go : T (finished P s) ⊎ ((i : ℕ) × Active s i × ((v : ℕ) × Snake P s i v)) → ((i : ℕ) → Active s i → (l : List ℕ) × (length l ≤ f) × T (finished P (callsState P (eliminate P s i) l))) → (l : List ℕ) × (length l ≤ suc f) × T (finished P (callsState P s l))
+      go (inl t) ih = ([], omega arith, t)
+      go (inr x) ih =
+          let y = ih (x .0) (x .1) in
+          (x .0 ∷ y .0, omega (arith, y .1), subst (λ (q : State). T (finished P (callsState P q (y .0)))) (sym (call-accepted F e (x .0) (x .2 .0) (x .1) (x .2 .1))) (y .2))
+
+  -- an empty variable makes every domain empty, so that the rule holds nowhere: the empty list is finished
+  pub finished-exists : {s : State} → Fits P s → ArcConsistent P s → (l : List ℕ) × (length l ≤ P .n) × T (finished P (callsState P s l))
+  unfolding callsState
+  finished-exists {s} F C = go (T-dec (noneEmpty P s))
+    where
+      go : T (noneEmpty P s) ⊎ (T (noneEmpty P s) → ⊥) → (l : List ℕ) × (length l ≤ P .n) × T (finished P (callsState P s l))
+      go (inl t) = let x = ends-within (P .n) F C (noneEmpty-iff F .0 t) (count-most (P .n) (s .active)) in x
+      go (inr n) = (
+        [], omega arith,
+        finished-iff F .1 (λ i h v N. n (noneEmpty-iff F .1 (λ j hj. elim (eq-dec j i) [ inl e ↦ (v, subst (λ (k : ℕ). Live s k v) (sym e) (N .0)) | inr d ↦ (let x = C i v (N .0) j hj d in (x .0, x .1)) ]))),
+      )
+
+-- ---- demand 3, over a problem: both sentences, as the demand asks them
+
+-- the items left, their settings, and the pairs allowed among them are alike
+pub record Alike (P : Problem) (s r : State) : Type 0 where
+  pub variables : (i : ℕ) → s .active i ≡ r .active i
+  pub values : (i a : ℕ) → s .live i a ≡ r .live i a
+  pub pairs : (i a j b : ℕ) → pairLeft P s i a j b ≡ pairLeft P r i a j b
+
+pub demand-three : (P : Problem) {s : State} → Fits P s → T (arcConsistent P s)
+    → ((k l : List ℕ) → T (finished P (callsState P s k)) → T (finished P (callsState P s l)) → Alike P (callsState P s k) (callsState P s l))
+    × ((k l : List ℕ) → T (finished P (callsState P s k)) → (i : ℕ) → Active (callsState P s k) i → Active (callsState P s l) i)
+demand-three P F C = (
+  λ k l fk fl. let e = one-end P F k l fk fl in
+  record {
+    variables = λ i. ap (λ (q : State). q .active i) e;
+    values = λ i a. ap (λ (q : State). q .live i a) e;
+    pairs = λ i a j b. ap (λ (q : State). pairLeft P q i a j b) e;
+  },
+  no-list-takes P F,
+)

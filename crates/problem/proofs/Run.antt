@@ -1,17 +1,17 @@
 -- The search for the next step is complete, kind by kind; the run's records are lawful and it goes on until no rule holds. Assumes nothing.
 use mathlib.Core.Path.{_≡_, refl, sym, ap, subst, _∙_}
-use mathlib.Core.Bool.{Bool, true, false, _&&_}
+use mathlib.Core.Bool.{Bool, true, false}
 use mathlib.Core.List.{List, [], _∷_}
-use mathlib.Core.Logic.{_≢_, _↔_, _⊎_, inl, inr}
+use mathlib.Core.Logic.{_⊎_, inl, inr}
 use Prim.Native.Nat.{ℕ, zero, suc, _+_, _≤_, _<_}
 use native.Mathlib.Nat.{not-suc-le-zero, le-of-suc-le-suc}
 use native.Mathlib.Omega.{arith}
 use lib.Dec.{T}
 use lib.ListN.{length}
 use Rattle.bounded.specs.Bounded.{any}
-use Rattle.bounded.proofs.Truth.{T-of, T-true, T-false, T-not, T-dec, clash}
+use Rattle.bounded.proofs.Truth.{T-of, T-true, T-not}
 use Rattle.bounded.proofs.Bounded.{any-iff}
-use Rattle.problem.specs.Problem.{Problem, State, full, noneEmpty, unsupported, snake, triangle, neighbourhood, snakeSubstitution, slideSpares, liveCount, sizeSum}
+use Rattle.problem.specs.Problem.{Problem, State, full, allActive, anyLive, noneEmpty, unsupported, snake, triangle, neighbourhood, snakeSubstitution, slideSpares, liveCount, sizeSum}
 use Rattle.problem.specs.Reduce.{holds, lawful, after, lawfulTrace, afterTrace, when, first, nextUnsupported, nextSnake, nextTriangle, nextNeighbourhood, nextSnakeSubstitution, nextOfKind, next, runFrom, run, endOf}
 use Rattle.problem.specs.declared.Record.{Record}
 use Rattle.problem.specs.declared.Record.the-variants.{Unsupported, Snake, Triangle, Neighbourhood, SnakeSubstitution}
@@ -19,7 +19,7 @@ use Rattle.problem.specs.declared.Next.{Next}
 use Rattle.problem.specs.declared.Next.the-variants.{Step, Nothing}
 use Rattle.problem.specs.declared.End.{End}
 use Rattle.problem.specs.declared.End.the-variants.{Impossible, Solved, Rest}
-use Rattle.problem.proofs.Reflect.{Active, Live, Fits, full-fits, noneEmpty-iff, unsupported-iff, snake-iff, triangle-iff, neighbourhood-iff, snakeSubstitution-iff}
+use Rattle.problem.proofs.Reflect.{Active, Live, Fits, full-fits, allActive-or, anyLive-iff, noneEmpty-iff, unsupported-iff, snake-iff, triangle-iff, neighbourhood-iff, snakeSubstitution-iff}
 use Rattle.problem.proofs.Trace.{after-fits, trace-fits, step-falls, lawful-iff, trace-iff, trace-short}
 
 -- ---- searching
@@ -225,10 +225,44 @@ module _ (P : Problem) where
   pub run-short : length (run P (full P)) ≤ sizeSum P
   run-short = trace-short P (run P (full P)) (run-lawful (full P))
 
-  -- ---- the end, as document 01 has it
+-- ---- the end, as document 01 has it
 
-  -- what each end says of a state
-  abbrev pub EndSays : State → End → Type 0
-  EndSays s Impossible = (i : ℕ) × Active s i × ((a : ℕ) → Live s i a → ⊥)
-  EndSays s Solved = (i : ℕ) → Active s i → ⊥
-  EndSays s Rest = ((i : ℕ) × Active s i) × ((i : ℕ) → Active s i → (a : ℕ) × Live s i a)
+-- what each end says of a state: "an item in has no setting on", "no item in", "items in"; and where it is not impossible each item in
+-- has a setting on
+abbrev pub EndSays : State → End → Type 0
+EndSays s Impossible = (i : ℕ) × Active s i × ((a : ℕ) → Live s i a → ⊥)
+EndSays s Solved = (i : ℕ) → Active s i → ⊥
+EndSays s Rest = ((i : ℕ) × Active s i) × ((i : ℕ) → Active s i → (a : ℕ) × Live s i a)
+
+module _ (P : Problem) {s : State} (F : Fits P s) where
+  end-impossible : noneEmpty P s ≡ false → endOf P s ≡ Impossible
+  unfolding endOf
+  end-impossible e = rw (e, endOf)
+
+  end-rest : noneEmpty P s ≡ true → any (P .n) (s .active) ≡ true → endOf P s ≡ Rest
+  unfolding endOf
+  end-rest e f = rw (e, f, endOf)
+
+  end-solved : noneEmpty P s ≡ true → any (P .n) (s .active) ≡ false → endOf P s ≡ Solved
+  unfolding endOf
+  end-solved e f = rw (e, f, endOf)
+
+  -- where a variable is without a value, one is found
+  emptied : (T (noneEmpty P s) → ⊥) → EndSays s Impossible
+  unfolding noneEmpty
+  emptied n = go (allActive-or P s (λ l. anyLive P s l (λ c. true)))
+    where
+      go : T (allActive P s (λ l. anyLive P s l (λ c. true))) ⊎ ((l : ℕ) × Active s l × (T (anyLive P s l (λ c. true)) → ⊥)) → EndSays s Impossible
+      go (inl t) = absurd (n t)
+      go (inr x) = (x .0, x .1, λ a o. x .2 (anyLive-iff F (x .0) (λ c. true) .1 (a, o, tt)))
+
+  pub end-says : EndSays s (endOf P s)
+  end-says = by-empty (noneEmpty P s) refl
+    where
+      by-active : noneEmpty P s ≡ true → (b : Bool) → any (P .n) (s .active) ≡ b → EndSays s (endOf P s)
+      by-active e true f = rw (end-rest e f) (let x = any-iff (P .n) (s .active) .0 (T-of f) in (x .0, x .2), noneEmpty-iff F .0 (T-of e))
+      by-active e false f = rw (end-solved e f) (λ i h. T-not f (any-iff (P .n) (s .active) .1 (i, F .active-lt i h, h)))
+
+      by-empty : (b : Bool) → noneEmpty P s ≡ b → EndSays s (endOf P s)
+      by-empty true e = by-active e (any (P .n) (s .active)) refl
+      by-empty false e = rw (end-impossible e) (emptied (T-not e))
