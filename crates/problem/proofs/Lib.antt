@@ -10,3 +10,4 @@ pub mod Bridge
 pub mod Same
 pub mod HeldTable
 pub mod Solvable
+pub mod Samples

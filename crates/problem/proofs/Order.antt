@@ -316,7 +316,8 @@ module _ (P : Problem) where
       go : T (noneEmpty P s) ⊎ (T (noneEmpty P s) → ⊥) → (l : List ℕ) × (length l ≤ P .n) × T (finished P (callsState P s l))
       go (inl t) = let x = ends-within (P .n) F C (noneEmpty-iff F .0 t) (count-most (P .n) (s .active)) in x
       go (inr n) = (
-        [], omega arith,
+        [],
+        omega arith,
         finished-iff F .1 (λ i h v N. n (noneEmpty-iff F .1 (λ j hj. elim (eq-dec j i) [ inl e ↦ (v, subst (λ (k : ℕ). Live s k v) (sym e) (N .0)) | inr d ↦ (let x = C i v (N .0) j hj d in (x .0, x .1)) ]))),
       )
 
@@ -333,10 +334,10 @@ pub demand-three : (P : Problem) {s : State} → Fits P s → T (arcConsistent P
     × ((k l : List ℕ) → T (finished P (callsState P s k)) → (i : ℕ) → Active (callsState P s k) i → Active (callsState P s l) i)
 demand-three P F C = (
   λ k l fk fl. let e = one-end P F k l fk fl in
-  record {
-    variables = λ i. ap (λ (q : State). q .active i) e;
-    values = λ i a. ap (λ (q : State). q .live i a) e;
-    pairs = λ i a j b. ap (λ (q : State). pairLeft P q i a j b) e;
-  },
+      record {
+        variables = λ i. ap (λ (q : State). q .active i) e;
+        values = λ i a. ap (λ (q : State). q .live i a) e;
+        pairs = λ i a j b. ap (λ (q : State). pairLeft P q i a j b) e;
+      },
   no-list-takes P F,
 )

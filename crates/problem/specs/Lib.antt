@@ -5,3 +5,4 @@ pub mod Extend
 pub mod Masks
 pub mod Solutions
 pub mod Held
+pub mod Samples

@@ -1,9 +1,11 @@
 -- Document 01, "State and the five rules": a problem, a state of it, the five rules, and what a step does.
 -- Every test reads the problem through `n`, `size` and `allowed` only.
-use mathlib.Core.Path.{_≡_}
+use mathlib.Core.Path.{_≡_, refl}
 use mathlib.Core.Bool.{Bool, true, false, not, _&&_}
 use Prim.Native.Nat.{ℕ}
+use native.Mathlib.Nat.{lt-irrefl, lt-trans}
 use lib.Dec.{eqb, ltb}
+use borrow.Author.Tests.{ltb-true}
 use Rattle.bounded.specs.Bounded.{imp, all, any, lowest, sumTo, count}
 
 -- A binary constraint problem. Document 01's items are variables, its settings values, both numbered from 0.
@@ -15,6 +17,26 @@ pub record Problem : Type 0 where
   -- setting a of item i may stand with setting b of item j: `allowed i a j b`
   pub allowed : ℕ → ℕ → ℕ → ℕ → Bool
   pub symmetric : (i a j b : ℕ) → allowed i a j b ≡ allowed j b i a
+
+-- x where i < j, y where j < i
+abbrev pub lowerTells : (up down x y : Bool) → Bool
+lowerTells true down x y = x
+lowerTells false true x y = y
+lowerTells false false x y = false
+
+-- a test of pairs i < j, asked either way round: the lower variable's side tells, and a variable makes no pair with itself
+unfoldable pub bothWays : (ℕ → ℕ → ℕ → ℕ → Bool) → (i a j b : ℕ) → Bool
+bothWays f i a j b = lowerTells (ltb i j) (ltb j i) (f i a j b) (f j b i a)
+
+pub both-ways-symmetric : (f : ℕ → ℕ → ℕ → ℕ → Bool) (i a j b : ℕ) → bothWays f i a j b ≡ bothWays f j b i a
+unfolding bothWays
+both-ways-symmetric f i a j b = go (ltb i j) refl (ltb j i) refl
+  where
+    go : (x : Bool) → ltb i j ≡ x → (y : Bool) → ltb j i ≡ y → bothWays f i a j b ≡ bothWays f j b i a
+    go true e true g = absurd (lt-irrefl i (lt-trans (ltb-true i j e) (ltb-true j i g)))
+    go true e false g = rw (e, g)
+    go false e true g = rw (e, g)
+    go false e false g = rw (e, g)
 
 -- "A state says which items are in and, for each, which settings are on."
 pub record State : Type 0 where
