@@ -3,20 +3,20 @@ ghost use mathlib.Core.Path.{_≡_};
 ghost use Prim.Native.Nat.{_^_, _<_, _≤_};
 ghost use Rattle.bounded.specs.Mask.{bit, without as withoutOf};
 
-// Whether c is in a set of 16.
-pub fn has16(x: u16, c: usize) -> bool
-    requires { ⌜ c < 16 ⌝ }
-    ensures { λ r. ⌜ r ≡ bit x c ⌝ }
-{
-    (x >> c) % 2 == 1
-}
-
 // Whether c is in a set of 32.
 pub fn has32(x: u32, c: usize) -> bool
     requires { ⌜ c < 32 ⌝ }
     ensures { λ r. ⌜ r ≡ bit x c ⌝ }
 {
     (x >> c) % 2 == 1
+}
+
+// Whether c is in a set of 16.
+pub fn has16(x: u16, c: usize) -> bool
+    requires { ⌜ c < 16 ⌝ }
+    ensures { λ r. ⌜ r ≡ bit x c ⌝ }
+{
+    has32(x as u32, c)
 }
 
 // A set of 16 without b.

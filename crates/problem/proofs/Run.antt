@@ -12,7 +12,7 @@ use Rattle.bounded.specs.Bounded.{any}
 use Rattle.bounded.proofs.Truth.{T-of, T-true, T-not}
 use Rattle.bounded.proofs.Bounded.{any-iff}
 use Rattle.problem.specs.Problem.{Problem, State, full, allActive, anyLive, noneEmpty, unsupported, snake, triangle, neighbourhood, snakeSubstitution, slideSpares, liveCount, sizeSum}
-use Rattle.problem.specs.Reduce.{holds, lawful, after, lawfulTrace, afterTrace, when, first, nextUnsupported, nextSnake, nextTriangle, nextNeighbourhood, nextSnakeSubstitution, nextOfKind, next, runFrom, run, endOf}
+use Rattle.problem.specs.Reduce.{holds, lawful, after, lawfulTrace, afterTrace, when, first, nextUnsupported, nextSnake, nextTriangle, nextNeighbourhood, nextSnakeSubstitution, kindBound, nextOfKind, next, runFrom, run, endOf}
 use Rattle.problem.specs.declared.Record.{Record}
 use Rattle.problem.specs.declared.Record.the-variants.{Unsupported, Snake, Triangle, Neighbourhood, SnakeSubstitution}
 use Rattle.problem.specs.declared.Next.{Next}
@@ -136,7 +136,7 @@ module _ (P : Problem) (s : State) where
   kind-found (suc (suc (suc (suc (suc k))))) r e = slide-found r e
 
   -- what `next` is, by whether some active variable is without a value
-  next-open : noneEmpty P s ≡ true → next P s ≡ first 6 (nextOfKind P s)
+  next-open : noneEmpty P s ≡ true → next P s ≡ first kindBound (nextOfKind P s)
   unfolding next
   next-open e = rw (e, next)
 
@@ -148,7 +148,7 @@ module _ (P : Problem) (s : State) where
   next-lawful r e = go (noneEmpty P s) refl
     where
       go : (b : Bool) → noneEmpty P s ≡ b → T (lawful P s r)
-      go true p = lawful-iff P s r .1 (T-of p, first-found Holds 6 (nextOfKind P s) kind-found r (sym (next-open p) ∙ e))
+      go true p = lawful-iff P s r .1 (T-of p, first-found Holds kindBound (nextOfKind P s) kind-found r (sym (next-open p) ∙ e))
       go false p = absurd (never (sym (next-shut p) ∙ e))
 
   -- where no step is found, no record of any kind with any fields is lawful
@@ -159,8 +159,8 @@ module _ (P : Problem) (s : State) where
       x : T (noneEmpty P s) × T (holds P s r)
       x = lawful-iff P s r .0 t
 
-      none : (k : ℕ) → k < 6 → nextOfKind P s k ≡ Nothing
-      none = first-none 6 (nextOfKind P s) (sym (next-open (T-true (noneEmpty P s) (x .0))) ∙ e)
+      none : (k : ℕ) → k < kindBound → nextOfKind P s k ≡ Nothing
+      none = first-none kindBound (nextOfKind P s) (sym (next-open (T-true (noneEmpty P s) (x .0))) ∙ e)
 
       by-kind : (r : Record) → T (holds P s r) → ⊥
       by-kind (Unsupported i b k) h = unsupported-complete F (none 1 (omega arith)) i b k h

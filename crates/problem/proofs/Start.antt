@@ -8,7 +8,7 @@ use native.Mathlib.Omega.{arith}
 use lib.Dec.{T, eqb, ltb}
 use Rattle.bounded.proofs.Truth.{eq-dec, and-iff, eqb-iff, ltb-iff, T-ext}
 use Rattle.problem.specs.Problem.{Problem, State, full, allActive, allLive, liveCount}
-use Rattle.problem.specs.Manual.{supported, prune, pruneTimes, start}
+use Rattle.problem.specs.Manual.{supported, prune, pruneTimes, startTurns, start}
 use Rattle.problem.proofs.Reflect.{Active, Live, Allowed, Fits, full-fits, turn, allActive-iff, allActive-or, allLive-iff, allLive-or, Supported, ArcConsistent, supported-iff}
 use Rattle.problem.proofs.Sound.{Solution}
 use Rattle.problem.proofs.Count.{count-falls}
@@ -75,22 +75,22 @@ module _ (P : Problem) where
 
   pub start-fits : Fits P (start P)
   unfolding start
-  start-fits = times-fits (suc (liveCount P (full P))) (full-fits P)
+  start-fits = times-fits (startTurns P) (full-fits P)
 
   -- all items are in
   pub start-active : (start P) .active ≡ (full P) .active
   unfolding start
-  start-active = times-active (suc (liveCount P (full P))) (full P)
+  start-active = times-active (startTurns P) (full P)
 
   pub start-consistent : ArcConsistent P (start P)
   unfolding start
-  start-consistent = times-enough (suc (liveCount P (full P))) (full-fits P) (omega arith)
+  start-consistent = times-enough (startTurns P) (full-fits P) (omega arith)
 
   -- the largest: every arc consistent family of domains of all variables is within the start
   pub start-largest : (r : State) → ArcConsistent P r → ((i : ℕ) → i < P .n → Active r i) → ((i a : ℕ) → Live r i a → (i < P .n) × (a < P .size i)) → (i a : ℕ) → Live r i a → Live (start P) i a
   unfolding start full
   start-largest r C g h =
-      times-keep (suc (liveCount P (full P))) r (full-fits P) C (λ i q. g i (ltb-iff i (P .n) .0 q))
+      times-keep (startTurns P) r (full-fits P) C (λ i q. g i (ltb-iff i (P .n) .0 q))
       (λ i a o. simp (and-iff, ltb-iff) (h i a o .0, h i a o .1))
 
   -- the values of a solution are an arc consistent family: starting keeps every solution

@@ -27,8 +27,11 @@ pruneTimes (suc f) P s = pruneTimes f P (prune P s)
 
 -- "the state with all items in and the largest sets of settings in which each has a partner at every other item". Each pruning but
 -- the last uses up a setting, so that one more than there are settings is enough; proofs/Start.antt shows that no larger sets serve.
+abbrev pub startTurns : Problem → ℕ
+startTurns P = suc (liveCount P (full P))
+
 unfoldable pub start : Problem → State
-start P = pruneTimes (suc (liveCount P (full P))) P (full P)
+start P = pruneTimes (startTurns P) P (full P)
 
 -- ---- one hand call
 

@@ -66,6 +66,10 @@ unfoldable pub first : ℕ → (ℕ → Next) → Next
 first zero f = Nothing
 first (suc n) f = elim (f zero) [ Step r ↦ Step r | Nothing ↦ first n (λ k. f (suc k)) ]
 
+-- one more than the last kind
+abbrev pub kindBound : ℕ
+kindBound = 6
+
 module _ (P : Problem) (s : State) where
   -- the lowest step of each kind
   unfoldable pub nextUnsupported : Next
@@ -94,7 +98,7 @@ module _ (P : Problem) (s : State) where
   nextOfKind (suc (suc (suc (suc (suc k))))) = nextSnakeSubstitution
 
   unfoldable pub next : Next
-  next = elim (noneEmpty P s) [ true ↦ first 6 nextOfKind | false ↦ Nothing ]
+  next = elim (noneEmpty P s) [ true ↦ first kindBound nextOfKind | false ↦ Nothing ]
 
 -- ---- the run
 
