@@ -1,0 +1,109 @@
+-- Demands 1 and 2 of the run, over the definition that the run's contract cites. Assumes nothing.
+use mathlib.Core.Path.{_≡_, refl, sym, ap, _∙_, subst}
+use mathlib.Core.Bool.{Bool, true, false}
+use mathlib.Core.List.{List, [], _∷_, _++_}
+use mathlib.Core.Logic.{_↔_, _⊎_, inl, inr}
+use Prim.Native.Nat.{ℕ, zero, suc, _+_, _*_, _≤_, _<_}
+use native.Mathlib.Omega.{arith}
+use lib.Dec.{T}
+use lib.ListN.{length, length-append}
+use borrow.Author.Tests.{lt-ltb, le-ltb}
+use Rattle.bounded.proofs.Truth.{lt-dec}
+use Rattle.problem.specs.Problem.{Problem, State, full, sizeSum, noneEmpty}
+use Rattle.problem.specs.Reduce.{holds, lawfulTrace, afterTrace, run, endOf}
+use Rattle.problem.specs.Masks.{masksOf}
+use Rattle.problem.specs.Extend.{undoTrace}
+use Rattle.problem.specs.declared.Record.{Record}
+use Rattle.problem.specs.declared.Record.the-variants.{Unsupported, Snake, Triangle, Neighbourhood, SnakeSubstitution}
+use Rattle.problem.proofs.Reflect.{full-fits}
+use Rattle.problem.proofs.Sound.{Solution, Solvable}
+use Rattle.problem.proofs.Trace.{trace-fits, trace-undone, trace-solvable, lawful-iff}
+use Rattle.problem.proofs.Run.{run-lawful, run-complete, run-short, EndSays, end-says}
+use Rattle.sheet.specs.Sheet.{layout, readSheet, Keeps}
+use Rattle.sheet.specs.Relation.{problemOf}
+use Rattle.sheet.specs.declared.SheetRefusal.{SheetRefusal}
+use Rattle.sheet.specs.declared.SheetRead.the-variants as read
+use Rattle.jobs.specs.Trace.{recordBytes, recordsBytes, traceBytes, fronted}
+use Rattle.jobs.specs.Run.{RunResult, runRefused, runDone, bufferShort, runJob}
+use Rattle.jobs.specs.declared.ReduceRefusal.the-variants.{Sheet, Buffer}
+use Rattle.jobs.specs.declared.ReduceOutcome.the-variants.{Done, Refused}
+
+-- ---- where the run is refused: for each cause, in the order of the table, and for no other
+
+module _ (s b : List ℕ) where
+  -- the sheet's refusal comes first
+  pub run-sheet-refused : (r : SheetRefusal) → readSheet layout s ≡ read.Refused r → runJob s b ≡ runRefused (Sheet r) b
+  unfolding runJob
+  run-sheet-refused r e = rw (e, runJob)
+
+  module _ (K : Keeps layout s) where
+    -- 10: the buffer is shorter than 1 + 5 × the sum of the sizes
+    pub run-buffer-refused : length b < 1 + 5 * sizeSum (problemOf layout s) → runJob s b ≡ runRefused Buffer b
+    unfolding runJob
+    run-buffer-refused l = rw (K, lt-ltb (length b) (1 + 5 * sizeSum (problemOf layout s)) l, runJob)
+
+    -- otherwise the sheet is worked
+    pub run-accepted : 1 + 5 * sizeSum (problemOf layout s) ≤ length b → runJob s b ≡ runDone (problemOf layout s) b
+    unfolding runJob
+    run-accepted l = rw (K, le-ltb (length b) (1 + 5 * sizeSum (problemOf layout s)) l, runJob)
+
+-- ---- a trace's length
+
+record-length : (r : Record) → length (recordBytes r) ≤ 5
+record-length (Unsupported i b k) = omega arith
+record-length (Snake i v) = omega arith
+record-length (Triangle i j) = omega arith
+record-length (Neighbourhood i b a) = omega arith
+record-length (SnakeSubstitution i b a) = omega arith
+
+records-length : (t : List Record) → length (recordsBytes t) ≤ 5 * length t
+unfolding recordsBytes
+records-length [] = omega arith
+records-length (r ∷ t) = omega (arith, length-append (recordBytes r) (recordsBytes t), record-length r, records-length t)
+
+pub trace-length : (t : List Record) → length (traceBytes t) ≤ 1 + 5 * length t
+unfolding traceBytes
+trace-length t = omega (arith, records-length t)
+
+-- ---- what an accepted run shows
+
+-- P is the sheet's problem, t the run's records, and last the state that they lead to
+pub record Worked (P : Problem) (t : List Record) (last : State) (b : List ℕ) (x : RunResult) : Type 0 where
+  -- the answer: the end, the number of steps, the bytes written and the last state; and the buffer, the old bytes after the trace
+  pub answer : x .answer ≡ record { outcome = Done (endOf P last) (length t) (length (traceBytes t)); state = masksOf last }
+  pub buffer : x .buffer ≡ fronted (traceBytes t) b
+  -- demand 1: in no more steps than the sheet lists settings, and within the buffer
+  pub few : length t ≤ sizeSum P
+  pub room : length (traceBytes t) ≤ length b
+  -- demand 2: each step is lawful in the state reached
+  pub reached : last ≡ afterTrace P (full P) t
+  pub lawful : T (lawfulTrace P (full P) t)
+  -- the end is what document 01 says of it, and "at the end no rule holds or some item has no setting left"
+  pub end : EndSays last (endOf P last)
+  pub rest : T (noneEmpty P last) → (r : Record) → T (holds P last r) → ⊥
+  -- "The sheet left has a plan exactly when the full sheet has one"
+  pub plan : Solvable P last ↔ Solvable P (full P)
+  -- "each plan of what is left is put back into a plan of the full sheet"
+  pub back : (p : ℕ → ℕ) → Solution P last p → Solution P (full P) (undoTrace P (full P) t p)
+
+-- every sheet that keeps the layout, with a buffer as long as document 01 asks, is worked to its end
+pub run-worked : (s b : List ℕ) → Keeps layout s → 1 + 5 * sizeSum (problemOf layout s) ≤ length b
+    → Worked (problemOf layout s) (run (problemOf layout s) (full (problemOf layout s))) (afterTrace (problemOf layout s) (full (problemOf layout s)) (run (problemOf layout s) (full (problemOf layout s)))) b (runJob s b)
+unfolding runDone
+run-worked s b K l =
+    let P = problemOf layout s in
+    let t = run P (full P) in
+    let e = run-accepted s b K l in
+    let h = run-lawful P (full P) in
+    record {
+      answer = ap (λ (x : RunResult). x .answer) e;
+      buffer = ap (λ (x : RunResult). x .buffer) e;
+      few = run-short P;
+      room = omega (arith, trace-length t, run-short P);
+      reached = refl;
+      lawful = h;
+      end = end-says P (trace-fits P (full-fits P) t);
+      rest = λ n r x. run-complete P (full-fits P) r (lawful-iff P (afterTrace P (full P) t) r .1 (n, x));
+      plan = trace-solvable P (full-fits P) t h;
+      back = λ p A. trace-undone P (full-fits P) t h p A;
+    }

@@ -1,0 +1,65 @@
+-- Taking out by hand as jobs: starting, one hand call, and lists of hand calls.
+use mathlib.Core.Bool.{Bool, true, false}
+use mathlib.Core.List.{List, [], _∷_}
+use Prim.Native.Nat.{ℕ}
+use Rattle.problem.specs.Problem.{Problem, State, fits, eliminate}
+use Rattle.problem.specs.Manual.{start, call}
+use Rattle.problem.specs.Masks.{stateOf, masksOf, emptyMasks}
+use Rattle.problem.specs.declared.Call.{Call}
+use Rattle.problem.specs.declared.Call.the-variants as outcome
+use Rattle.sheet.specs.Sheet.{layout, readSheet}
+use Rattle.sheet.specs.Relation.{problemOf}
+use Rattle.sheet.specs.declared.SheetRead.the-variants as read
+use Rattle.jobs.specs.declared.ManualState.{ManualState}
+use Rattle.jobs.specs.declared.StartAnswer.{StartAnswer}
+use Rattle.jobs.specs.declared.StartOutcome.the-variants as started
+use Rattle.jobs.specs.declared.CallAnswer.{CallAnswer}
+use Rattle.jobs.specs.declared.CallOutcome.the-variants as called
+use Rattle.jobs.specs.declared.ManualRefusal.{ManualRefusal}
+use Rattle.jobs.specs.declared.ManualRefusal.the-variants as refusal
+
+-- the hand state's items and settings
+abbrev pub handState : ManualState → State
+handState st = stateOf (st .masks)
+
+abbrev pub handOf : State → ManualState
+handOf s = record { masks = masksOf s }
+
+-- a hand state fits: the run's state in it does
+abbrev pub handFits : Problem → ManualState → Bool
+handFits P st = fits P (handState st)
+
+-- "Starting answers the state with all items in and the largest sets of settings in which each has a partner at every other item."
+-- "A refused start answers a state with no items in and no settings on."
+unfoldable pub startJob : List ℕ → StartAnswer
+startJob s =
+    elim (readSheet layout s) [
+      read.Refused r ↦ record { outcome = started.Refused r; state = record { masks = emptyMasks } }
+    | read.Accepted n m ↦ record { outcome = started.Started; state = handOf (start (problemOf layout s)) }
+    ]
+
+-- "a refused hand call answers the state it was given"
+abbrev pub callRefused : ManualRefusal → ManualState → CallAnswer
+callRefused r st = record { outcome = called.Refused r; state = st }
+
+-- what a call comes to, as an answer
+abbrev pub callAnswer : Problem → ManualState → ℕ → Call → CallAnswer
+callAnswer P st i (outcome.Eliminated v) = record { outcome = called.Eliminated v; state = handOf (eliminate P (handState st) i) }
+callAnswer P st i outcome.Misfit = callRefused refusal.State st
+callAnswer P st i outcome.NotActive = callRefused refusal.Item st
+callAnswer P st i outcome.Emptied = callRefused refusal.Emptied st
+callAnswer P st i outcome.NoSnake = callRefused refusal.Rule st
+
+-- "A hand call names one item. It performs the snake step with the lowest fitting v and answers the new state and v."
+unfoldable pub callJob : List ℕ → ManualState → ℕ → CallAnswer
+callJob s st i =
+    elim (readSheet layout s) [
+      read.Refused r ↦ callRefused (refusal.Sheet r) st
+    | read.Accepted n m ↦ callAnswer (problemOf layout s) st i (call (problemOf layout s) (handState st) i)
+    ]
+
+-- a list of hand calls: "The first is given the state the list starts from, each later one the state that the call before it answered, a
+-- refused one's included"
+unfoldable pub callsJob : List ℕ → ManualState → List ℕ → ManualState
+callsJob s st [] = st
+callsJob s st (i ∷ l) = callsJob s ((callJob s st i) .state) l

@@ -1,0 +1,93 @@
+-- Putting back as a job: lent a sheet, a trace, a plan for the items left and a buffer for the result.
+use mathlib.Core.Bool.{Bool, true, false, _&&_, _||_, not}
+use mathlib.Core.List.{List, [], _∷_}
+use Prim.Native.Nat.{ℕ, zero, suc}
+use lib.Dec.{ltb, eqb}
+use lib.ListN.{length, getD}
+use Rattle.bounded.specs.Bounded.{all}
+use Rattle.bounded.specs.Table.{tab}
+use Rattle.problem.specs.Problem.{Problem, State, full}
+use Rattle.problem.specs.Reduce.{lawful, after, afterTrace}
+use Rattle.problem.specs.Extend.{solves, undoTrace}
+use Rattle.problem.specs.declared.Record.{Record}
+use Rattle.sheet.specs.Bytes.{byteAt}
+use Rattle.sheet.specs.Sheet.{layout, readSheet, variablesOf}
+use Rattle.sheet.specs.Relation.{problemOf}
+use Rattle.sheet.specs.declared.SheetRead.the-variants as read
+use Rattle.jobs.specs.Trace.{recordAt}
+use Rattle.jobs.specs.declared.RecordRead.the-variants as record·
+use Rattle.jobs.specs.declared.Extended.{Extended}
+use Rattle.jobs.specs.declared.Extended.the-variants.{Done, Refused}
+use Rattle.jobs.specs.declared.ExtendRefusal.{ExtendRefusal}
+use Rattle.jobs.specs.declared.ExtendRefusal.the-variants.{Sheet, PlanLength, ResultLength, TraceFront, Malformed, Unlawful, Plan}
+
+-- what the job answers and leaves in the result buffer
+pub record PutBackResult : Type 0 where
+  pub answer : Extended
+  pub result : List ℕ
+
+-- a refusal leaves the buffer as it was
+abbrev pub putBackRefused : ExtendRefusal → List ℕ → PutBackResult
+putBackRefused r b = record { answer = Refused r; result = b }
+
+-- ---- the trace, record by record
+
+-- the records of a lawful trace, or the first fault
+pub data Checked : Type 0 where
+  Lawful : List Record → Checked
+  Fault : ExtendRefusal → Checked
+
+abbrev pub withRecord : Record → Checked → Checked
+withRecord r (Lawful t) = Lawful (r ∷ t)
+withRecord r (Fault e) = Fault e
+
+-- from the place p in the state s: a malformed record is 16, one that is not lawful in the state reached is 17 (also where an item in has
+-- no setting on). A record has at least one byte, so that as many turns as the trace has bytes are enough.
+unfoldable pub checkFrom : ℕ → Problem → List ℕ → State → ℕ → Checked
+checkFrom zero P t s p = Fault Malformed
+checkFrom (suc f) P t s p =
+    elim (recordAt t p) [
+      record·.End ↦ Lawful []
+    | record·.Malformed ↦ Fault Malformed
+    | record·.Read r next ↦ elim (lawful P s r) [ true ↦ withRecord r (checkFrom f P t (after P s r) next) | false ↦ Fault Unlawful ]
+    ]
+
+-- "no byte, or byte 0 is not 1" is 15
+unfoldable pub checkTrace : Problem → List ℕ → Checked
+checkTrace P t = elim (ltb 0 (length t) && eqb (byteAt t 0) 1) [ true ↦ checkFrom (suc (length t)) P t (full P) 1 | false ↦ Fault TraceFront ]
+
+-- ---- the plan
+
+-- the setting that a plan gives an item
+abbrev pub planOf : List ℕ → ℕ → ℕ
+planOf p i = getD p i 0
+
+-- 19: "an item out not 255, a setting not on, or a barred pair among items left" does not speak against the plan
+unfoldable pub planFits : Problem → State → List ℕ → Bool
+planFits P s p = all (P .n) (λ i. s .active i || eqb (planOf p i) 255) && solves P s (planOf p)
+
+-- ---- the job
+
+-- the plan of the full sheet: the records undone last first, each against the state before it
+abbrev pub putBackDone : Problem → List Record → List ℕ → PutBackResult
+putBackDone P t p = record { answer = Done; result = tab (P .n) (undoTrace P (full P) t (planOf p)) }
+
+abbrev pub afterCheck : Problem → List ℕ → List ℕ → Checked → PutBackResult
+afterCheck P p b (Fault e) = putBackRefused e b
+afterCheck P p b (Lawful t) = elim (planFits P (afterTrace P (full P) t) p) [ true ↦ putBackDone P t p | false ↦ putBackRefused Plan b ]
+
+-- in the order of the table: the sheet, 18, 20, 15, then 16 and 17 record by record, then 19
+unfoldable pub putBackJob : (s t p b : List ℕ) → PutBackResult
+putBackJob s t p b =
+    elim (readSheet layout s) [
+      read.Refused r ↦ putBackRefused (Sheet r) b
+    | read.Accepted n m ↦
+      elim (eqb (length p) (variablesOf s)) [
+        false ↦ putBackRefused PlanLength b
+      | true ↦
+        elim (eqb (length b) (variablesOf s)) [
+          false ↦ putBackRefused ResultLength b
+        | true ↦ afterCheck (problemOf layout s) p b (checkTrace (problemOf layout s) t)
+        ]
+      ]
+    ]

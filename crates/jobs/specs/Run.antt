@@ -1,0 +1,50 @@
+-- The run as a job: lent a sheet and a trace buffer. Its answer, and the buffer afterwards.
+use mathlib.Core.Bool.{Bool, true, false}
+use mathlib.Core.List.{List}
+use Prim.Native.Nat.{ℕ, _+_, _*_}
+use lib.Dec.{ltb}
+use lib.ListN.{length}
+use Rattle.problem.specs.Problem.{Problem, full, sizeSum}
+use Rattle.problem.specs.Reduce.{run, afterTrace, endOf}
+use Rattle.problem.specs.Masks.{masksOf, emptyMasks}
+use Rattle.sheet.specs.Sheet.{layout, readSheet}
+use Rattle.sheet.specs.Relation.{problemOf}
+use Rattle.sheet.specs.declared.SheetRead.the-variants as read
+use Rattle.jobs.specs.Trace.{traceBytes, fronted}
+use Rattle.jobs.specs.declared.Reduced.{Reduced}
+use Rattle.jobs.specs.declared.ReduceRefusal.{ReduceRefusal}
+use Rattle.jobs.specs.declared.ReduceRefusal.the-variants.{Sheet, Buffer}
+use Rattle.jobs.specs.declared.ReduceOutcome.the-variants.{Done, Refused}
+
+-- what the job answers and leaves in the buffer
+pub record RunResult : Type 0 where
+  pub answer : Reduced
+  pub buffer : List ℕ
+
+-- "A refused run answers the number only", and leaves the buffer as it was
+abbrev pub runRefused : ReduceRefusal → List ℕ → RunResult
+runRefused r b = record { answer = record { outcome = Refused r; state = emptyMasks }; buffer = b }
+
+-- "The run answers with the end, the number of steps, the bytes written and the last state; the trace buffer holds the trace at its front
+-- and its old bytes after that."
+unfoldable pub runDone : Problem → List ℕ → RunResult
+runDone P b =
+    record {
+      answer = record {
+        outcome = Done (endOf P (afterTrace P (full P) (run P (full P)))) (length (run P (full P))) (length (traceBytes (run P (full P))));
+        state = masksOf (afterTrace P (full P) (run P (full P)));
+      };
+      buffer = fronted (traceBytes (run P (full P))) b;
+    }
+
+-- 10: "shorter than 1 + 5 × the sum of the sizes"
+abbrev pub bufferShort : Problem → List ℕ → Bool
+bufferShort P b = ltb (length b) (1 + 5 * sizeSum P)
+
+-- the run of the sheet s with the buffer b
+unfoldable pub runJob : List ℕ → List ℕ → RunResult
+runJob s b =
+    elim (readSheet layout s) [
+      read.Refused r ↦ runRefused (Sheet r) b
+    | read.Accepted n m ↦ elim (bufferShort (problemOf layout s) b) [ true ↦ runRefused Buffer b | false ↦ runDone (problemOf layout s) b ]
+    ]

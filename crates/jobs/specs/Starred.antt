@@ -1,0 +1,239 @@
+-- The starred bench sheets of document 01, and rows for what no run shows, as bytes: one table, whose one statement is
+-- proofs/Starred.antt.
+use mathlib.Core.Path.{_≡_}
+use mathlib.Core.Bool.{Bool, true, false}
+use mathlib.Core.List.{List, [], _∷_, _++_}
+use Prim.Native.Nat.{ℕ, zero, suc, _-_}
+use lib.ListN.{length, replicate}
+use Rattle.problem.specs.Problem.{Problem, State, full, snake}
+use Rattle.problem.specs.Reduce.{run, afterTrace}
+use Rattle.problem.specs.Manual.{start}
+use Rattle.problem.specs.Solutions.{solutionCount, solvable}
+use Rattle.problem.specs.declared.Masks.{Masks}
+use Rattle.problem.specs.declared.Record.{Record}
+use Rattle.problem.specs.declared.Record.the-variants.{Snake}
+use Rattle.problem.specs.declared.End.{End}
+use Rattle.problem.specs.declared.End.the-variants.{Impossible, Solved, Rest}
+use Rattle.sheet.specs.Sheet.{layout}
+use Rattle.sheet.specs.Relation.{problemOf}
+use Rattle.jobs.specs.Numbers.{reduceNumber, manualNumber, extendNumber}
+use Rattle.jobs.specs.Run.{runJob}
+use Rattle.jobs.specs.Hand.{handOf, callJob}
+use Rattle.jobs.specs.PutBack.{putBackJob}
+use Rattle.jobs.specs.declared.ReduceOutcome.{ReduceOutcome}
+use Rattle.jobs.specs.declared.ReduceOutcome.the-variants as reduced
+use Rattle.jobs.specs.declared.CallOutcome.{CallOutcome}
+use Rattle.jobs.specs.declared.CallOutcome.the-variants as called
+use Rattle.jobs.specs.declared.Extended.{Extended}
+use Rattle.jobs.specs.declared.Extended.the-variants as extended
+
+-- a lent buffer: this many bytes of a pattern
+abbrev pub lent : ℕ → List ℕ
+lent k = replicate k 170
+
+-- a state as masks, the domains of the variables not named being empty
+abbrev pub masks : ℕ → List ℕ → Masks
+masks a d = record { active = a; domains = d ++ replicate (32 - length d) 0 }
+
+-- the refusal's number, 0 where there is none
+abbrev pub runNumber : ReduceOutcome → ℕ
+runNumber (reduced.Done e k w) = 0
+runNumber (reduced.Refused r) = reduceNumber r
+
+abbrev pub callNumber : CallOutcome → ℕ
+callNumber (called.Eliminated v) = 0
+callNumber (called.Refused r) = manualNumber r
+
+abbrev pub putBackNumber : Extended → ℕ
+putBackNumber extended.Done = 0
+putBackNumber (extended.Refused r) = extendNumber r
+
+-- what a row claims of its sheet
+pub data Claim : Type 0 where
+  -- a run with a buffer of so many bytes: the trace, the end, the steps and the last state, with the old bytes after the trace
+  Runs : (buffer : ℕ) (trace : List ℕ) (end : End) (steps : ℕ) (last : Masks) → Claim
+  -- a run with a buffer of so many bytes is refused, and the buffer is as it was
+  NotRun : (buffer number : ℕ) → Claim
+  -- whether the full sheet has a plan
+  HasPlan : Bool → Claim
+  -- how many plans there are after these records
+  Plans : List Record → ℕ → Claim
+  -- whether the snake rule holds in the full state for an item with a setting
+  Serves : (i v : ℕ) → Bool → Claim
+  -- a hand call from the start, or from the full state, that is refused: the number, and the state as it was
+  NotTaken : (fromStart : Bool) (i number : ℕ) → Claim
+  -- a hand call from the full state that is accepted: the setting and the new state
+  Taken : (i v : ℕ) → Masks → Claim
+  -- putting back from a trace and a plan: the result
+  PutBack : (trace plan result : List ℕ) → Claim
+  -- putting back that is refused, the result buffer being as it was
+  NotPutBack : (trace plan : List ℕ) (number : ℕ) → Claim
+
+abbrev pub from : Bool → Problem → State
+from true P = start P
+from false P = full P
+
+abbrev pub Meets : List ℕ → Claim → Type 0
+Meets s (Runs b t e k m) =
+    runJob s (lent b)
+    ≡ record {
+      answer = record { outcome = reduced.Done e k (length t); state = m };
+      buffer = t ++ lent (b - length t);
+    }
+Meets s (NotRun b k) = (runNumber ((runJob s (lent b)) .answer .outcome) ≡ k) × ((runJob s (lent b)) .buffer ≡ lent b)
+Meets s (HasPlan b) = solvable (problemOf layout s) (full (problemOf layout s)) ≡ b
+Meets s (Plans t k) = solutionCount (problemOf layout s) (afterTrace (problemOf layout s) (full (problemOf layout s)) t) ≡ k
+Meets s (Serves i v b) = snake (problemOf layout s) (full (problemOf layout s)) i v ≡ b
+Meets s (NotTaken b i k) =
+    (callNumber ((callJob s (handOf (from b (problemOf layout s))) i) .outcome) ≡ k)
+    × ((callJob s (handOf (from b (problemOf layout s))) i) .state ≡ handOf (from b (problemOf layout s)))
+Meets s (Taken i v m) = callJob s (handOf (full (problemOf layout s))) i ≡ record { outcome = called.Eliminated v; state = record { masks = m } }
+Meets s (PutBack t p q) = putBackJob s t p (lent (length p)) ≡ record { answer = extended.Done; result = q }
+Meets s (NotPutBack t p k) = (putBackNumber ((putBackJob s t p (lent (length p))) .answer) ≡ k) × ((putBackJob s t p (lent (length p))) .result ≡ lent (length p))
+
+abbrev pub AllMeet : List ℕ → List Claim → Type 0
+AllMeet s [] = Unit {0}
+AllMeet s (c ∷ l) = Meets s c × AllMeet s l
+
+pub record Row : Type 0 where
+  pub sheet : List ℕ
+  pub claims : List Claim
+
+abbrev pub AllRows : List Row → Type 0
+AllRows [] = Unit {0}
+AllRows (r ∷ l) = AllMeet (r .sheet) (r .claims) × AllRows l
+
+-- ---- the sheets
+
+-- A: one item of 2
+abbrev pub sheetA : List ℕ
+sheetA = 1 ∷ 0 ∷ 0 ∷ 0 ∷ 9 ∷ 1 ∷ 0 ∷ 0 ∷ 2 ∷ []
+
+-- B: two items of 2, unequal
+abbrev pub sheetB : List ℕ
+sheetB = 1 ∷ 0 ∷ 0 ∷ 0 ∷ 16 ∷ 2 ∷ 0 ∷ 1 ∷ 2 ∷ 2 ∷ 0 ∷ 1 ∷ 0 ∷ 2 ∷ 0 ∷ 1 ∷ []
+
+-- C: three items of 2, each pair unequal
+abbrev pub sheetC : List ℕ
+sheetC = 1 ∷ 0 ∷ 0 ∷ 0 ∷ 29 ∷ 3 ∷ 0 ∷ 3 ∷ 2 ∷ 2 ∷ 2 ∷ 0 ∷ 1 ∷ 0 ∷ 2 ∷ 0 ∷ 1 ∷ 0 ∷ 2 ∷ 0 ∷ 2 ∷ 0 ∷ 1 ∷ 1 ∷ 2 ∷ 0 ∷ 2 ∷ 0 ∷ 1 ∷ []
+
+-- D: two items of 1, the pair barred
+abbrev pub sheetD : List ℕ
+sheetD = 1 ∷ 0 ∷ 0 ∷ 0 ∷ 14 ∷ 2 ∷ 0 ∷ 1 ∷ 1 ∷ 1 ∷ 0 ∷ 1 ∷ 0 ∷ 0 ∷ []
+
+-- E: items 1, 2, 3 each unequal to item 0, 2 settings
+abbrev pub sheetE : List ℕ
+sheetE = 1 ∷ 0 ∷ 0 ∷ 0 ∷ 30 ∷ 4 ∷ 0 ∷ 3 ∷ 2 ∷ 2 ∷ 2 ∷ 2 ∷ 0 ∷ 1 ∷ 0 ∷ 2 ∷ 0 ∷ 1 ∷ 0 ∷ 2 ∷ 0 ∷ 2 ∷ 0 ∷ 1 ∷ 0 ∷ 3 ∷ 0 ∷ 2 ∷ 0 ∷ 1 ∷ []
+
+-- F: three items of 3; item 0 unequal to 1 and to 2; item 1 at least item 2
+abbrev pub sheetF : List ℕ
+sheetF =
+    1 ∷ 0 ∷ 0 ∷ 0 ∷ 35 ∷ 3 ∷ 0 ∷ 3 ∷ 3 ∷ 3 ∷ 3
+    ∷ 0 ∷ 1 ∷ 0 ∷ 6 ∷ 0 ∷ 5 ∷ 0 ∷ 3
+    ∷ 0 ∷ 2 ∷ 0 ∷ 6 ∷ 0 ∷ 5 ∷ 0 ∷ 3
+    ∷ 1 ∷ 2 ∷ 0 ∷ 1 ∷ 0 ∷ 3 ∷ 0 ∷ 7
+    ∷ []
+
+-- G: C with item 3 equal to item 0
+abbrev pub sheetG : List ℕ
+sheetG =
+    1 ∷ 0 ∷ 0 ∷ 0 ∷ 36 ∷ 4 ∷ 0 ∷ 4 ∷ 2 ∷ 2 ∷ 2 ∷ 2
+    ∷ 0 ∷ 1 ∷ 0 ∷ 2 ∷ 0 ∷ 1
+    ∷ 0 ∷ 2 ∷ 0 ∷ 2 ∷ 0 ∷ 1
+    ∷ 0 ∷ 3 ∷ 0 ∷ 1 ∷ 0 ∷ 2
+    ∷ 1 ∷ 2 ∷ 0 ∷ 2 ∷ 0 ∷ 1
+    ∷ []
+
+-- H: C with a third setting at item 0 allowed as setting 0 is
+abbrev pub sheetH : List ℕ
+sheetH =
+    1 ∷ 0 ∷ 0 ∷ 0 ∷ 33 ∷ 3 ∷ 0 ∷ 3 ∷ 3 ∷ 2 ∷ 2
+    ∷ 0 ∷ 1 ∷ 0 ∷ 2 ∷ 0 ∷ 1 ∷ 0 ∷ 2
+    ∷ 0 ∷ 2 ∷ 0 ∷ 2 ∷ 0 ∷ 1 ∷ 0 ∷ 2
+    ∷ 1 ∷ 2 ∷ 0 ∷ 2 ∷ 0 ∷ 1
+    ∷ []
+
+-- a lawful slide: setting 1 of item 0 is allowed with setting 1 of item 1 only, and setting 0 with both
+abbrev pub sheetSlide : List ℕ
+sheetSlide = 1 ∷ 0 ∷ 0 ∷ 0 ∷ 16 ∷ 2 ∷ 0 ∷ 1 ∷ 2 ∷ 2 ∷ 0 ∷ 1 ∷ 0 ∷ 3 ∷ 0 ∷ 2 ∷ []
+
+-- several fitting choices: two items of 3, unequal
+abbrev pub sheetChoice : List ℕ
+sheetChoice = 1 ∷ 0 ∷ 0 ∷ 0 ∷ 18 ∷ 2 ∷ 0 ∷ 1 ∷ 3 ∷ 3 ∷ 0 ∷ 1 ∷ 0 ∷ 6 ∷ 0 ∷ 5 ∷ 0 ∷ 3 ∷ []
+
+-- a fold that holds only once item 2 is out
+abbrev pub sheetFold : List ℕ
+sheetFold = 1 ∷ 0 ∷ 0 ∷ 0 ∷ 23 ∷ 3 ∷ 0 ∷ 2 ∷ 2 ∷ 2 ∷ 2 ∷ 0 ∷ 1 ∷ 0 ∷ 1 ∷ 0 ∷ 2 ∷ 1 ∷ 2 ∷ 0 ∷ 1 ∷ 0 ∷ 3 ∷ []
+
+-- a removal elsewhere: setting 1 of item 1 has no partner at item 0
+abbrev pub sheetElsewhere : List ℕ
+sheetElsewhere = 1 ∷ 0 ∷ 0 ∷ 0 ∷ 14 ∷ 2 ∷ 0 ∷ 1 ∷ 1 ∷ 2 ∷ 0 ∷ 1 ∷ 0 ∷ 1 ∷ []
+
+-- ---- the table
+
+abbrev pub rows : List Row
+rows =
+    record { sheet = sheetA; claims = Runs 11 (1 ∷ 3 ∷ 2 ∷ 0 ∷ 0 ∷ []) Solved 1 (masks 0 []) ∷ HasPlan true ∷ [] }
+    ∷ record {
+      sheet = sheetB;
+      claims =
+          Runs 21 (1 ∷ 3 ∷ 2 ∷ 0 ∷ 0 ∷ 3 ∷ 2 ∷ 1 ∷ 0 ∷ []) Solved 2 (masks 0 [])
+          ∷ NotRun 20 10
+          ∷ HasPlan true
+          ∷ PutBack (1 ∷ 3 ∷ 2 ∷ 0 ∷ 0 ∷ 3 ∷ 2 ∷ 1 ∷ 0 ∷ []) (255 ∷ 255 ∷ []) (0 ∷ 1 ∷ [])
+          ∷ NotPutBack (1 ∷ 4 ∷ 5 ∷ 0 ∷ 0 ∷ 1 ∷ []) (1 ∷ 1 ∷ []) 17
+          ∷ [];
+    }
+    -- C, and I and J, which are jobs on C
+    ∷ record {
+      sheet = sheetC;
+      claims =
+          Runs 31 (1 ∷ []) Rest 0 (masks 7 (3 ∷ 3 ∷ 3 ∷ []))
+          ∷ HasPlan false
+          ∷ NotTaken true 0 14
+          ∷ NotTaken true 3 12
+          ∷ NotPutBack (1 ∷ []) (0 ∷ 1 ∷ 0 ∷ []) 19
+          ∷ [];
+    }
+    ∷ record {
+      sheet = sheetD;
+      claims = Runs 11 (1 ∷ 4 ∷ 1 ∷ 0 ∷ 0 ∷ 1 ∷ []) Impossible 1 (masks 3 (0 ∷ 1 ∷ [])) ∷ HasPlan false ∷ NotTaken true 0 13 ∷ [];
+    }
+    ∷ record {
+      sheet = sheetE;
+      claims =
+          Runs 41 (1 ∷ 3 ∷ 2 ∷ 0 ∷ 0 ∷ 3 ∷ 2 ∷ 1 ∷ 0 ∷ 3 ∷ 2 ∷ 2 ∷ 0 ∷ 3 ∷ 2 ∷ 3 ∷ 0 ∷ []) Solved 4 (masks 0 [])
+          ∷ Plans [] 2
+          ∷ Plans (Snake 0 0 ∷ []) 8
+          ∷ [];
+    }
+    ∷ record {
+      sheet = sheetF;
+      claims =
+          Runs 46 (1 ∷ 3 ∷ 2 ∷ 0 ∷ 1 ∷ 3 ∷ 2 ∷ 1 ∷ 0 ∷ 3 ∷ 2 ∷ 2 ∷ 0 ∷ []) Solved 3 (masks 0 [])
+          ∷ Serves 0 0 false
+          ∷ PutBack (1 ∷ 3 ∷ 2 ∷ 0 ∷ 1 ∷ 3 ∷ 2 ∷ 1 ∷ 0 ∷ 3 ∷ 2 ∷ 2 ∷ 0 ∷ []) (255 ∷ 255 ∷ 255 ∷ []) (1 ∷ 0 ∷ 0 ∷ [])
+          ∷ [];
+    }
+    ∷ record { sheet = sheetG; claims = Runs 41 (1 ∷ 3 ∷ 3 ∷ 3 ∷ 0 ∷ []) Rest 1 (masks 7 (3 ∷ 3 ∷ 3 ∷ [])) ∷ HasPlan false ∷ [] }
+    ∷ record { sheet = sheetH; claims = Runs 36 (1 ∷ 4 ∷ 4 ∷ 0 ∷ 0 ∷ 2 ∷ []) Rest 1 (masks 7 (6 ∷ 3 ∷ 3 ∷ [])) ∷ HasPlan false ∷ [] }
+    ∷ record { sheet = sheetSlide; claims = PutBack (1 ∷ 4 ∷ 5 ∷ 0 ∷ 0 ∷ 1 ∷ []) (1 ∷ 1 ∷ []) (1 ∷ 1 ∷ []) ∷ [] }
+    ∷ record {
+      sheet = sheetChoice;
+      claims =
+          PutBack (1 ∷ 3 ∷ 2 ∷ 0 ∷ 0 ∷ []) (255 ∷ 0 ∷ []) (0 ∷ 1 ∷ [])
+          ∷ PutBack (1 ∷ 3 ∷ 3 ∷ 0 ∷ 1 ∷ []) (255 ∷ 0 ∷ []) (1 ∷ 0 ∷ [])
+          ∷ [];
+    }
+    ∷ record {
+      sheet = sheetFold;
+      claims =
+          PutBack (1 ∷ 3 ∷ 2 ∷ 2 ∷ 0 ∷ 3 ∷ 3 ∷ 1 ∷ 0 ∷ []) (0 ∷ 255 ∷ 255 ∷ []) (0 ∷ 0 ∷ 0 ∷ [])
+          ∷ NotPutBack (1 ∷ 3 ∷ 3 ∷ 1 ∷ 0 ∷ []) (0 ∷ 255 ∷ 0 ∷ []) 17
+          ∷ [];
+    }
+    ∷ record {
+      sheet = sheetElsewhere;
+      claims = NotPutBack (1 ∷ 3 ∷ 2 ∷ 0 ∷ 0 ∷ []) (255 ∷ 1 ∷ []) 19 ∷ Taken 0 0 (masks 2 (0 ∷ 1 ∷ [])) ∷ [];
+    }
+    ∷ []

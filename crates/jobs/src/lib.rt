@@ -1,0 +1,128 @@
+// What each job of document 01 answers: the types, and document 01's number for each refusal. The definitions of specs/ say which
+// answer each input gets; the crates of the jobs prove their code equal to them.
+use problem::End;
+use problem::Masks;
+use problem::Record;
+use sheet::SheetRefusal;
+ghost use mathlib.Core.Path.{_≡_};
+ghost use Rattle.jobs.specs.Numbers.{reduceNumber, manualNumber, extendNumber, endNumber};
+
+// Why a run is refused.
+pub enum ReduceRefusal {
+    Sheet(SheetRefusal),
+    Buffer,
+}
+
+pub enum ReduceOutcome {
+    Done { end: End, steps: usize, written: usize },
+    Refused(ReduceRefusal),
+}
+
+// The run's answer. An enum holds no array, so the last state stands beside it; a refused run has the empty state there.
+pub struct Reduced {
+    pub outcome: ReduceOutcome,
+    pub state: Masks,
+}
+
+// The state of taking out by hand: the run's state in a struct of its own.
+pub struct ManualState {
+    pub masks: Masks,
+}
+
+pub enum StartOutcome {
+    Started,
+    Refused(SheetRefusal),
+}
+
+pub struct StartAnswer {
+    pub outcome: StartOutcome,
+    pub state: ManualState,
+}
+
+// Why a hand call is refused.
+pub enum ManualRefusal {
+    Sheet(SheetRefusal),
+    State,
+    Item,
+    Emptied,
+    Rule,
+}
+
+pub enum CallOutcome {
+    Eliminated(usize),
+    Refused(ManualRefusal),
+}
+
+pub struct CallAnswer {
+    pub outcome: CallOutcome,
+    pub state: ManualState,
+}
+
+// What stands at a place of a trace.
+pub enum RecordRead {
+    Read { record: Record, next: usize },
+    End,
+    Malformed,
+}
+
+// Why putting back is refused.
+pub enum ExtendRefusal {
+    Sheet(SheetRefusal),
+    PlanLength,
+    ResultLength,
+    TraceFront,
+    Malformed,
+    Unlawful,
+    Plan,
+}
+
+pub enum Extended {
+    Done,
+    Refused(ExtendRefusal),
+}
+
+pub fn reduce_number(r: ReduceRefusal) -> u8
+    ensures { λ k. ⌜ k ≡ reduceNumber r ⌝ }
+{
+    match r {
+        ReduceRefusal::Sheet(s) => sheet::sheet_number(s),
+        ReduceRefusal::Buffer => 10,
+    }
+}
+
+pub fn manual_number(r: ManualRefusal) -> u8
+    ensures { λ k. ⌜ k ≡ manualNumber r ⌝ }
+{
+    match r {
+        ManualRefusal::Sheet(s) => sheet::sheet_number(s),
+        ManualRefusal::State => 11,
+        ManualRefusal::Item => 12,
+        ManualRefusal::Emptied => 13,
+        ManualRefusal::Rule => 14,
+    }
+}
+
+pub fn extend_number(r: ExtendRefusal) -> u8
+    ensures { λ k. ⌜ k ≡ extendNumber r ⌝ }
+{
+    match r {
+        ExtendRefusal::Sheet(s) => sheet::sheet_number(s),
+        ExtendRefusal::PlanLength => 18,
+        ExtendRefusal::ResultLength => 20,
+        ExtendRefusal::TraceFront => 15,
+        ExtendRefusal::Malformed => 16,
+        ExtendRefusal::Unlawful => 17,
+        ExtendRefusal::Plan => 19,
+    }
+}
+
+// The number that stands for an end where an answer is a number: document 01 names the ends in this order.
+pub fn end_number(e: End) -> u8
+    ensures { λ k. ⌜ k ≡ endNumber e ⌝ }
+{
+    match e {
+        End::Impossible => 0,
+        End::Solved => 1,
+        End::Rest => 2,
+    }
+}
