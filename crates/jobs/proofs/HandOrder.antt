@@ -101,8 +101,7 @@ module _ (s : List ℕ) (K : Keeps layout s) where
   pub start-meets : Proper ((startJob s) .state .masks) × T (handFits (problemOf layout s) ((startJob s) .state)) × T (arcConsistent (problemOf layout s) (handState ((startJob s) .state)))
   start-meets =
       let P = problemOf layout s in
-      let e = start-job-state in
-      (
+      let e = start-job-state in (
         subst (λ (x : StartAnswer). Proper (x .state .masks)) (sym start-read) (masks-proper (start P)),
         subst (λ (q : State). T (fits P q)) (sym e) (fits-test (start-fits P)),
         subst (λ (q : State). T (arcConsistent P q)) (sym e) (arcConsistent-iff (start-fits P) .1 (start-consistent P)),

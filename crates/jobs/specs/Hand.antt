@@ -34,8 +34,8 @@ handFits P st = fits P (handState st)
 unfoldable pub startJob : List ℕ → StartAnswer
 startJob s =
     elim (readSheet layout s) [
-      read.Refused r ↦ record { outcome = started.Refused r; state = record { masks = emptyMasks } }
-    | read.Accepted n m ↦ record { outcome = started.Started; state = handOf (start (problemOf layout s)) }
+      | read.Refused r ↦ record { outcome = started.Refused r; state = record { masks = emptyMasks } }
+      | read.Accepted n m ↦ record { outcome = started.Started; state = handOf (start (problemOf layout s)) }
     ]
 
 -- "a refused hand call answers the state it was given"
@@ -54,8 +54,8 @@ callAnswer P st i outcome.NoSnake = callRefused refusal.Rule st
 unfoldable pub callJob : List ℕ → ManualState → ℕ → CallAnswer
 callJob s st i =
     elim (readSheet layout s) [
-      read.Refused r ↦ callRefused (refusal.Sheet r) st
-    | read.Accepted n m ↦ callAnswer (problemOf layout s) st i (call (problemOf layout s) (handState st) i)
+      | read.Refused r ↦ callRefused (refusal.Sheet r) st
+      | read.Accepted n m ↦ callAnswer (problemOf layout s) st i (call (problemOf layout s) (handState st) i)
     ]
 
 -- a list of hand calls: "The first is given the state the list starts from, each later one the state that the call before it answered, a

@@ -47,9 +47,9 @@ unfoldable pub checkFrom : ℕ → Problem → List ℕ → State → ℕ → Ch
 checkFrom zero P t s p = Fault Malformed
 checkFrom (suc f) P t s p =
     elim (recordAt t p) [
-      record·.End ↦ Lawful []
-    | record·.Malformed ↦ Fault Malformed
-    | record·.Read r next ↦ elim (lawful P s r) [ true ↦ withRecord r (checkFrom f P t (after P s r) next) | false ↦ Fault Unlawful ]
+      | record·.End ↦ Lawful []
+      | record·.Malformed ↦ Fault Malformed
+      | record·.Read r next ↦ elim (lawful P s r) [ true ↦ withRecord r (checkFrom f P t (after P s r) next) | false ↦ Fault Unlawful ]
     ]
 
 -- "no byte, or byte 0 is not 1" is 15
@@ -80,14 +80,14 @@ afterCheck P p b (Lawful t) = elim (planFits P (afterTrace P (full P) t) p) [ tr
 unfoldable pub putBackJob : (s t p b : List ℕ) → PutBackResult
 putBackJob s t p b =
     elim (readSheet layout s) [
-      read.Refused r ↦ putBackRefused (Sheet r) b
-    | read.Accepted n m ↦
-      elim (eqb (length p) (variablesOf s)) [
-        false ↦ putBackRefused PlanLength b
-      | true ↦
-        elim (eqb (length b) (variablesOf s)) [
-          false ↦ putBackRefused ResultLength b
-        | true ↦ afterCheck (problemOf layout s) p b (checkTrace (problemOf layout s) t)
-        ]
-      ]
+      | read.Refused r ↦ putBackRefused (Sheet r) b
+      | read.Accepted n m ↦
+          elim (eqb (length p) (variablesOf s)) [
+            | false ↦ putBackRefused PlanLength b
+            | true ↦
+                elim (eqb (length b) (variablesOf s)) [
+                  | false ↦ putBackRefused ResultLength b
+                  | true ↦ afterCheck (problemOf layout s) p b (checkTrace (problemOf layout s) t)
+                ]
+          ]
     ]

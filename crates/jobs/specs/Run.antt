@@ -45,6 +45,6 @@ bufferShort P b = ltb (length b) (1 + 5 * sizeSum P)
 unfoldable pub runJob : List ℕ → List ℕ → RunResult
 runJob s b =
     elim (readSheet layout s) [
-      read.Refused r ↦ runRefused (Sheet r) b
-    | read.Accepted n m ↦ elim (bufferShort (problemOf layout s) b) [ true ↦ runRefused Buffer b | false ↦ runDone (problemOf layout s) b ]
+      | read.Refused r ↦ runRefused (Sheet r) b
+      | read.Accepted n m ↦ elim (bufferShort (problemOf layout s) b) [ true ↦ runRefused Buffer b | false ↦ runDone (problemOf layout s) b ]
     ]

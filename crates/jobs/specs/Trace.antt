@@ -64,6 +64,6 @@ isWhole s p = isKind (byteAt s (p + 1)) && (eqb (byteAt s p) (lengthByte (byteAt
 unfoldable pub recordAt : List ℕ → ℕ → RecordRead
 recordAt s p =
     elim (ltb p (length s)) [
-      false ↦ End
-    | true ↦ elim (isWhole s p) [ true ↦ Read (recordOf (byteAt s (p + 1)) (byteAt s (p + 2)) (byteAt s (p + 3)) (byteAt s (p + 4))) (p + 1 + byteAt s p) | false ↦ Malformed ]
+      | false ↦ End
+      | true ↦ elim (isWhole s p) [ true ↦ Read (recordOf (byteAt s (p + 1)) (byteAt s (p + 2)) (byteAt s (p + 3)) (byteAt s (p + 4))) (p + 1 + byteAt s p) | false ↦ Malformed ]
     ]

@@ -14,7 +14,11 @@ pub enum ReduceRefusal {
 }
 
 pub enum ReduceOutcome {
-    Done { end: End, steps: usize, written: usize },
+    Done {
+        end: End,
+        steps: usize,
+        written: usize,
+    },
     Refused(ReduceRefusal),
 }
 

@@ -11,3 +11,4 @@ pub mod Same
 pub mod HeldTable
 pub mod Solvable
 pub mod Samples
+pub mod BothWays

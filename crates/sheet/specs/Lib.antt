@@ -1,3 +1,4 @@
 pub mod Bytes
 pub mod Sheet
 pub mod Relation
+pub mod Parts

@@ -3,21 +3,13 @@ use mathlib.Core.Path.{_≡_, refl}
 use mathlib.Core.Bool.{Bool, true, false, cond, _&&_, and-comm}
 use mathlib.Core.List.{List}
 use Prim.Native.Nat.{ℕ, zero, suc, _+_, _*_}
-use native.Mathlib.Nat.{lt-irrefl, lt-trans}
 use lib.Dec.{ltb, eqb}
-use borrow.Author.Tests.{ltb-true}
 use Rattle.bounded.specs.Mask.{bit}
-use Rattle.problem.specs.Problem.{Problem}
+use Rattle.problem.specs.Problem.{Problem, bothWays, both-ways-symmetric}
 use Rattle.sheet.specs.Bytes.{byteAt, numberAt}
 use Rattle.sheet.specs.Sheet.{Layout, layout, versionOf, variablesOf, blocksOf, sizeAt, rowWidth, rowBytes}
 use Rattle.sheet.specs.declared.Rows.{Rows}
 use Rattle.sheet.specs.declared.Rows.the-variants.{At, Unconstrained}
-
--- x where i < j, y where j < i
-abbrev pub lowerTells : (up down x y : Bool) → Bool
-lowerTells true down x y = x
-lowerTells false true x y = y
-lowerTells false false x y = false
 
 module _ (L : Layout) (s : List ℕ) where
   -- where the rows of the block of i and j start, among k blocks from p
@@ -40,17 +32,11 @@ module _ (L : Layout) (s : List ℕ) where
 
   -- the lower item's row tells, whichever way round the pair is asked for; an item makes no pair with itself
   unfoldable pub pairAllowed : (i a j b : ℕ) → Bool
-  pairAllowed i a j b = lowerTells (ltb i j) (ltb j i) (rowsAllow (rowsOf i j) j a b) (rowsAllow (rowsOf j i) i b a)
+  pairAllowed = bothWays (λ i a j b. rowsAllow (rowsOf i j) j a b)
 
   pair-symmetric : (i a j b : ℕ) → pairAllowed i a j b ≡ pairAllowed j b i a
   unfolding pairAllowed
-  pair-symmetric i a j b = go (ltb i j) refl (ltb j i) refl
-    where
-      go : (x : Bool) → ltb i j ≡ x → (y : Bool) → ltb j i ≡ y → pairAllowed i a j b ≡ pairAllowed j b i a
-      go true e true g = absurd (lt-irrefl i (lt-trans (ltb-true i j e) (ltb-true j i g)))
-      go true e false g = rw (e, g)
-      go false e true g = rw (e, g)
-      go false e false g = rw (e, g)
+  pair-symmetric = both-ways-symmetric (λ i a j b. rowsAllow (rowsOf i j) j a b)
 
   -- the settings that the sheet lists: a is one of i
   unfoldable pub sizeOf : ℕ → ℕ

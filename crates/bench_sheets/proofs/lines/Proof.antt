@@ -1,0 +1,47 @@
+-- `bench_sheets::lines`: each line takes the place further. Assumes nothing.
+use Prim.Native.Nat.{_≤_, _-_}
+use lib.ListN.{length}
+use borrow.Author.Needs.{needs}
+use Rattle.bench_sheets.proofs.lines.Statement.{statement}
+use Rattle.bench_sheets.proofs.lines.Tie as tie
+use Rattle.bench_sheets.proofs.lines.Reads as reads
+use Rattle.bench_sheets.proofs.lines.Lts as lts
+use Rattle.bench_sheets.proofs.line.Reads as line-reads
+use Rattle.bench_sheets.proofs.next_line.Reads as next-line-reads
+
+abbrev Inv-loop : tie.InvT-loop
+Inv-loop text at₀ at = at ≤ length text
+
+abbrev μ-loop : tie.MeasureT-loop
+μ-loop text at₀ at = length text - at
+
+loop-holds : tie.Need-loop-holds Inv-loop μ-loop
+loop-holds c = search needs
+
+line-requires : tie.Need-line-requires Inv-loop μ-loop
+line-requires c κs = search needs
+
+next-line-requires : tie.Need-next-line-requires Inv-loop μ-loop
+next-line-requires c κs = search needs
+
+loop-less : tie.Need-loop-less Inv-loop μ-loop
+loop-less c = search needs
+
+loop-again : tie.Need-loop-again Inv-loop μ-loop
+loop-again c = search needs
+
+returns : tie.Need-returns Inv-loop μ-loop
+returns c = search needs
+
+pub lines-spec : {M : Type 1} → statement M
+lines-spec =
+    tie.close
+    (tie.spec
+    Inv-loop
+    μ-loop
+    loop-holds
+    line-requires
+    next-line-requires
+    loop-less
+    loop-again
+    returns)

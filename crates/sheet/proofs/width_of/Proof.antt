@@ -1,0 +1,35 @@
+-- `sheet::width_of`: the layout's width, at the version and the size of j.
+use mathlib.Core.Path.{ap, _∙_}
+use Prim.Native.Nat.{ℕ}
+use denote.Ref.{now}
+use Rattle.sheet.specs.Sheet.{layout, versionOf}
+use borrow.Author.Needs.{needs}
+use Rattle.sheet.proofs.width_of.Statement.{statement}
+use Rattle.sheet.proofs.width_of.Tie as tie
+
+byte-requires : tie.Need-byte-requires
+byte-requires c κs = search needs
+
+add-byte : tie.Need-add-byte
+add-byte c = search needs
+
+byte-requires-2 : tie.Need-byte-requires-2
+byte-requires-2 c κs = search needs
+
+row-width-requires : tie.Need-row-width-requires
+row-width-requires c κs = search needs
+
+returns : tie.Need-returns
+returns c =
+    let w = c .row-width .ensures in
+    let v = c .before .before .byte in
+    let z = c .before .byte2 in
+    record {
+      is = w .is ∙ ap (λ (x : ℕ). layout .width x (z .result)) (v .ensures .is) ∙ ap (λ (x : ℕ). layout .width (versionOf (now (c .before .before .before .before .args .s))) x) (z .ensures .is);
+      some = w .some;
+      few = w .few;
+    }
+
+pub width-of-spec : {M : Type 1} → statement M
+width-of-spec =
+    tie.close (tie.spec byte-requires add-byte byte-requires-2 row-width-requires returns)
