@@ -1,0 +1,45 @@
+-- `text::put_refused_line`: the word, the number and the line's end, one after the other.
+use native.Mathlib.Omega.{arith}
+use Prim.Native.Nat.{_+_, _≤_}
+use lib.ListN.{length}
+use Rattle.jobs.specs.Print.{field, refusedWord}
+use Rattle.text.proofs.Laws.{after}
+use borrow.Author.Needs.{needs}
+use Rattle.text.proofs.put_refused_line.Statement.{statement}
+use Rattle.text.proofs.put_refused_line.Tie as tie
+
+slice-aggregate-put-bytes : tie.Need-slice-aggregate-put-bytes
+slice-aggregate-put-bytes c = search needs
+
+put-bytes-requires : tie.Need-put-bytes-requires
+put-bytes-requires c κs = search needs
+
+put-field-requires : tie.Need-put-field-requires
+put-field-requires c κs = search needs
+
+put-byte-requires : tie.Need-put-byte-requires
+put-byte-requires c κs = search needs
+
+same-length : tie.Need-same-length
+same-length c = search needs
+
+returns : tie.Need-returns
+returns c =
+    let a = c .before .before .before .before .before .before .before .before .before .before .before .before .before .before .args in
+    let w = c .before .before .before .before .before .before .before .before .before .before .put-bytes in
+    let f = c .before .before .before .before .before .before .put-field in
+    let e = c .before .before .put-byte in
+    let room-w : w .result ≤ length (a .out .now) = omega arith in
+    let room-f : f .result ≤ length (w .last .0) = omega arith in
+    ((after _ _ _ _ _ _ _ _ (w .ensures) (after _ _ _ _ _ _ _ _ (f .ensures .0) (e .ensures) room-f) room-w), omega arith)
+
+pub put-refused-line-spec : {M : Type 1} → statement M
+put-refused-line-spec =
+    tie.close
+    (tie.spec
+    slice-aggregate-put-bytes
+    put-bytes-requires
+    put-field-requires
+    put-byte-requires
+    same-length
+    returns)

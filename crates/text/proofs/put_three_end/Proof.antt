@@ -1,0 +1,47 @@
+-- `text::put_three_end`: three fields and the line's end, one after the other.
+use borrow.Author.Needs.{needs}
+use native.Mathlib.Omega.{arith}
+use Prim.Native.Nat.{_+_, _≤_}
+use lib.ListN.{length}
+use Rattle.text.proofs.Laws.{after}
+use Rattle.text.proofs.put_three_end.Statement.{statement}
+use Rattle.text.proofs.put_three_end.Tie as tie
+
+put-field-requires : tie.Need-put-field-requires
+put-field-requires c κs = search needs
+
+put-field-requires-2 : tie.Need-put-field-requires-2
+put-field-requires-2 c κs = search needs
+
+put-field-requires-3 : tie.Need-put-field-requires-3
+put-field-requires-3 c κs = search needs
+
+put-byte-requires : tie.Need-put-byte-requires
+put-byte-requires c κs = search needs
+
+same-length : tie.Need-same-length
+same-length c = search needs
+
+returns : tie.Need-returns
+returns c =
+    let a = c .before .before .before .before .before .before .before .before .before .before .before .before .before .before .before .before .before .args in
+    let room : a .at + 19 ≤ length (a .out .now) = c .before .before .before .before .before .before .before .before .before .before .before .before .before .before .before .before .before .pre .1 .1 .1 in
+    let f = c .before .before .before .before .before .before .before .before .before .before .before .before .before .before .put-field in
+    let g = c .before .before .before .before .before .before .before .before .before .before .put-field2 in
+    let h = c .before .before .before .before .before .before .put-field3 in
+    let e = c .before .before .put-byte in
+    let room-f : f .result ≤ length (a .out .now) = omega (arith, room) in
+    let room-g : g .result ≤ length (f .last .0) = omega (arith, room) in
+    let room-h : h .result ≤ length (g .last .0) = omega (arith, room) in
+    (after _ _ _ _ _ _ _ _ (f .ensures .0) (after _ _ _ _ _ _ _ _ (g .ensures .0) (after _ _ _ _ _ _ _ _ (h .ensures .0) (e .ensures) room-h) room-g) room-f, omega (arith, room))
+
+pub put-three-end-spec : {M : Type 1} → statement M
+put-three-end-spec =
+    tie.close
+    (tie.spec
+    put-field-requires
+    put-field-requires-2
+    put-field-requires-3
+    put-byte-requires
+    same-length
+    returns)

@@ -1,0 +1,198 @@
+// The program's lines, written into a lent buffer at a place. Each function answers the place after its text.
+use problem::End;
+use problem::Record;
+ghost use mathlib.Core.Path.{_≡_};
+ghost use mathlib.Core.List.{_∷_, [], _++_};
+ghost use Prim.Native.Nat.{_+_, _<_, _≤_};
+ghost use lib.ListN.{length};
+ghost use Rattle.jobs.specs.Print.{decimal, field, sheetWord, refusedWord, stepText, endWord, refusedLine};
+ghost use Rattle.trace.specs.Written.{written, Small};
+ghost use Rattle.text.specs.Parts.{stepWord, stepFields};
+
+// ---- bytes and words
+
+// One byte.
+fn put_byte(out: &mut [u8], at: usize, v: u8) -> usize
+    requires { ⌜ at + 1 ≤ length (now out) ⌝ }
+    ensures text { λ r. ⌜ (now (out .exit) ≡ written (now (out .entry)) at (v ∷ [])) × (r ≡ at + length (v ∷ [])) ⌝ }
+{
+    out[at] = v;
+    at + 1
+}
+
+// A byte string.
+fn put_bytes(out: &mut [u8], at: usize, w: &[u8]) -> usize
+    requires { ⌜ at + length (now w) ≤ length (now out) ⌝ }
+    ensures text { λ r. ⌜ (now (out .exit) ≡ written (now (out .entry)) at (now (w .entry))) × (r ≡ at + length (now (w .entry))) ⌝ }
+{
+    let mut j: usize = 0;
+    while j < w.len() {
+        out[at + j] = w[j];
+        j += 1;
+    }
+    at + j
+}
+
+// ---- numbers
+
+// A number in decimal digits: those before the last one, if any, and the last one.
+pub fn put_decimal(out: &mut [u8], at: usize, x: usize) -> usize
+    requires { ⌜ (x < 100000) × (at + 5 ≤ length (now out)) ⌝ }
+    ensures text { λ r. ⌜ (now (out .exit) ≡ written (now (out .entry)) at (decimal x)) × (r ≡ at + length (decimal x)) ⌝ }
+    ensures within { λ r. ⌜ r ≤ at + 5 ⌝ }
+{
+    if x < 10 {
+        return put_byte(out, at, (48 + x) as u8);
+    }
+    let p = put_decimal(out, at, x / 10);
+    put_byte(out, p, (48 + x % 10) as u8)
+}
+
+// A space and a number.
+pub fn put_field(out: &mut [u8], at: usize, x: usize) -> usize
+    requires { ⌜ (x < 100000) × (at + 6 ≤ length (now out)) ⌝ }
+    ensures text { λ r. ⌜ (now (out .exit) ≡ written (now (out .entry)) at (field x)) × (r ≡ at + length (field x)) ⌝ }
+    ensures within { λ r. ⌜ r ≤ at + 6 ⌝ }
+{
+    let p = put_byte(out, at, 32);
+    put_decimal(out, p, x)
+}
+
+// Two fields.
+fn put_two(out: &mut [u8], at: usize, x: usize, y: usize) -> usize
+    requires { ⌜ (x < 100000) × ((y < 100000) × (at + 12 ≤ length (now out))) ⌝ }
+    ensures text { λ r. ⌜ (now (out .exit) ≡ written (now (out .entry)) at (field x ++ field y)) × (r ≡ at + length (field x ++ field y)) ⌝ }
+    ensures within { λ r. ⌜ r ≤ at + 12 ⌝ }
+{
+    let p = put_field(out, at, x);
+    put_field(out, p, y)
+}
+
+// Three fields.
+fn put_three(out: &mut [u8], at: usize, x: usize, y: usize, z: usize) -> usize
+    requires { ⌜ (x < 100000) × ((y < 100000) × ((z < 100000) × (at + 18 ≤ length (now out)))) ⌝ }
+    ensures text { λ r. ⌜ (now (out .exit) ≡ written (now (out .entry)) at (field x ++ (field y ++ field z))) × (r ≡ at + length (field x ++ (field y ++ field z))) ⌝ }
+    ensures within { λ r. ⌜ r ≤ at + 18 ⌝ }
+{
+    let p = put_field(out, at, x);
+    put_two(out, p, y, z)
+}
+
+// ---- lines
+
+// "Line 1: n, sum of sizes."
+pub fn put_first_line(out: &mut [u8], at: usize, n: usize, sum: usize) -> usize
+    requires { ⌜ (n < 100000) × ((sum < 100000) × (at + 18 ≤ length (now out))) ⌝ }
+    ensures text { λ r. ⌜ (now (out .exit) ≡ written (now (out .entry)) at (sheetWord ++ (field n ++ (field sum ++ (10 ∷ []))))) × (r ≡ at + length (sheetWord ++ (field n ++ (field sum ++ (10 ∷ []))))) ⌝ }
+    ensures within { λ r. ⌜ r ≤ at + 18 ⌝ }
+{
+    let p = put_bytes(out, at, b"sheet");
+    let q = put_field(out, p, n);
+    let s = put_field(out, q, sum);
+    put_byte(out, s, 10)
+}
+
+// The word of a step.
+fn put_step_word(out: &mut [u8], at: usize, r: Record) -> usize
+    requires { ⌜ at + 5 ≤ length (now out) ⌝ }
+    ensures text { λ q. ⌜ (now (out .exit) ≡ written (now (out .entry)) at (stepWord r)) × (q ≡ at + length (stepWord r)) ⌝ }
+    ensures within { λ q. ⌜ q ≤ at + 5 ⌝ }
+{
+    match r {
+        Record::Unsupported(_, _, _) => put_bytes(out, at, b"bare"),
+        Record::Snake(_, _) => put_bytes(out, at, b"snake"),
+        Record::Triangle(_, _) => put_bytes(out, at, b"fold"),
+        Record::Neighbourhood(_, _, _) => put_bytes(out, at, b"cover"),
+        Record::SnakeSubstitution(_, _, _) => put_bytes(out, at, b"slide"),
+    }
+}
+
+// The fields of a step after its kind.
+fn put_step_fields(out: &mut [u8], at: usize, r: Record) -> usize
+    requires { ⌜ (at + 18 ≤ length (now out)) × Small r ⌝ }
+    ensures text { λ q. ⌜ (now (out .exit) ≡ written (now (out .entry)) at (stepFields r)) × (q ≡ at + length (stepFields r)) ⌝ }
+    ensures within { λ q. ⌜ q ≤ at + 18 ⌝ }
+{
+    match r {
+        Record::Unsupported(i, b, k) => put_three(out, at, i, b, k),
+        Record::Snake(i, v) => put_two(out, at, i, v),
+        Record::Triangle(i, j) => put_two(out, at, i, j),
+        Record::Neighbourhood(i, b, a) => put_three(out, at, i, b, a),
+        Record::SnakeSubstitution(i, b, a) => put_three(out, at, i, b, a),
+    }
+}
+
+// A step's word and its fields.
+fn put_step(out: &mut [u8], at: usize, r: Record) -> usize
+    requires { ⌜ (at + 23 ≤ length (now out)) × Small r ⌝ }
+    ensures text { λ q. ⌜ (now (out .exit) ≡ written (now (out .entry)) at (stepText r)) × (q ≡ at + length (stepText r)) ⌝ }
+    ensures within { λ q. ⌜ q ≤ at + 23 ⌝ }
+{
+    let p = put_step_word(out, at, r);
+    put_step_fields(out, p, r)
+}
+
+// "Step lines: step number from 1, word, the fields after the kind."
+pub fn put_step_line(out: &mut [u8], at: usize, k: usize, r: Record) -> usize
+    requires { ⌜ (k < 100000) × ((at + 30 ≤ length (now out)) × Small r) ⌝ }
+    ensures text { λ q. ⌜ (now (out .exit) ≡ written (now (out .entry)) at (decimal k ++ (32 ∷ (stepText r ++ (10 ∷ []))))) × (q ≡ at + length (decimal k ++ (32 ∷ (stepText r ++ (10 ∷ []))))) ⌝ }
+    ensures within { λ q. ⌜ q ≤ at + 30 ⌝ }
+{
+    let p = put_decimal(out, at, k);
+    let w = put_byte(out, p, 32);
+    let e = put_step(out, w, r);
+    put_byte(out, e, 10)
+}
+
+// The word of an end.
+fn put_end_word(out: &mut [u8], at: usize, e: End) -> usize
+    requires { ⌜ at + 10 ≤ length (now out) ⌝ }
+    ensures text { λ r. ⌜ (now (out .exit) ≡ written (now (out .entry)) at (endWord e)) × (r ≡ at + length (endWord e)) ⌝ }
+    ensures within { λ r. ⌜ r ≤ at + 10 ⌝ }
+{
+    match e {
+        End::Impossible => put_bytes(out, at, b"impossible"),
+        End::Solved => put_bytes(out, at, b"solved"),
+        End::Rest => put_bytes(out, at, b"rest"),
+    }
+}
+
+// Three fields and the end of the line.
+fn put_three_end(out: &mut [u8], at: usize, x: usize, y: usize, z: usize) -> usize
+    requires { ⌜ (x < 100000) × ((y < 100000) × ((z < 100000) × (at + 19 ≤ length (now out)))) ⌝ }
+    ensures text { λ r. ⌜ (now (out .exit) ≡ written (now (out .entry)) at (field x ++ (field y ++ (field z ++ (10 ∷ []))))) × (r ≡ at + length (field x ++ (field y ++ (field z ++ (10 ∷ []))))) ⌝ }
+    ensures within { λ r. ⌜ r ≤ at + 19 ⌝ }
+{
+    let p = put_field(out, at, x);
+    let q = put_field(out, p, y);
+    let s = put_field(out, q, z);
+    put_byte(out, s, 10)
+}
+
+// "Last line: end, steps, items in, settings on at items in."
+pub fn put_last_line(
+    out: &mut [u8],
+    at: usize,
+    e: End,
+    steps: usize,
+    variables: usize,
+    values: usize,
+) -> usize
+    requires { ⌜ (steps < 100000) × ((variables < 100000) × ((values < 100000) × (at + 29 ≤ length (now out)))) ⌝ }
+    ensures text { λ r. ⌜ (now (out .exit) ≡ written (now (out .entry)) at (endWord e ++ (field steps ++ (field variables ++ (field values ++ (10 ∷ [])))))) × (r ≡ at + length (endWord e ++ (field steps ++ (field variables ++ (field values ++ (10 ∷ [])))))) ⌝ }
+    ensures within { λ r. ⌜ r ≤ at + 29 ⌝ }
+{
+    let p = put_end_word(out, at, e);
+    put_three_end(out, p, steps, variables, values)
+}
+
+// "A refused sheet prints one line".
+pub fn put_refused_line(out: &mut [u8], at: usize, number: usize) -> usize
+    requires { ⌜ (number < 100000) × (at + 14 ≤ length (now out)) ⌝ }
+    ensures text { λ r. ⌜ (now (out .exit) ≡ written (now (out .entry)) at (refusedLine number)) × (r ≡ at + length (refusedLine number)) ⌝ }
+    ensures within { λ r. ⌜ r ≤ at + 14 ⌝ }
+{
+    let p = put_bytes(out, at, b"refused");
+    let q = put_field(out, p, number);
+    put_byte(out, q, 10)
+}

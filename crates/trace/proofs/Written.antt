@@ -1,0 +1,81 @@
+-- Laws of a list written over a list. Assumes nothing.
+use mathlib.Core.Path.{_≡_, refl, sym, ap, _∙_}
+use mathlib.Core.List.{List, [], _∷_, _++_, append-assoc, append-nil}
+use Prim.Native.Nat.{ℕ, zero, suc, _+_, _≤_, _<_}
+use native.Mathlib.Nat.{zero-add, add-zero, add-assoc}
+use native.Mathlib.Numerals.{add-one}
+use native.Mathlib.Omega.{arith}
+use lib.ListN.{length, take, drop, set, length-append, length-drop, take-append-drop}
+use lib.Seq.{sets, sets-eq, length-take-le, take-at, drop-at, drop-drop}
+use Rattle.jobs.specs.Trace.{fronted}
+use Rattle.trace.specs.Written.{written}
+
+-- stores one after the other are one list written
+pub sets-written : (l : List ℕ) (p : ℕ) (w : List ℕ) → p + length w ≤ length l → sets l p w ≡ written l p w
+unfolding written
+sets-written l p w h = sets-eq w l p h ∙ append-assoc (take p l) w (drop (p + length w) l)
+
+module _ (b : List ℕ) (p : ℕ) where
+  pub written-nil : written b p [] ≡ b
+  unfolding written
+  written-nil = ap (λ (k : ℕ). take p b ++ drop k b) (add-zero p) ∙ take-append-drop p b
+
+  pub written-one : (v : ℕ) → p < length b → set b p v ≡ written b p (v ∷ [])
+  written-one v h = sets-written b p (v ∷ []) (omega arith)
+
+  pub length-written : (w : List ℕ) → p + length w ≤ length b → length (written b p w) ≡ length b
+  unfolding written
+  length-written w h =
+      let e : length (take p b) ≡ p = length-take-le p b (omega arith) in
+      simp (length-append, length-drop) (omega arith)
+
+  front : (w : List ℕ) → p + length w ≤ length b → length (take p b ++ w) ≡ p + length w
+  front w h = length-append (take p b) w ∙ ap (λ (k : ℕ). k + length w) (length-take-le p b (omega arith))
+
+  -- before the end of what was written, and after it
+  pub take-written : (w : List ℕ) → p + length w ≤ length b → take (p + length w) (written b p w) ≡ take p b ++ w
+  unfolding written
+  take-written w h =
+      ap (take (p + length w)) (sym (append-assoc (take p b) w (drop (p + length w) b)))
+      ∙ take-at (take p b ++ w) (drop (p + length w) b) (p + length w) (front w h)
+
+  pub drop-written : (w : List ℕ) → p + length w ≤ length b → drop (p + length w) (written b p w) ≡ drop (p + length w) b
+  unfolding written
+  drop-written w h =
+      ap (drop (p + length w)) (sym (append-assoc (take p b) w (drop (p + length w) b)))
+      ∙ drop-at (take p b ++ w) (drop (p + length w) b) (p + length w) (front w h)
+
+  -- one list and another after it are one list
+  pub written-more : (w v : List ℕ) → p + length w ≤ length b → written (written b p w) (p + length w) v ≡ written b p (w ++ v)
+  unfolding written
+  written-more w v h =
+      let e : drop (p + length w + length v) (written b p w) ≡ drop (p + length (w ++ v)) b =
+      sym (drop-drop (length v) (p + length w) (written b p w)) ∙ ap (drop (length v)) (drop-written w h) ∙ drop-drop (length v) (p + length w) b
+      ∙ ap (λ (k : ℕ). drop k b) (add-assoc p (length w) (length v) ∙ ap (λ (k : ℕ). p + k) (sym (length-append w v))) in
+      (λ i. take-written w h i ++ (v ++ e i)) ∙ simp append-assoc
+
+-- one number, and a list after it
+pub written-cons : (b : List ℕ) (p v : ℕ) (w : List ℕ) → p < length b → written (set b p v) (p + 1) w ≡ written b p (v ∷ w)
+written-cons b p v w h = ap (λ (l : List ℕ). written l (p + 1) w) (written-one b p v h) ∙ written-more b p (v ∷ []) w (omega arith)
+
+-- a list, and one number after it
+pub written-snoc : (b : List ℕ) (p : ℕ) (w : List ℕ) (q v : ℕ) → q ≡ p + length w → q < length b → set (written b p w) q v ≡ written b p (w ++ (v ∷ []))
+written-snoc b p w q v e h =
+    let l = length-written b p w (omega arith) in
+    written-one (written b p w) q v (omega arith) ∙ ap (λ (k : ℕ). written (written b p w) k (v ∷ [])) e ∙ written-more b p w (v ∷ []) (omega arith)
+
+-- the front of a buffer
+pub written-front : (d w : List ℕ) → written d 0 w ≡ fronted w d
+unfolding written
+written-front d w = ap (λ (k : ℕ). w ++ drop k d) (zero-add (length w))
+
+-- a list after what stands at the front
+pub fronted-more : (w v d : List ℕ) → length w + length v ≤ length d → written (fronted w d) (length w) v ≡ fronted (w ++ v) d
+fronted-more w v d h =
+    ap (λ (l : List ℕ). written l (length w) v) (sym (written-front d w))
+    ∙ ap (λ (k : ℕ). written (written d 0 w) k v) (sym (zero-add (length w)))
+    ∙ written-more d 0 w v (omega arith)
+    ∙ written-front d (w ++ v)
+
+pub length-fronted : (w d : List ℕ) → length w ≤ length d → length (fronted w d) ≡ length d
+length-fronted w d h = ap length (sym (written-front d w)) ∙ length-written d 0 w (omega arith)
