@@ -4,6 +4,7 @@
 The expected answers come from how each case is built (which faults were put in), and are held against a reader written here from
 document 01 alone. The gate does not need this script: it runs the program on the committed files."""
 import os
+import random
 
 ROOT = os.path.join(os.path.dirname(os.path.abspath(__file__)), "..", "crates", "bench_sheets")
 
@@ -188,6 +189,251 @@ longest = sheet([16] * 32, [(i, j, [65535 - (1 << a) for a in range(16)]) for i,
 assert len(longest) == 16904
 reading("the longest sheet", longest, (32, 496))
 reading("the longest sheet and a byte", longest + b"\0", 3)
+
+# ---- document 01's jobs, written here for the expected answers. A state is (set of items in, list of sets of settings on).
+
+
+class Problem:
+    def __init__(self, s):
+        self.n = s[5]
+        self.sizes = list(s[8:8 + self.n])
+        self.rows = {}
+        p = 8 + self.n
+        for _ in range(int.from_bytes(s[6:8], "big")):
+            i, j = s[p], s[p + 1]
+            p += 2
+            self.rows[i, j] = [int.from_bytes(s[p + 2 * a:p + 2 * a + 2], "big") for a in range(self.sizes[i])]
+            p += 2 * self.sizes[i]
+
+    def ok(self, i, a, j, b):
+        if i > j:
+            i, a, j, b = j, b, i, a
+        return (i, j) not in self.rows or bool(self.rows[i, j][a] >> b & 1)
+
+    def full(self):
+        return set(range(self.n)), [set(range(z)) for z in self.sizes]
+
+
+def covers(P, st, i, a, j, b, l):
+    return all(P.ok(i, a, l, c) for c in st[1][l] if P.ok(j, b, l, c))
+
+
+def others(st, *without):
+    return [l for l in sorted(st[0]) if l not in without]
+
+
+def snake_fix(P, st, i, v, j, w):
+    return [x for x in sorted(st[1][j]) if P.ok(i, v, j, x) and all(covers(P, st, j, x, j, w, l) for l in others(st, i, j))]
+
+
+def fold_fix(P, st, i, j, v):
+    return [u for u in sorted(st[1][i]) if P.ok(i, u, j, v) and all(covers(P, st, i, u, j, v, l) for l in others(st, i, j))]
+
+
+def inside(P, st, i, *values):
+    return i in st[0] and all(v in st[1][i] for v in values)
+
+
+def holds(P, st, r):
+    kind, i = r[0], r[1]
+    if kind == 1:
+        b, k = r[2], r[3]
+        return inside(P, st, i, b) and k in st[0] and k != i and not any(P.ok(i, b, k, c) for c in st[1][k])
+    if kind == 2:
+        v = r[2]
+        return inside(P, st, i, v) and all(P.ok(i, v, j, w) or snake_fix(P, st, i, v, j, w) for j in others(st, i) for w in st[1][j])
+    if kind == 3:
+        j = r[2]
+        return i in st[0] and j in st[0] and j != i and all(fold_fix(P, st, i, j, v) for v in st[1][j])
+    b, a = r[2], r[3]
+    if not inside(P, st, i, b, a) or a == b:
+        return False
+    if kind == 4:
+        return all(covers(P, st, i, a, i, b, l) for l in others(st, i))
+    return all(any(P.ok(i, a, k, e) and all(covers(P, st, k, e, k, d, l) for l in others(st, k)) for e in st[1][k])
+               for k in others(st, i) for d in st[1][k] if P.ok(i, b, k, d))
+
+
+def empty(st):
+    return any(not st[1][i] for i in st[0])
+
+
+def after(P, st, r):
+    on = [set(x) for x in st[1]]
+    i = r[1]
+    if r[0] in (2, 3):
+        on = [{w for w in x if any(P.ok(j, w, i, c) for c in st[1][i])} if j != i and j in st[0] else set() for j, x in enumerate(on)]
+        return st[0] - {i}, on
+    on[i].discard(r[2])
+    return set(st[0]), on
+
+
+def candidates(P):
+    n, z = range(P.n), P.sizes
+    yield from ((1, i, b, k) for i in n for b in range(z[i]) for k in n)
+    yield from ((2, i, v) for i in n for v in range(z[i]))
+    yield from ((3, i, j) for i in n for j in n)
+    yield from ((4, i, b, a) for i in n for b in range(z[i]) for a in range(z[i]))
+    yield from ((5, i, b, a) for i in n for b in range(z[i]) for a in range(z[i]))
+
+
+def run(P):
+    st, trace = P.full(), []
+    while not empty(st):
+        r = next((r for r in candidates(P) if holds(P, st, r)), None)
+        if r is None:
+            break
+        trace.append(r)
+        st = after(P, st, r)
+    return trace, st, 0 if empty(st) else 2 if st[0] else 1
+
+
+def trace_bytes(trace):
+    return b"\1" + b"".join(bytes([len(r)]) + bytes(r) for r in trace)
+
+
+def state_bytes(st):
+    on = [sum(1 << c for c in x) for x in st[1]] + [0] * (32 - len(st[1]))
+    return sum(1 << i for i in st[0]).to_bytes(4, "big") + b"".join(x.to_bytes(2, "big") for x in on)
+
+
+NO_STATE = bytes(68)
+
+
+def pattern(k):
+    return bytes((37 * x + 11) % 251 for x in range(k))
+
+
+def run_job(s, buffer):
+    got = read(s)
+    if isinstance(got, int):
+        return f"refused {got} {buffer.hex()}"
+    P = Problem(s)
+    if len(buffer) < 1 + 5 * sum(P.sizes):
+        return f"refused 10 {buffer.hex()}"
+    trace, st, end = run(P)
+    w = trace_bytes(trace)
+    return f"done {end} {len(trace)} {len(w)} {state_bytes(st).hex()} {(w + buffer[len(w):]).hex()}"
+
+
+def start_job(s):
+    got = read(s)
+    if isinstance(got, int):
+        return f"refused {got} {NO_STATE.hex()}"
+    P = Problem(s)
+    st = P.full()
+    while True:
+        on = [{a for a in x if all(any(P.ok(i, a, j, b) for b in st[1][j]) for j in range(P.n) if j != i)} for i, x in enumerate(st[1])]
+        if on == st[1]:
+            return f"started {state_bytes(st).hex()}"
+        st = st[0], on
+
+
+def hand_job(s, state, item):
+    got = read(s)
+    if isinstance(got, int):
+        return f"refused {got} {state.hex()}"
+    P = Problem(s)
+    bits = int.from_bytes(state[:4], "big")
+    on = [int.from_bytes(state[4 + 2 * i:6 + 2 * i], "big") for i in range(32)]
+    if bits >> P.n or any(on[i] and (not bits >> i & 1 or on[i] >> (P.sizes[i] if i < P.n else 0)) for i in range(32)):
+        return f"refused 11 {state.hex()}"
+    st = {i for i in range(P.n) if bits >> i & 1}, [{c for c in range(16) if on[i] >> c & 1} for i in range(P.n)]
+    if item not in st[0]:
+        return f"refused 12 {state.hex()}"
+    if empty(st):
+        return f"refused 13 {state.hex()}"
+    v = next((v for v in range(16) if holds(P, st, (2, item, v))), None)
+    if v is None:
+        return f"refused 14 {state.hex()}"
+    return f"taken {v} {state_bytes(after(P, st, (2, item, v))).hex()}"
+
+
+def put_back_job(s, trace, plan, out):
+    def refused(k):
+        return f"refused {k} {out.hex()}"
+
+    got = read(s)
+    if isinstance(got, int):
+        return refused(got)
+    P = Problem(s)
+    if len(plan) != P.n:
+        return refused(18)
+    if len(out) != P.n:
+        return refused(20)
+    if not trace or trace[0] != 1:
+        return refused(15)
+    st, p, done = P.full(), 1, []
+    while p < len(trace):
+        size = trace[p]
+        if p + 1 >= len(trace) or trace[p + 1] not in (1, 2, 3, 4, 5) or size != (3 if trace[p + 1] in (2, 3) else 4) or p + size >= len(trace):
+            return refused(16)
+        r = tuple(trace[p + 1:p + 1 + size])
+        if empty(st) or not holds(P, st, r):
+            return refused(17)
+        done.append((st, r))
+        st = after(P, st, r)
+        p += 1 + size
+    x = list(plan)
+    if any(x[i] != 255 for i in range(P.n) if i not in st[0]) or any(x[i] not in st[1][i] for i in st[0]):
+        return refused(19)
+    if any(not P.ok(i, x[i], j, x[j]) for i in st[0] for j in st[0] if i < j):
+        return refused(19)
+    for before, r in reversed(done):
+        if r[0] == 2:
+            i, v = r[1], r[2]
+            for j in others(before, i):
+                if not P.ok(i, v, j, x[j]):
+                    x[j] = snake_fix(P, before, i, v, j, x[j])[0]
+            x[i] = v
+        if r[0] == 3:
+            x[r[1]] = fold_fix(P, before, r[1], r[2], x[r[2]])[0]
+    assert all(P.ok(i, x[i], j, x[j]) for i in range(P.n) for j in range(i))
+    return f"done {bytes(x).hex()}"
+
+
+# ---- the run
+
+RUNS = {  # the traces that document 01 gives, byte for byte
+    "A": "0103020000", "B": "010302000003020100", "C": "01", "D": "010401000001",
+    "F": "0103020001" "03020100" "03020200", "G": "0103030300", "H": "010404000002",
+}
+
+
+def running(name, s, long):
+    case(name, "work", run_job(s, pattern(long)), long.to_bytes(2, "big"), s)
+
+
+for name, s in bench.items():
+    need = 1 + 5 * sum(s[8:8 + s[5]])
+    if name in RUNS:
+        assert trace_bytes(run(Problem(s))[0]).hex() == RUNS[name], name
+    running(f"run {name}, a longer buffer", s, need + 9)
+    running(f"run {name}, a buffer just long enough", s, need)
+    running(f"run {name}, a buffer one byte too short", s, need - 1)
+assert trace_bytes(run(Problem(bench["E"]))[0])[:5].hex() == "0103020000"
+running("run with no buffer", B, 0)
+running("run of a refused sheet with no buffer", B[:7], 0)
+running("run of a refused sheet", sheet([2, 2], [(0, 1, [4, 1])]), 40)
+
+rng = random.Random(20260917)
+
+
+def random_sheet(n, z, share, bar):
+    sizes = [rng.randint(1, z) for _ in range(n)]
+    blocks = []
+    for i in range(n):
+        for j in range(i + 1, n):
+            rows = [sum(1 << c for c in range(sizes[j]) if rng.random() >= bar) for _ in range(sizes[i])]
+            if rng.random() < share and any(r != (1 << sizes[j]) - 1 for r in rows):
+                blocks.append((i, j, rows))
+    return sheet(sizes, blocks)
+
+
+for k in range(40):
+    s = random_sheet(rng.randint(2, 5), 4, 0.8, rng.choice([0.2, 0.4, 0.6]))
+    running(f"random run {k}", s, 1 + 5 * sum(s[8:8 + s[5]]) + rng.randint(0, 3))
+
 
 with open(os.path.join(ROOT, "stdin"), "w") as f, open(os.path.join(ROOT, "stdout"), "w") as g:
     for name, job, fields, expected in cases:

@@ -1,8 +1,11 @@
 // Runs the bench cases: each line of standard input is a job and its input as hexadecimal digits, and each answer is one line.
 // A line that starts with # is passed over. What is written is compared with the file stdout.
+use jobs::ReduceOutcome;
+use jobs::Reduced;
 use libc::STDOUT_FILENO;
+use problem::Masks;
 use sheet::SheetRead;
-use sheet::SheetRefusal;
+ghost use mathlib.Core.Path.{_≡_};
 ghost use Prim.Native.Nat.{_+_, _*_, _<_, _≤_};
 ghost use lib.ListN.{length};
 ghost use Rattle.io.specs.Counts.{Counts};
@@ -89,6 +92,73 @@ fn show_read(s: &[u8]) {
     io::write_all(STDOUT_FILENO, b"\n");
 }
 
+// ---- hexadecimal output
+
+fn hex_digit(x: u8) -> u8
+    requires { ⌜ x < 16 ⌝ }
+{
+    if x < 10 { 48 + x } else { 87 + x }
+}
+
+fn show_byte(x: u8) {
+    let d = [hex_digit(x / 16), hex_digit(x % 16)];
+    io::write_all(STDOUT_FILENO, &d);
+}
+
+fn show_bytes(b: &[u8]) {
+    let mut k: usize = 0;
+    while k < b.len() {
+        show_byte(b[k]);
+        k += 1;
+    }
+}
+
+fn show_word(x: u16) {
+    show_byte((x / 256) as u8);
+    show_byte((x % 256) as u8);
+}
+
+// A state as 68 bytes: the active variables, then the domains, big-endian.
+fn show_masks(m: Masks) {
+    show_word((m.active / 65536) as u16);
+    show_word((m.active % 65536) as u16);
+    let d = m.domains;
+    let mut i: usize = 0;
+    while i < 32 {
+        show_word(d[i]);
+        i += 1;
+    }
+}
+
+fn words(w: &[u8], x: usize) {
+    io::write_all(STDOUT_FILENO, w);
+    number(x);
+}
+
+// ---- the jobs
+
+// Where the field after one of n bytes starts.
+fn next_field(text: &[u8], from: usize, n: usize) -> usize
+    requires { ⌜ from + 2 * n ≤ length (now text) ⌝ }
+    ensures { λ r. ⌜ r ≤ length (now (text .entry)) ⌝ }
+{
+    let at = from + 2 * n;
+    if at < text.len() { at + 1 } else { at }
+}
+
+// A buffer of a pattern, so that a byte that changes shows.
+fn pattern() -> [u8; 4096]
+    ensures { λ r. ⌜ 4096 ≡ length r ⌝ }
+{
+    let mut b = [0u8; 4096];
+    let mut k: usize = 0;
+    while k < 4096 {
+        b[k] = ((37 * k + 11) % 251) as u8;
+        k += 1;
+    }
+    b
+}
+
 // A line `read SHEET`.
 fn do_read(text: &[u8], from: usize)
     requires { ⌜ from ≤ length (now text) ⌝ }
@@ -98,15 +168,74 @@ fn do_read(text: &[u8], from: usize)
     show_read(&sheet[..n]);
 }
 
-// The line at a place: its first byte names the job.
+fn show_run(a: Reduced, b: &[u8]) {
+    let o = a.outcome;
+    match o {
+        ReduceOutcome::Refused(r) => {
+            words(b"refused ", jobs::reduce_number(r) as usize);
+        }
+        ReduceOutcome::Done {
+            end,
+            steps,
+            written,
+        } => {
+            words(b"done ", jobs::end_number(end) as usize);
+            words(b" ", steps);
+            words(b" ", written);
+            io::write_all(STDOUT_FILENO, b" ");
+            show_masks(a.state);
+        }
+    }
+    io::write_all(STDOUT_FILENO, b" ");
+    show_bytes(b);
+    io::write_all(STDOUT_FILENO, b"\n");
+}
+
+// The run of a sheet with the first bytes of a buffer.
+fn run_part(s: &[u8], b: &mut [u8], long: usize) {
+    if long <= b.len() {
+        let part = &mut b[..long];
+        let a = reduce::reduce(s, part);
+        show_run(a, part);
+    }
+}
+
+// The run of a sheet with a buffer of so many bytes.
+fn run_with(s: &[u8], long: usize) {
+    let mut b = pattern();
+    run_part(s, &mut b, long);
+}
+
+fn wide(x: u8) -> usize
+    ensures { λ r. ⌜ r < 256 ⌝ }
+{
+    x as usize
+}
+
+// A line `work LENGTH SHEET`: the run with a buffer of so many bytes, two bytes long.
+fn do_work(text: &[u8], from: usize)
+    requires { ⌜ from ≤ length (now text) ⌝ }
+{
+    let mut long = [0u8; 2];
+    let k = field(text, from, &mut long);
+    let at = next_field(text, from, k);
+    let mut sheet = [0u8; 20000];
+    let n = field(text, at, &mut sheet);
+    run_with(&sheet[..n], wide(long[0]) * 256 + wide(long[1]));
+}
+
+// The line at a place: its first byte names the job, and its input starts after four letters and a space.
 fn line(text: &[u8], from: usize)
     requires { ⌜ from < length (now text) ⌝ }
 {
-    if text.len() - from < 6 {
+    if text.len() - from < 5 {
         return;
     }
-    if text[from] == b'r' {
-        do_read(text, from + 5);
+    let c = text[from];
+    match c {
+        b'r' => do_read(text, from + 5),
+        b'w' => do_work(text, from + 5),
+        _ => {}
     }
 }
 

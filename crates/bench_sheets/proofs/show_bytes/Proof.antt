@@ -1,0 +1,50 @@
+-- `bench_sheets::show_bytes`: the place is within the bytes. Assumes nothing.
+use Prim.Native.Nat.{_≤_, _-_}
+use lib.ListN.{length}
+use borrow.Author.Needs.{needs}
+use Rattle.bench_sheets.proofs.show_bytes.Statement.{statement}
+use Rattle.bench_sheets.proofs.show_bytes.Tie as tie
+use Rattle.bench_sheets.proofs.show_bytes.Reads as reads
+use Rattle.bench_sheets.proofs.show_bytes.Lts as lts
+use Rattle.bench_sheets.proofs.show_byte.Reads as show-byte-reads
+
+abbrev Inv-loop : tie.InvT-loop
+Inv-loop b k₀ k = k ≤ length b
+
+abbrev μ-loop : tie.MeasureT-loop
+μ-loop b k₀ k = length b - k
+
+loop-holds : tie.Need-loop-holds Inv-loop μ-loop
+loop-holds c = search needs
+
+shared-slice-read-show-byte : tie.Need-shared-slice-read-show-byte Inv-loop μ-loop
+shared-slice-read-show-byte c = search needs
+
+show-byte-requires : tie.Need-show-byte-requires Inv-loop μ-loop
+show-byte-requires c κs = search needs
+
+add-k : tie.Need-add-k Inv-loop μ-loop
+add-k c = search needs
+
+loop-less : tie.Need-loop-less Inv-loop μ-loop
+loop-less c = search needs
+
+loop-again : tie.Need-loop-again Inv-loop μ-loop
+loop-again c = search needs
+
+returns : tie.Need-returns Inv-loop μ-loop
+returns c = search needs
+
+pub show-bytes-spec : {M : Type 1} → statement M
+show-bytes-spec =
+    tie.close
+    (tie.spec
+    Inv-loop
+    μ-loop
+    loop-holds
+    shared-slice-read-show-byte
+    show-byte-requires
+    add-k
+    loop-less
+    loop-again
+    returns)

@@ -1,0 +1,164 @@
+-- States of the problem that a table holds, as masks: what a step leads to, the first state, and the end. Assumes nothing.
+use mathlib.Core.Path.{_≡_, refl, sym, ap, _∙_, subst}
+use mathlib.Core.Bool.{Bool, true, false, not, _&&_, cond}
+use mathlib.Core.List.{List}
+use mathlib.Core.Logic.{_⊎_, inl, inr, ⊎-elim}
+use Prim.Native.Nat.{ℕ, _+_, _-_, _^_, _≤_, _<_}
+use native.Mathlib.Nat.{lt-irrefl}
+use native.Mathlib.Omega.{arith}
+use lib.Dec.{T, eqb, ltb}
+use lib.ListN.{getD}
+use lib.Pow.{pow-pos}
+use borrow.Author.Tests.{lt-ltb, le-ltb}
+use Rattle.bounded.specs.Bounded.{any, lowest}
+use Rattle.bounded.specs.Mask.{bit, maskOf}
+use Rattle.bounded.proofs.Truth.{T-ext, T-of, T-not, T-false, T-true, lt-dec, not-iff, eqb-iff, ltb-iff, and-iff}
+use Rattle.bounded.proofs.Bounded.{any-iff}
+use Rattle.bounded.proofs.Mask.{bit-high, bit-none, full-bit, mask-is, zero-bits}
+use Rattle.problem.specs.Problem.{Problem, State, full, noneEmpty, slideSpares}
+use Rattle.problem.specs.Reduce.{holds, lawful, after, endOf}
+use Rattle.problem.specs.Held.{held, heldSize, heldVariables, RowTable, Bounded}
+use Rattle.problem.specs.Masks.{stateOf, masksOf, Proper}
+use Rattle.problem.specs.declared.Masks.{Masks}
+use Rattle.problem.specs.declared.Record.{Record}
+use Rattle.problem.specs.declared.Record.the-variants.{Unsupported, Snake, Triangle, Neighbourhood, SnakeSubstitution}
+use Rattle.problem.specs.declared.End.{End}
+use Rattle.problem.specs.declared.End.the-variants.{Impossible, Solved, Rest}
+use Rattle.problem.proofs.Reflect.{Active, Live, Fits, full-fits, unsupported-iff, snake-iff, triangle-iff, neighbourhood-iff, snakeSubstitution-iff}
+use Rattle.problem.proofs.Trace.{after-fits}
+use Rattle.problem.proofs.Bridge.{state-back, masks-proper}
+use Rattle.problem.proofs.HeldTable.{held-few}
+use Rattle.rules.specs.Ready.{Ready, Value}
+use Rattle.rules.proofs.Laws.{live-value, active-32}
+use Rattle.reduce.specs.Steps.{Within}
+
+-- ---- the masks of a state that fits say the state
+
+-- the largest problem that the masks have room for; it allows nothing
+widest : Problem
+widest = record { n = 32; size = λ i. cond (ltb i 32) 16 0; allowed = λ i a j b. false; symmetric = λ i a j b. refl }
+
+widest-bounded : Bounded widest
+unfolding widest
+widest-bounded =
+    record {
+      few = omega arith;
+      some = λ i l. rw (lt-ltb i 32 l) (omega arith);
+      narrow = λ i. ⊎-elim (λ l. rw (lt-ltb i 32 l) (omega arith)) (λ l. rw (le-ltb i 32 l) (omega arith)) (lt-dec i 32);
+      none = λ i l. rw (le-ltb i 32 l);
+      listed = λ i a j b h. absurd h;
+    }
+
+module _ {t : List ℕ} (R : RowTable t) where
+  pub held-narrow : (i : ℕ) → (held t) .size i ≤ 16
+  unfolding held
+  held-narrow i = R .narrow i
+
+  pub state-held : {s : State} → Fits (held t) s → stateOf (masksOf s) ≡ s
+  unfolding widest
+  state-held {s} F =
+      state-back widest widest-bounded
+      record {
+        active-lt = λ i h. small i h;
+        live-active = F .live-active;
+        live-lt = sized;
+      }
+    where
+      small : (i : ℕ) → Active s i → i < 32
+      small i h = omega (arith, F .active-lt i h, held-few t)
+
+      sized : (i a : ℕ) → Live s i a → a < widest .size i
+      sized i a h = rw (lt-ltb i 32 (small i (F .live-active i a h))) (omega (arith, F .live-lt i a h, held-narrow i))
+
+  -- so every state that fits is one that the rule tests may read
+  pub ready-of : {s : State} → Fits (held t) s → Ready t (masksOf s)
+  ready-of {s} F = record { table = R; proper = masks-proper s; fits = subst (Fits (held t)) (sym (state-held F)) F }
+
+  pub full-ready : Ready t (masksOf (full (held t)))
+  full-ready = ready-of (full-fits (held t))
+
+-- ---- one step
+
+module _ {t : List ℕ} {m : Masks} (R : Ready t m) where
+  pub after-state : (r : Record) → stateOf (masksOf (after (held t) (stateOf m) r)) ≡ after (held t) (stateOf m) r
+  after-state r = state-held (R .table) (after-fits (held t) (R .fits) r)
+
+  pub after-ready : (r : Record) → Ready t (masksOf (after (held t) (stateOf m) r))
+  after-ready r = ready-of (R .table) (after-fits (held t) (R .fits) r)
+
+  live-within : (i a : ℕ) → Live (stateOf m) i a → (i < 32) × (a < 16)
+  live-within i a h = let v = live-value R i a h in (v .variable, v .value)
+
+  -- a record whose rule holds names variables and values of the table
+  pub holds-within : (r : Record) → T (holds (held t) (stateOf m) r) → Within r
+  unfolding holds
+  holds-within (Unsupported i b k) h = let x = unsupported-iff (R .fits) i b k .0 h in let y = live-within i b (x .0) in (y .0, (y .1, active-32 R k (x .1)))
+  holds-within (Snake i v) h = live-within i v (snake-iff (R .fits) i v .0 h .0)
+  holds-within (Triangle i j) h = let x = triangle-iff (R .fits) i j .0 h in (active-32 R i (x .0), active-32 R j (x .1 .0))
+  holds-within (Neighbourhood i b a) h = let x = neighbourhood-iff (R .fits) i b a .0 h in let y = live-within i b (x .0) in (y .0, (y .1, live-within i a (x .1 .0) .1))
+  holds-within (SnakeSubstitution i b a) h = let x = snakeSubstitution-iff (R .fits) slideSpares i b a .0 h in let y = live-within i b (x .0) in (y .0, (y .1, live-within i a (x .1 .0) .1))
+
+  -- ---- the end
+
+  -- some variable is active where the mask is not 0
+  pub some-active : not (eqb (m .active) 0) ≡ any ((held t) .n) (stateOf m .active)
+  unfolding stateOf
+  some-active =
+      T-ext (
+        λ h. let x = any-iff 32 (bit (m .active)) .0 (T-true' h) in any-iff ((held t) .n) _ .1 (x .0, R .fits .active-lt (x .0) (x .2), x .2),
+        λ h. let x = any-iff ((held t) .n) _ .0 h in not-iff (eqb (m .active) 0) .1 (λ e. T-not (zero-bit (x .0) (eqb-iff (m .active) 0 .0 e)) (x .2)),
+      )
+    where
+      zero-bit : (i : ℕ) → m .active ≡ 0 → bit (m .active) i ≡ false
+      zero-bit i e = ap (λ (x : ℕ). bit x i) e ∙ bit-none i
+
+      T-true' : T (not (eqb (m .active) 0)) → T (any 32 (bit (m .active)))
+      T-true' h = go (any 32 (bit (m .active))) (subst (λ (b : Bool). T (not b)) (zero-bits 32 (m .active) (R .proper .active-lt)) h)
+        where
+          go : (b : Bool) → T (not (not b)) → T b
+          go true k = tt
+          go false k = absurd k
+
+pub end-impossible : (P : Problem) (s : State) → noneEmpty P s ≡ false → endOf P s ≡ Impossible
+unfolding endOf
+end-impossible P s e = rw (e, endOf)
+
+pub end-rest : (P : Problem) (s : State) → noneEmpty P s ≡ true → any (P .n) (s .active) ≡ true → endOf P s ≡ Rest
+unfolding endOf
+end-rest P s e f = rw (e, f, endOf)
+
+pub end-solved : (P : Problem) (s : State) → noneEmpty P s ≡ true → any (P .n) (s .active) ≡ false → endOf P s ≡ Solved
+unfolding endOf
+end-solved P s e f = rw (e, f, endOf)
+
+-- ---- the first state
+
+-- the set of the numbers below z
+pub below-mask : (n z : ℕ) → z ≤ n → 2 ^ z ≤ 2 ^ n → 2 ^ z - 1 ≡ maskOf n (λ c. ltb c z)
+below-mask n z l p = mask-is n (2 ^ z - 1) (λ c. ltb c z) (omega (arith, pow-pos z)) (λ c k. go c (lt-dec c z))
+  where
+    go : (c : ℕ) → (c < z) ⊎ (z ≤ c) → bit (2 ^ z - 1) c ≡ ltb c z
+    go c (inl h) = full-bit z c h ∙ sym (lt-ltb c z h)
+    go c (inr h) = bit-high z (2 ^ z - 1) c (omega (arith, pow-pos z)) h ∙ sym (le-ltb c z h)
+
+-- a domain of the first state
+pub full-domain : (P : Problem) (i : ℕ) → i < P .n → maskOf 16 (λ c. ltb c (P .size i)) ≡ maskOf 16 (full P .live i)
+unfolding full
+full-domain P i l = ap (λ (x : Bool). maskOf 16 (λ c. x && ltb c (P .size i))) (sym (lt-ltb i (P .n) l))
+
+pub full-outside : (P : Problem) (i : ℕ) → P .n ≤ i → 0 ≡ maskOf 16 (full P .live i)
+unfolding full
+full-outside P i l = mask-is 16 0 (full P .live i) (omega arith) (λ c k. bit-none c ∙ sym (rw (le-ltb i (P .n) l)))
+
+pub full-active : (P : Problem) → maskOf 32 (λ c. ltb c (P .n)) ≡ maskOf 32 (full P .active)
+unfolding full
+full-active P = refl
+
+-- what a table says of a size
+pub size-entry : (t : List ℕ) (i : ℕ) → i < 32 → (held t) .size i ≡ getD t i 0
+unfolding held heldSize
+size-entry t i l = rw (lt-ltb i 32 l)
+
+pub variables-are : (t : List ℕ) → (held t) .n ≡ lowest 32 (λ i. eqb ((held t) .size i) 0)
+unfolding held heldVariables
+variables-are t = refl

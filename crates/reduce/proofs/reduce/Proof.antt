@@ -1,0 +1,49 @@
+-- `reduce::reduce`. Assumes nothing.
+use mathlib.Core.Path.{_≡_, refl, ap, sym, _∙_}
+use Rattle.sheet.specs.Sheet.{layout}
+use Rattle.sheet.proofs.Accepted.{keeps}
+use Rattle.jobs.specs.Run.{RunResult}
+use Rattle.jobs.proofs.Worked.{run-sheet-refused}
+use borrow.Author.Needs.{needs}
+use Rattle.reduce.proofs.reduce.Statement.{statement}
+use Rattle.reduce.proofs.reduce.Tie as tie
+
+read-sheet-requires : tie.Need-read-sheet-requires
+read-sheet-requires c κs = search needs
+
+enum-known-r : tie.Need-enum-known-r
+enum-known-r c = search needs
+
+refused-requires : tie.Need-refused-requires
+refused-requires c κs = search needs
+
+enum-told : tie.Need-enum-told
+enum-told c = search needs
+
+run-read-requires : tie.Need-run-read-requires
+run-read-requires c κs = keeps layout (c .before .before .before .before .before .before .args .s .now) _ _ (sym (c .before .before .before .read-sheet .ensures) ∙ c .before .enum-told .given .1)
+
+returns : tie.Need-returns
+returns c =
+    let a = c .before .before .before .before .before .before .before .args in
+    let q = run-sheet-refused (a .s .now) (a .b .now) _ (sym (c .before .before .before .before .read-sheet .ensures) ∙ c .before .before .r .given .1) in
+    (c .refused .ensures ∙ ap (λ (x : RunResult). x .answer) (sym q), ap (λ (x : RunResult). x .buffer) (sym q))
+
+same-length : tie.Need-same-length
+same-length c = search needs
+
+returns-2 : tie.Need-returns-2
+returns-2 c = search needs
+
+pub reduce-spec : {M : Type 1} → statement M
+reduce-spec =
+    tie.close
+    (tie.spec
+    read-sheet-requires
+    enum-known-r
+    refused-requires
+    enum-told
+    run-read-requires
+    returns
+    same-length
+    returns-2)

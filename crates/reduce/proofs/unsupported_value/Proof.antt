@@ -1,0 +1,39 @@
+-- `reduce::unsupported_value`: a loop over the last field, for a value that is in its domain. Assumes nothing.
+use Prim.Native.Nat.{_≤_, _-_}
+use mathlib.Core.Path.{_≡_, refl, sym, _∙_}
+use native.Mathlib.Omega.{arith}
+use borrow.Author.Needs.{needs}
+use borrow.Author.Tests.{not-true}
+use Rattle.problem.specs.Problem.{unsupported}
+use Rattle.problem.specs.Reduce.{when, first}
+use Rattle.problem.specs.Held.{held}
+use Rattle.problem.specs.Masks.{stateOf}
+use Rattle.problem.specs.declared.Next.the-variants.{Nothing}
+use Rattle.problem.specs.declared.Record.the-variants.{Unsupported}
+use Rattle.reduce.specs.Search.{unsupportedValue}
+use Rattle.reduce.proofs.Search.{when-on, when-off, first-none, first-more, first-hit, first-end, unsupported-value-off}
+use Rattle.reduce.proofs.unsupported_value.Statement.{statement}
+use Rattle.reduce.proofs.unsupported_value.Tie as tie
+
+abbrev Inv-loop : tie.InvT-loop
+Inv-loop t i b m k₀ k = (k ≤ 32) × (first k (λ k. when (unsupported (held t) (stateOf m) i b k) (Unsupported i b k)) ≡ Nothing)
+
+abbrev μ-loop : tie.MeasureT-loop
+μ-loop t i b m k₀ k = 32 - k
+
+pub unsupported-value-spec : {M : Type 1} → statement M
+unfolding unsupportedValue
+unsupported-value-spec =
+    tie.close
+    (tie.spec Inv-loop μ-loop
+    (λ c. search needs)
+    (λ c. search needs)
+    (λ c κs. search needs)
+    (λ c. sym (unsupported-value-off (c .before .before .before .before .pre .0) _ _ (sym (c .before .has16 .ensures) ∙ not-true _ (c .if1 .taken))))
+    (λ c. (search needs, first-none _))
+    (λ c κs. search needs)
+    (λ c. sym (first-hit _ 32 _ _ (c .before .before .loop-test .taken) (c .before .before .before .loop .inv .1) (when-on _ _ (sym (c .before .unsupported .ensures) ∙ c .if2 .taken)) refl))
+    (λ c. omega arith)
+    (λ c. omega arith)
+    (λ c. (omega arith, first-more _ _ (c .before .before .before .loop .inv .1) (when-off _ _ (sym (c .before .unsupported .ensures) ∙ c .if2 .left))))
+    (λ c. sym (first-end _ 32 _ (omega arith) (c .before .loop .inv .1))))
