@@ -435,6 +435,76 @@ for k in range(40):
     running(f"random run {k}", s, 1 + 5 * sum(s[8:8 + s[5]]) + rng.randint(0, 3))
 
 
+# ---- taking out by hand
+
+
+def starting(name, s):
+    case(name, "star", start_job(s), s)
+    return bytes.fromhex(start_job(s).split()[-1])
+
+
+def hand(name, s, state, item, expected=None):
+    answer = hand_job(s, state, item)
+    assert expected is None or answer.startswith(expected), (name, answer)
+    case(name, "hand", answer, item.to_bytes(8, "big"), state, s)
+    return bytes.fromhex(answer.split()[-1])
+
+
+for name, s in bench.items():
+    starting(f"start of {name}", s)
+starting("start of a refused sheet", B[:7])
+starting("one emptied item empties all", sheet([2, 1, 1], [(1, 2, [0])]))
+lone = sheet([1, 2], [(0, 1, [1])])
+starting("start that crosses a setting off", lone)
+C0 = starting("start of C", C)
+hand("C by hand, item 0", C, C0, 0, "refused 14")
+hand("C by hand, item 3", C, C0, 3, "refused 12")
+for item in (31, 32, 255, 65536, 1 << 32, (1 << 32) + 1, (1 << 64) - 1):
+    hand(f"C by hand, item {item}", C, C0, item, "refused 12")
+D0 = starting("start of D", bench["D"])
+hand("D from the start", bench["D"], D0, 0, "refused 13")
+full_lone = state_bytes(Problem(lone).full())
+hand("item 0 leaves only setting 0 on at item 1", lone, full_lone, 0, "taken 0")
+F0 = starting("start of F", bench["F"])
+hand("F, item 0 goes with setting 1", bench["F"], F0, 0, "taken 1")
+# every cause of 11: an item in not below n, an item out with a setting on, a setting on not below its size; and 11 before 12
+def with_bits(state, active=None, domain=None):
+    b = bytearray(state)
+    if active is not None:
+        b[:4] = active.to_bytes(4, "big")
+    if domain is not None:
+        b[4 + 2 * domain[0]:6 + 2 * domain[0]] = domain[1].to_bytes(2, "big")
+    return bytes(b)
+
+
+hand("11: item 3 in", C, with_bits(C0, active=15), 0, "refused 11")
+hand("11: item 31 in", C, with_bits(C0, active=7 + (1 << 31)), 9, "refused 11")
+hand("11: item 2 out with settings on", C, with_bits(C0, active=3), 9, "refused 11")
+hand("11: item 5 has a setting on", C, with_bits(C0, domain=(5, 1)), 0, "refused 11")
+hand("11: setting 2 on at item 1", C, with_bits(C0, domain=(1, 7)), 0, "refused 11")
+hand("11: setting 15 on at item 0", C, with_bits(C0, domain=(0, 0x8003)), 0, "refused 11")
+hand("11 before 13", C, with_bits(C0, active=15, domain=(0, 0)), 0, "refused 11")
+hand("12 before 13", C, with_bits(C0, domain=(0, 0)), 7, "refused 12")
+hand("13 at another item than the named", C, with_bits(C0, domain=(2, 0)), 0, "refused 13")
+hand("a refused start's state", C, NO_STATE, 0, "refused 12")
+hand("a refused sheet first", B[:7], C0, 0, "refused 1")
+
+# lists of calls in several orders end alike once they are finished: as many rounds as there are items finish
+def orders(name, s, lists):
+    ends = set()
+    for order in lists:
+        state = bytes.fromhex(start_job(s).split()[-1])
+        for item in order * s[5]:
+            state = hand(f"{name} by hand, {order}, item {item}", s, state, item)
+        ends.add(state)
+    assert len(ends) == 1, name
+
+
+orders("E", bench["E"], ([0, 1, 2, 3], [3, 2, 1, 0], [2, 0, 0, 9, 3, 1]))
+orders("F", bench["F"], ([0, 1, 2], [2, 1, 0]))
+for k in range(8):
+    orders(f"random {k}", random_sheet(4, 3, 0.7, 0.3), ([0, 1, 2, 3], [3, 2, 1, 0]))
+
 with open(os.path.join(ROOT, "stdin"), "w") as f, open(os.path.join(ROOT, "stdout"), "w") as g:
     for name, job, fields, expected in cases:
         f.write(f"# {name}\n{job} {' '.join(fields)}\n")

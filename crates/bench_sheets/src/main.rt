@@ -1,7 +1,12 @@
 // Runs the bench cases: each line of standard input is a job and its input as hexadecimal digits, and each answer is one line.
 // A line that starts with # is passed over. What is written is compared with the file stdout.
+use jobs::CallAnswer;
+use jobs::CallOutcome;
+use jobs::ManualState;
 use jobs::ReduceOutcome;
 use jobs::Reduced;
+use jobs::StartAnswer;
+use jobs::StartOutcome;
 use libc::STDOUT_FILENO;
 use problem::Masks;
 use sheet::SheetRead;
@@ -224,6 +229,93 @@ fn do_work(text: &[u8], from: usize)
     run_with(&sheet[..n], wide(long[0]) * 256 + wide(long[1]));
 }
 
+fn show_start(a: StartAnswer) {
+    let o = a.outcome;
+    match o {
+        StartOutcome::Refused(r) => {
+            words(b"refused ", sheet::sheet_number(r) as usize);
+        }
+        StartOutcome::Started => {
+            io::write_all(STDOUT_FILENO, b"started");
+        }
+    }
+    io::write_all(STDOUT_FILENO, b" ");
+    show_masks(a.state.masks);
+    io::write_all(STDOUT_FILENO, b"\n");
+}
+
+// A line `star SHEET`: the start.
+fn do_start(text: &[u8], from: usize)
+    requires { ⌜ from ≤ length (now text) ⌝ }
+{
+    let mut sheet = [0u8; 20000];
+    let n = field(text, from, &mut sheet);
+    show_start(manual::start(&sheet[..n]));
+}
+
+// The number of two bytes.
+fn word(hi: u8, lo: u8) -> u16 {
+    (wide(hi) * 256 + wide(lo)) as u16
+}
+
+fn long(hi: u16, lo: u16) -> u32 {
+    hi as u32 * 65536 + lo as u32
+}
+
+fn longer(hi: u32, lo: u32) -> u64 {
+    hi as u64 * 4294967296 + lo as u64
+}
+
+// The number of eight bytes.
+fn item_of(b: [u8; 8]) -> u64 {
+    let hi = long(word(b[0], b[1]), word(b[2], b[3]));
+    let lo = long(word(b[4], b[5]), word(b[6], b[7]));
+    longer(hi, lo)
+}
+
+// The masks of a state's 68 bytes.
+fn masks_of(b: [u8; 68]) -> Masks {
+    let mut m = problem::empty_masks();
+    m.active = long(word(b[0], b[1]), word(b[2], b[3]));
+    let mut i: usize = 0;
+    while i < 32 {
+        m.domains[i] = word(b[4 + 2 * i], b[5 + 2 * i]);
+        i += 1;
+    }
+    m
+}
+
+fn show_call(a: CallAnswer) {
+    let o = a.outcome;
+    match o {
+        CallOutcome::Refused(r) => {
+            words(b"refused ", jobs::manual_number(r) as usize);
+        }
+        CallOutcome::Eliminated(v) => {
+            words(b"taken ", v);
+        }
+    }
+    io::write_all(STDOUT_FILENO, b" ");
+    show_masks(a.state.masks);
+    io::write_all(STDOUT_FILENO, b"\n");
+}
+
+// A line `hand ITEM STATE SHEET`: the item as eight bytes, the state as 68.
+fn do_hand(text: &[u8], from: usize)
+    requires { ⌜ from ≤ length (now text) ⌝ }
+{
+    let mut item = [0u8; 8];
+    let k = field(text, from, &mut item);
+    let at = next_field(text, from, k);
+    let mut state = [0u8; 68];
+    let j = field(text, at, &mut state);
+    let p = next_field(text, at, j);
+    let mut sheet = [0u8; 20000];
+    let n = field(text, p, &mut sheet);
+    let masks = masks_of(state);
+    show_call(manual::hand_call(&sheet[..n], ManualState { masks }, item_of(item)));
+}
+
 // The line at a place: its first byte names the job, and its input starts after four letters and a space.
 fn line(text: &[u8], from: usize)
     requires { ⌜ from < length (now text) ⌝ }
@@ -235,6 +327,8 @@ fn line(text: &[u8], from: usize)
     match c {
         b'r' => do_read(text, from + 5),
         b'w' => do_work(text, from + 5),
+        b's' => do_start(text, from + 5),
+        b'h' => do_hand(text, from + 5),
         _ => {}
     }
 }

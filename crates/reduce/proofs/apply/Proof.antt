@@ -2,6 +2,7 @@
 use mathlib.Core.Path.{_≡_, subst}
 use Rattle.problem.specs.Reduce.{after}
 use Rattle.reduce.specs.Steps.{Within}
+use native.Mathlib.Omega.{arith}
 use borrow.Author.Needs.{needs}
 use Rattle.reduce.proofs.apply.Statement.{statement}
 use Rattle.reduce.proofs.apply.Tie as tie
@@ -10,31 +11,31 @@ enum-known-r : tie.Need-enum-known-r
 enum-known-r c = search needs
 
 remove-requires : tie.Need-remove-requires
-remove-requires c κs = let q = c .before .before .before .before .pre in let w = subst Within (c .before .r .given .1) (q .1) in (q .0, w .0, w .1 .0)
+remove-requires c κs = let q = c .before .before .before .before .pre in let w = subst Within (c .before .r .given .1) (q .1) in (q .0, omega arith, omega arith)
 
 enum-known-r-2 : tie.Need-enum-known-r-2
 enum-known-r-2 c = search needs
 
 eliminate-requires : tie.Need-eliminate-requires
-eliminate-requires c κs = let q = c .before .before .before .before .pre in let w = subst Within (c .before .r2 .given .1) (q .1) in (q .0, w .0)
+eliminate-requires c κs = let q = c .before .before .before .before .pre in let w = subst Within (c .before .r2 .given .1) (q .1) in (q .0, omega arith)
 
 enum-known-r-3 : tie.Need-enum-known-r-3
 enum-known-r-3 c = search needs
 
 eliminate-requires-2 : tie.Need-eliminate-requires-2
-eliminate-requires-2 c κs = let q = c .before .before .before .before .pre in let w = subst Within (c .before .r3 .given .1) (q .1) in (q .0, w .0)
+eliminate-requires-2 c κs = let q = c .before .before .before .before .pre in let w = subst Within (c .before .r3 .given .1) (q .1) in (q .0, omega arith)
 
 enum-known-r-4 : tie.Need-enum-known-r-4
 enum-known-r-4 c = search needs
 
 remove-requires-2 : tie.Need-remove-requires-2
-remove-requires-2 c κs = let q = c .before .before .before .before .pre in let w = subst Within (c .before .r4 .given .1) (q .1) in (q .0, w .0, w .1 .0)
+remove-requires-2 c κs = let q = c .before .before .before .before .pre in let w = subst Within (c .before .r4 .given .1) (q .1) in (q .0, omega arith, omega arith)
 
 enum-known-r-5 : tie.Need-enum-known-r-5
 enum-known-r-5 c = search needs
 
 remove-requires-3 : tie.Need-remove-requires-3
-remove-requires-3 c κs = let q = c .before .before .before .before .pre in let w = subst Within (c .before .r5 .given .1) (q .1) in (q .0, w .0, w .1 .0)
+remove-requires-3 c κs = let q = c .before .before .before .before .pre in let w = subst Within (c .before .r5 .given .1) (q .1) in (q .0, omega arith, omega arith)
 
 returns : tie.Need-returns
 unfolding after

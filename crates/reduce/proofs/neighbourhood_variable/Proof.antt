@@ -29,7 +29,7 @@ neighbourhood-variable-spec =
     (λ c. (search needs, first-none _))
     (λ c κs. search needs)
     (λ c κs. search needs)
-    (λ c. sym (first-hit _ 16 _ _ (c .before .before .before .loop-test .taken) (c .before .before .before .before .loop .inv .1) (sym (c .before .before .neighbourhood-value .ensures)) (sym (c .before .is-step .ensures) ∙ c .if2 .taken)))
+    (λ c. sym (first-hit _ 16 _ _ (omega arith) (c .before .before .before .before .loop .inv .1) (sym (c .before .before .neighbourhood-value .ensures)) (sym (c .before .is-step .ensures) ∙ c .if2 .taken)))
     (λ c. omega arith)
     (λ c. omega arith)
     (λ c. (omega arith, first-more _ _ (c .before .before .before .before .loop .inv .1) (sym (c .before .before .neighbourhood-value .ensures) ∙ nothing-is _ (sym (c .before .is-step .ensures) ∙ c .if2 .left))))

@@ -25,7 +25,7 @@ next-snake-spec =
     (λ c. (search needs, first-none _))
     (λ c κs. search needs)
     (λ c κs. search needs)
-    (λ c. sym (sym (snake-first (c .before .before .before .before .before .before .pre)) ∙ first-hit _ 32 _ _ (c .before .before .before .loop-test .taken) (c .before .before .before .before .loop .inv .1) (sym (c .before .before .snake-variable .ensures)) (sym (c .before .is-step .ensures) ∙ c .if1 .taken)))
+    (λ c. sym (sym (snake-first (c .before .before .before .before .before .before .pre)) ∙ first-hit _ 32 _ _ (omega arith) (c .before .before .before .before .loop .inv .1) (sym (c .before .before .snake-variable .ensures)) (sym (c .before .is-step .ensures) ∙ c .if1 .taken)))
     (λ c. omega arith)
     (λ c. omega arith)
     (λ c. (omega arith, first-more _ _ (c .before .before .before .before .loop .inv .1) (sym (c .before .before .snake-variable .ensures) ∙ nothing-is _ (sym (c .before .is-step .ensures) ∙ c .if1 .left))))

@@ -29,7 +29,7 @@ next-step-spec =
     (λ c κs. search needs)
     (λ c. let w = c .before .before .before .before in
     sym (next-open _ _ (sym (w .before .before .none-empty .ensures) ∙ not-false _ (w .before .if1 .left))
-    ∙ first-hit _ 6 _ _ (c .before .before .before .loop-test .taken) (w .loop .inv .2) (sym (c .before .before .next-of-kind .ensures)) (sym (c .before .is-step .ensures) ∙ c .if2 .taken)))
+    ∙ first-hit _ 6 _ _ (omega arith) (w .loop .inv .2) (sym (c .before .before .next-of-kind .ensures)) (sym (c .before .is-step .ensures) ∙ c .if2 .taken)))
     (λ c. omega arith)
     (λ c. omega arith)
     (λ c. (omega arith, omega arith, first-more _ _ (c .before .before .before .before .loop .inv .2) (sym (c .before .before .next-of-kind .ensures) ∙ nothing-is _ (sym (c .before .is-step .ensures) ∙ c .if2 .left))))

@@ -30,7 +30,7 @@ triangle-variable-spec =
     (λ c. sym (triangle-variable-off (c .before .before .before .pre .0) _ (sym (c .before .has32 .ensures) ∙ not-true _ (c .if1 .taken))))
     (λ c. (search needs, first-none _))
     (λ c κs. search needs)
-    (λ c. sym (first-hit _ 32 _ _ (c .before .before .loop-test .taken) (c .before .before .before .loop .inv .1) (when-on _ _ (sym (c .before .triangle .ensures) ∙ c .if2 .taken)) refl))
+    (λ c. sym (first-hit _ 32 _ _ (omega arith) (c .before .before .before .loop .inv .1) (when-on _ _ (sym (c .before .triangle .ensures) ∙ c .if2 .taken)) refl))
     (λ c. omega arith)
     (λ c. omega arith)
     (λ c. (omega arith, first-more _ _ (c .before .before .before .loop .inv .1) (when-off _ _ (sym (c .before .triangle .ensures) ∙ c .if2 .left))))

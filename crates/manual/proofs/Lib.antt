@@ -1,0 +1,3 @@
+pub mod Laws
+pub mod Sweeps
+pub mod Calls

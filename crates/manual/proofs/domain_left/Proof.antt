@@ -1,0 +1,67 @@
+-- `manual::domain_left`: the bits so far are the set so far. Assumes nothing.
+use mathlib.Core.Path.{_≡_, sym, ap, _∙_}
+use mathlib.Core.Bool.{Bool, cond}
+use Prim.Native.Nat.{ℕ, _+_, _-_, _^_, _≤_, _<_}
+use lib.Pow.{pow-mono}
+use Rattle.bounded.specs.Mask.{maskOf}
+use Rattle.bounded.proofs.Mask.{mask-none, mask-more, mask-lt}
+use Rattle.problem.specs.Manual.{prune}
+use Rattle.problem.specs.Held.{held}
+use Rattle.problem.specs.Masks.{stateOf}
+use Rattle.manual.specs.Parts.{domainLeft}
+use borrow.Author.Needs.{needs}
+use native.Mathlib.Omega.{arith}
+use Rattle.manual.proofs.domain_left.Statement.{statement}
+use Rattle.manual.proofs.domain_left.Tie as tie
+
+abbrev Inv-loop : tie.InvT-loop
+Inv-loop t m i x₀ a₀ x a = (a ≤ 16) × (x ≡ maskOf a (prune (held t) (stateOf m) .live i))
+
+abbrev μ-loop : tie.MeasureT-loop
+μ-loop t m i x₀ a₀ x a = 16 - a
+
+-- one bit more
+next : (f : ℕ → Bool) (x a w : ℕ) (b : Bool) → x ≡ maskOf a f → w ≡ cond b (2 ^ a) 0 → b ≡ f a → x + w ≡ maskOf (a + 1) f
+next f x a w b e h g = ap (λ (y : ℕ). y + w) e ∙ ap (λ (y : ℕ). maskOf a f + y) (h ∙ ap (λ (t : Bool). cond t (2 ^ a) 0) g) ∙ sym (mask-more a f)
+
+small : (f : ℕ → Bool) (x a : ℕ) → a < 16 → x ≡ maskOf (a + 1) f → x < 2 ^ 16
+small f x a l e =
+    let q : 2 ^ (a + 1) ≤ 2 ^ 16 = pow-mono {j = 16} (omega arith) in
+    omega (arith, mask-lt (a + 1) f)
+
+loop-holds : tie.Need-loop-holds Inv-loop μ-loop
+loop-holds c = (search needs, mask-none _)
+
+stays-requires : tie.Need-stays-requires Inv-loop μ-loop
+stays-requires c κs = search needs
+
+weight-requires : tie.Need-weight-requires Inv-loop μ-loop
+weight-requires c κs = search needs
+
+add-x : tie.Need-add-x Inv-loop μ-loop
+add-x c =
+    let w = c .before .before .before .loop in
+    let e = next _ _ (w .a) _ _ (w .inv .1) (c .weight .ensures) (c .before .stays .ensures) in
+    let q = small _ _ (w .a) (omega arith) e in
+    search needs
+
+add-a : tie.Need-add-a Inv-loop μ-loop
+add-a c = search needs
+
+loop-less : tie.Need-loop-less Inv-loop μ-loop
+loop-less c = search needs
+
+loop-again : tie.Need-loop-again Inv-loop μ-loop
+loop-again c =
+    let w = c .before .before .before .loop in
+    (omega arith, next _ _ (w .a) _ _ (w .inv .1) (c .weight .ensures) (c .before .stays .ensures))
+
+returns : tie.Need-returns Inv-loop μ-loop
+unfolding domainLeft
+returns c =
+    let w = c .before .loop in
+    let e : w .a ≡ 16 = omega arith in
+    w .inv .1 ∙ rw e
+
+pub domain-left-spec : {M : Type 1} → statement M
+domain-left-spec = tie.close (tie.spec Inv-loop μ-loop loop-holds stays-requires weight-requires add-x add-a loop-less loop-again returns)

@@ -1,0 +1,60 @@
+-- `manual::fits_at`. Assumes nothing.
+use mathlib.Core.Path.{_≡_, sym, ap, _∙_}
+use mathlib.Core.Bool.{Bool, _&&_}
+use Prim.Native.Nat.{ℕ}
+use mir.Val.{Fits}
+use mir.Syntax.{w16}
+use denote.Ref.{now}
+use lib.Dec.{ltb}
+use lib.ListN.{getD}
+use Rattle.bounded.specs.Bounded.{imp, all}
+use Rattle.bounded.specs.Mask.{bit}
+use Rattle.problem.specs.Held.{held}
+use Rattle.manual.proofs.Laws.{size-narrow, fits-active, fits-idle}
+use borrow.Author.Needs.{needs}
+use native.Mathlib.Omega.{arith}
+use Rattle.manual.proofs.fits_at.Statement.{statement}
+use Rattle.manual.proofs.fits_at.Tie as tie
+
+mul-domain : tie.Need-mul-domain
+mul-domain c = search needs
+
+element-copy-out-domain : tie.Need-element-copy-out-domain
+element-copy-out-domain c = search needs
+
+has32-requires : tie.Need-has32-requires
+has32-requires c κs = search needs
+
+size-requires : tie.Need-size-requires
+size-requires c κs = search needs
+
+below-requires : tie.Need-below-requires
+below-requires c κs = omega (arith, c .size .ensures, size-narrow (c .before .before .before .before .before .pre .0) (c .before .before .before .before .before .args .i))
+
+returns : tie.Need-returns
+returns c =
+    let a = c .before .before .before .before .before .before .args in
+    let p = c .before .before .before .before .before .before .pre in
+    let e = c .below .ensures ∙ ap (λ (z : ℕ). all 16 (λ v. imp (bit (getD (a .t2 .domains) (a .i) 0) v) (ltb v z))) (c .before .size .ensures) in
+    let P = held (now (a .t)) in
+    ap (λ (n : ℕ). ltb (a .i) n && c .below .result) (p .1)
+    ∙ ap (λ (b : Bool). ltb (a .i) (P .n) && b) e
+    ∙ fits-active P (a .t2) (a .i) (sym (c .before .before .before .has32 .ensures) ∙ c .before .before .if1 .taken)
+
+returns-2 : tie.Need-returns-2
+returns-2 c =
+    let a = c .before .before .before .before .args in
+    let l : Fits w16 (getD (a .t2 .domains) (a .i) 0) = search needs in
+    fits-idle _ (a .t2) (a .i) (l .fits) (sym (c .before .has32 .ensures) ∙ c .if1 .left)
+
+pub fits-at-spec : {M : Type 1} → statement M
+fits-at-spec =
+    tie.close
+    (tie.spec
+    mul-domain
+    element-copy-out-domain
+    has32-requires
+    size-requires
+    below-requires
+    returns
+    returns-2)

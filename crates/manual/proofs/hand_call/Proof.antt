@@ -1,0 +1,43 @@
+-- `manual::hand_call`: what reading the sheet finds. Assumes nothing.
+use mathlib.Core.Path.{_≡_, sym, _∙_}
+use denote.Ref.{now}
+use Rattle.sheet.specs.Sheet.{layout}
+use Rattle.sheet.proofs.Accepted.{keeps}
+use Rattle.manual.proofs.Calls.{call-refused, call-accepted}
+use borrow.Author.Needs.{needs}
+use native.Mathlib.Omega.{arith}
+use Rattle.manual.proofs.hand_call.Statement.{statement}
+use Rattle.manual.proofs.hand_call.Tie as tie
+
+read-sheet-requires : tie.Need-read-sheet-requires
+read-sheet-requires c κs = search needs
+
+enum-known-read : tie.Need-enum-known-read
+enum-known-read c = search needs
+
+refused-call-requires : tie.Need-refused-call-requires
+refused-call-requires c κs = search needs
+
+enum-known-read-2 : tie.Need-enum-known-read-2
+enum-known-read-2 c = search needs
+
+called-requires : tie.Need-called-requires
+called-requires c κs = keeps layout _ _ _ (sym (c .before .before .before .read-sheet .ensures) ∙ c .before .read2 .given .1)
+
+returns : tie.Need-returns
+returns c = c .refused-call .ensures ∙ sym (call-refused _ _ _ _ (sym (c .before .before .before .before .read-sheet .ensures) ∙ c .before .before .read .given .1))
+
+returns-2 : tie.Need-returns-2
+returns-2 c = c .called .ensures ∙ sym (call-accepted _ _ _ _ _ (sym (c .before .before .before .before .read-sheet .ensures) ∙ c .before .before .read2 .given .1))
+
+pub hand-call-spec : {M : Type 1} → statement M
+hand-call-spec =
+    tie.close
+    (tie.spec
+    read-sheet-requires
+    enum-known-read
+    refused-call-requires
+    enum-known-read-2
+    called-requires
+    returns
+    returns-2)

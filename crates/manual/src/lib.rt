@@ -1,0 +1,386 @@
+// Document 01, "Taking out by hand": the start, and one hand call.
+ghost use mathlib.Core.Path.{_≡_};
+ghost use mathlib.Core.Bool.{cond, true};
+ghost use Prim.Native.Nat.{_^_, _<_, _≤_};
+ghost use lib.Dec.{ltb};
+ghost use Rattle.bounded.specs.Bounded.{imp, all, lowest};
+ghost use Rattle.bounded.specs.Mask.{bit, maskOf};
+ghost use Rattle.problem.specs.Problem.{maxVariables, maxValues, full, fits as fitsTest, snake as snakeHolds};
+ghost use Rattle.problem.specs.Manual.{prune, pruneTimes, start as startState};
+ghost use Rattle.problem.specs.Masks.{stateOf, masksOf};
+ghost use Rattle.problem.specs.Held.{held, RowTable};
+ghost use Rattle.sheet.specs.Bytes.{Is};
+ghost use Rattle.sheet.specs.Sheet.{layout, Keeps};
+ghost use Rattle.sheet.specs.Relation.{problemOf};
+ghost use Rattle.rules.specs.Ready.{Ready};
+ghost use Rattle.jobs.specs.Hand.{startJob, callRefused, callJob};
+ghost use Rattle.manual.specs.Parts.{fitsAt, noneBare, domainLeft, domainFull, sameDomains, maxTurns, startRefused, startAnswer, callEliminated, callOn};
+use bounded::has16;
+use bounded::has32;
+use jobs::CallAnswer;
+use jobs::CallOutcome;
+use jobs::ManualRefusal;
+use jobs::ManualState;
+use jobs::StartAnswer;
+use jobs::StartOutcome;
+use problem::Masks;
+use sheet::SheetRead;
+use sheet::SheetRefusal;
+
+// ---- sets of all numbers below a bound
+
+// 2 to the power z.
+fn power(z: usize) -> usize
+    requires { ⌜ z ≤ 32 ⌝ }
+    ensures { λ r. ⌜ Is (2 ^ z) 4294967297 r ⌝ }
+{
+    1 << z
+}
+
+// All n variables.
+fn all_variables(n: usize) -> u32
+    requires { ⌜ n ≤ 32 ⌝ }
+    ensures { λ r. ⌜ r ≡ maskOf maxVariables (λ i. ltb i n) ⌝ }
+{
+    (power(n) - 1) as u32
+}
+
+// All z values.
+fn all_values(z: usize) -> u16
+    requires { ⌜ z ≤ 16 ⌝ }
+    ensures { λ r. ⌜ r ≡ maskOf maxValues (λ a. ltb a z) ⌝ }
+{
+    (power(z) - 1) as u16
+}
+
+// 2^a where b holds, else 0.
+fn weight(b: bool, a: usize) -> u16
+    requires { ⌜ a < 16 ⌝ }
+    ensures { λ r. ⌜ r ≡ cond b (2 ^ a) 0 ⌝ }
+{
+    if b { power(a) as u16 } else { 0 }
+}
+
+// ---- the problem that a table holds
+
+// How many values variable i has.
+fn size(t: &[u16], i: usize) -> usize
+    requires { ⌜ RowTable (now t) × (i < 32) ⌝ }
+    ensures { λ r. ⌜ r ≡ (held (now (t .entry))) .size i ⌝ }
+{
+    t[i] as usize
+}
+
+// How many variables: the sizes end at the first that is 0.
+fn variables(t: &[u16]) -> usize
+    requires { ⌜ RowTable (now t) ⌝ }
+    ensures { λ r. ⌜ r ≡ (held (now (t .entry))) .n ⌝ }
+{
+    let mut i: usize = 0;
+    while i < 32 {
+        if size(t, i) == 0 {
+            return i;
+        }
+        i += 1;
+    }
+    32
+}
+
+// ---- the full state
+
+fn full_domain(t: &[u16], n: usize, i: usize) -> u16
+    requires { ⌜ RowTable (now t) × (n ≡ (held (now t)) .n) × (i < 32) ⌝ }
+    ensures { λ r. ⌜ r ≡ domainFull (held (now (t .entry))) i ⌝ }
+{
+    if i < n { all_values(size(t, i)) } else { 0 }
+}
+
+// All items in and all settings on.
+fn full_masks(t: &[u16]) -> Masks
+    requires { ⌜ RowTable (now t) ⌝ }
+    ensures { λ r. ⌜ r ≡ masksOf (full (held (now (t .entry)))) ⌝ }
+{
+    let n = variables(t);
+    let mut r = problem::empty_masks();
+    r.active = all_variables(n);
+    let mut i: usize = 0;
+    while i < 32 {
+        r.domains[i] = full_domain(t, n, i);
+        i += 1;
+    }
+    r
+}
+
+// ---- one sweep
+
+// At no other active variable is value a of i without a support.
+fn none_bare(t: &[u16], m: Masks, i: usize, a: usize) -> bool
+    requires { ⌜ Ready (now t) m × (i < 32) × (a < 16) ⌝ }
+    ensures { λ r. ⌜ r ≡ noneBare (held (now (t .entry))) (stateOf m) i a ⌝ }
+{
+    let mut k: usize = 0;
+    while k < 32 {
+        if rules::unsupported(t, m, i, a, k) {
+            return false;
+        }
+        k += 1;
+    }
+    true
+}
+
+// Value a of i is in its domain and has a support at every other active variable.
+fn stays(t: &[u16], m: Masks, i: usize, a: usize) -> bool
+    requires { ⌜ Ready (now t) m × (i < 32) × (a < 16) ⌝ }
+    ensures { λ r. ⌜ r ≡ prune (held (now (t .entry))) (stateOf m) .live i a ⌝ }
+{
+    if has16(m.domains[i], a) {
+        none_bare(t, m, i, a)
+    } else {
+        false
+    }
+}
+
+fn domain_left(t: &[u16], m: Masks, i: usize) -> u16
+    requires { ⌜ Ready (now t) m × (i < 32) ⌝ }
+    ensures { λ r. ⌜ r ≡ domainLeft (held (now (t .entry))) (stateOf m) i ⌝ }
+{
+    let mut x: u16 = 0;
+    let mut a: usize = 0;
+    while a < 16 {
+        x += weight(stays(t, m, i, a), a);
+        a += 1;
+    }
+    x
+}
+
+// Each setting without a partner at some other item goes off, all judged by the state before the sweep.
+fn prune_once(t: &[u16], m: Masks) -> Masks
+    requires { ⌜ Ready (now t) m ⌝ }
+    ensures { λ r. ⌜ r ≡ masksOf (prune (held (now (t .entry))) (stateOf m)) ⌝ }
+{
+    let mut r = m;
+    let mut i: usize = 0;
+    while i < 32 {
+        r.domains[i] = domain_left(t, m, i);
+        i += 1;
+    }
+    r
+}
+
+// ---- the start
+
+fn same_domains(x: Masks, y: Masks) -> bool
+    ensures { λ r. ⌜ r ≡ sameDomains x y ⌝ }
+{
+    let mut i: usize = 0;
+    while i < 32 {
+        if x.domains[i] != y.domains[i] {
+            return false;
+        }
+        i += 1;
+    }
+    true
+}
+
+// Sweeps until one changes nothing. Each before it takes at least one of at most 512 values out, so 513 sweeps are enough.
+fn settle(t: &[u16], m: Masks) -> Masks
+    requires { ⌜ Ready (now t) m ⌝ }
+    ensures { λ r. ⌜ r ≡ masksOf (pruneTimes maxTurns (held (now (t .entry))) (stateOf m)) ⌝ }
+{
+    let mut kept = m;
+    let mut left: usize = 513;
+    while 0 < left {
+        let next = prune_once(t, kept);
+        if same_domains(kept, next) {
+            return kept;
+        }
+        kept = next;
+        left -= 1;
+    }
+    kept
+}
+
+fn start_masks(t: &[u16]) -> Masks
+    requires { ⌜ RowTable (now t) ⌝ }
+    ensures { λ r. ⌜ r ≡ masksOf (pruneTimes maxTurns (held (now (t .entry))) (full (held (now (t .entry))))) ⌝ }
+{
+    settle(t, full_masks(t))
+}
+
+fn started(s: &[u8]) -> StartAnswer
+    requires { ⌜ Keeps layout (now s) ⌝ }
+    ensures { λ r. ⌜ r ≡ startAnswer (startState (problemOf layout (now (s .entry)))) ⌝ }
+{
+    let mut t = [0u16; 16416];
+    sheet::fill_table(s, &mut t);
+    let masks = start_masks(&t);
+    let state = ManualState { masks };
+    StartAnswer {
+        outcome: StartOutcome::Started,
+        state,
+    }
+}
+
+// A state with no items in and no settings on.
+fn refused_start(r: SheetRefusal) -> StartAnswer
+    ensures { λ a. ⌜ a ≡ startRefused r ⌝ }
+{
+    let masks = problem::empty_masks();
+    let state = ManualState { masks };
+    StartAnswer {
+        outcome: StartOutcome::Refused(r),
+        state,
+    }
+}
+
+// The state with all items in and the largest sets of settings in which each has a partner at every other item.
+pub fn start(s: &[u8]) -> StartAnswer
+    ensures { λ r. ⌜ r ≡ startJob (now (s .entry)) ⌝ }
+{
+    let read = sheet::read_sheet(s);
+    match read {
+        SheetRead::Refused(r) => refused_start(r),
+        SheetRead::Accepted { variables, blocks } => started(s),
+    }
+}
+
+// ---- the refusals of a hand call
+
+// Every member of x is below z.
+fn below(x: u16, z: usize) -> bool
+    requires { ⌜ z ≤ 16 ⌝ }
+    ensures { λ r. ⌜ r ≡ all maxValues (λ a. imp (bit x a) (ltb a z)) ⌝ }
+{
+    (x as usize) < power(z)
+}
+
+// 11 at one variable. An active one is one of the problem's and has values of its own only; another has an empty domain.
+fn fits_at(t: &[u16], m: Masks, n: usize, i: usize) -> bool
+    requires { ⌜ RowTable (now t) × (n ≡ (held (now t)) .n) × (i < 32) ⌝ }
+    ensures { λ r. ⌜ r ≡ fitsAt (held (now (t .entry))) (stateOf m) i ⌝ }
+{
+    let domain = m.domains[i];
+    if has32(m.active, i) {
+        (i < n) & below(domain, size(t, i))
+    } else {
+        domain == 0
+    }
+}
+
+// 11: the state fits the sheet.
+fn fits(t: &[u16], m: Masks) -> bool
+    requires { ⌜ RowTable (now t) ⌝ }
+    ensures { λ r. ⌜ r ≡ fitsTest (held (now (t .entry))) (stateOf m) ⌝ }
+{
+    let n = variables(t);
+    let mut i: usize = 0;
+    while i < 32 {
+        if !fits_at(t, m, n, i) {
+            return false;
+        }
+        i += 1;
+    }
+    true
+}
+
+// 12: the item is in. No number but one below 32 can be.
+fn is_active(m: Masks, i: u64) -> bool
+    ensures { λ r. ⌜ r ≡ bit (m .active) i ⌝ }
+{
+    if i < 32 {
+        has32(m.active, i as usize)
+    } else {
+        false
+    }
+}
+
+// 14: the lowest value for which the snake rule holds, or 16.
+fn lowest_snake(t: &[u16], m: Masks, i: usize) -> usize
+    requires { ⌜ Ready (now t) m × (i < 32) ⌝ }
+    ensures { λ r. ⌜ r ≡ lowest maxValues (snakeHolds (held (now (t .entry))) (stateOf m) i) ⌝ }
+{
+    let mut v: usize = 0;
+    while v < 16 {
+        if rules::snake(t, m, i, v) {
+            return v;
+        }
+        v += 1;
+    }
+    16
+}
+
+// ---- a hand call
+
+// "A refused hand call answers the state it was given."
+fn refused_call(r: ManualRefusal, st: ManualState) -> CallAnswer
+    ensures { λ a. ⌜ a ≡ callRefused r st ⌝ }
+{
+    CallAnswer {
+        outcome: CallOutcome::Refused(r),
+        state: st,
+    }
+}
+
+// The snake step for i with v.
+fn eliminated(t: &[u16], m: Masks, i: usize, v: usize) -> CallAnswer
+    requires { ⌜ Ready (now t) m × (i < 32) ⌝ }
+    ensures { λ a. ⌜ a ≡ callEliminated (held (now (t .entry))) (stateOf m) i v ⌝ }
+{
+    let masks = rules::eliminate(t, m, i);
+    let state = ManualState { masks };
+    CallAnswer {
+        outcome: CallOutcome::Eliminated(v),
+        state,
+    }
+}
+
+// A call of an item that is in: 13, 14, or the step.
+fn call_active(t: &[u16], st: ManualState, i: usize) -> CallAnswer
+    requires { ⌜ Ready (now t) (st .masks) × (i < 32) × (bit (st .masks .active) i ≡ true) ⌝ }
+    ensures { λ a. ⌜ a ≡ callOn (held (now (t .entry))) st i ⌝ }
+{
+    let m = st.masks;
+    if !rules::none_empty(t, m) {
+        return refused_call(ManualRefusal::Emptied, st);
+    }
+    let v = lowest_snake(t, m, i);
+    if v < 16 {
+        return eliminated(t, m, i, v);
+    }
+    refused_call(ManualRefusal::Rule, st)
+}
+
+// A call over a table: 11, 12, or what an item that is in comes to.
+fn call_on(t: &[u16], st: ManualState, i: u64) -> CallAnswer
+    requires { ⌜ RowTable (now t) ⌝ }
+    ensures { λ a. ⌜ a ≡ callOn (held (now (t .entry))) st i ⌝ }
+{
+    let m = st.masks;
+    if !fits(t, m) {
+        return refused_call(ManualRefusal::State, st);
+    }
+    if !is_active(m, i) {
+        return refused_call(ManualRefusal::Item, st);
+    }
+    call_active(t, st, i as usize)
+}
+
+fn called(s: &[u8], st: ManualState, i: u64) -> CallAnswer
+    requires { ⌜ Keeps layout (now s) ⌝ }
+    ensures { λ a. ⌜ a ≡ callOn (problemOf layout (now (s .entry))) st i ⌝ }
+{
+    let mut t = [0u16; 16416];
+    sheet::fill_table(s, &mut t);
+    call_on(&t, st, i)
+}
+
+// The snake step for the named item with the lowest fitting v, or the refusal and the state as it was given.
+pub fn hand_call(s: &[u8], st: ManualState, i: u64) -> CallAnswer
+    ensures { λ r. ⌜ r ≡ callJob (now (s .entry)) st i ⌝ }
+{
+    let read = sheet::read_sheet(s);
+    match read {
+        SheetRead::Refused(r) => refused_call(ManualRefusal::Sheet(r), st),
+        SheetRead::Accepted { variables, blocks } => called(s, st, i),
+    }
+}
