@@ -505,6 +505,81 @@ orders("F", bench["F"], ([0, 1, 2], [2, 1, 0]))
 for k in range(8):
     orders(f"random {k}", random_sheet(4, 3, 0.7, 0.3), ([0, 1, 2, 3], [3, 2, 1, 0]))
 
+# ---- putting back
+
+
+def back(name, s, trace, plan, out=None, expected=None):
+    out = pattern(len(plan)) if out is None else out
+    answer = put_back_job(s, trace, plan, out)
+    assert expected is None or answer.startswith(expected), (name, answer)
+    case(name, "back", answer, s, trace, plan, out)
+
+
+def own(s):
+    return trace_bytes(run(Problem(s))[0])
+
+
+X = bytes.fromhex
+F = bench["F"]
+back("B", B, own(B), X("ffff"), expected="done 0001")
+back("F", F, own(F), X("ffffff"), expected="done 010000")
+back("J", C, b"\1", X("000100"), expected="refused 19")
+back("a removal elsewhere", lone, X("0103020000"), X("ff01"), expected="refused 19")
+back("a setting that stayed", lone, X("0103020000"), X("ff00"), expected="done 0000")
+slide = sheet([2, 2], [(0, 1, [3, 2])])
+back("a lawful slide", slide, X("010405000001"), X("0101"), expected="done 0101")
+back("an unlawful slide", B, X("010405000001"), X("0101"), expected="refused 17")
+choice = sheet([3, 3], [(0, 1, [6, 5, 3])])
+back("the lowest w'", choice, X("0103020000"), X("ff00"), expected="done 0001")
+back("the lowest u", choice, X("0103030001"), X("ff00"), expected="done 0100")
+folded = sheet([2, 2, 2], [(0, 1, [1, 2]), (1, 2, [1, 3])])
+back("a fold with an item out", folded, X("010302020003030100"), X("00ffff"), expected="done 000000")
+back("a fold too early", folded, X("0103030100"), X("00ff00"), expected="refused 17")
+barred = bench["D"]
+back("an emptied item and no further record", barred, X("010401000001"), X("ffff"), expected="refused 19")
+back("a record after an emptied item", barred, X("01040100000103020100"), X("ffff"), expected="refused 17")
+back("a malformed record after an emptied item", barred, X("0104010000010302"), X("ffff"), expected="refused 16")
+back("255 for an item in", C, b"\1", X("ff0100"), expected="refused 19")
+for r, name in (("0302", "cut after the kind"), ("03", "a stray byte"), ("00", "length byte 0"), ("0306000000", "kind 6"), ("0300000000", "kind 0"),
+                ("0402000000", "length byte 4 for kind 2"), ("0301000000", "length byte 3 for kind 1"), ("030200", "cut in the fields")):
+    back(f"16: {name}", C, X("01" + r), X("000000"), expected="refused 16")
+for r, name in (("0302ff00", "item 255"), ("030200ff", "setting 255"), ("03020020", "setting 32"), ("03022000", "item 32"), ("03030000", "a fold with itself"),
+                ("0404000000", "a cover by itself"), ("0401000000", "bare at its own item")):
+    back(f"17: {name}", C, X("01" + r), X("000000"), expected="refused 17")
+back("17 of record 0 before 16 of record 1", C, X("0103020000" "0302"), X("000000"), expected="refused 17")
+# every refusal alone and with the later ones, in the order sheet, 18, 20, 15, 16, 17, 19
+bad = {"sheet": B[:7], "trace 15": X("02"), "trace 16": X("0103"), "trace 17": X("0103020000"), "plan": X("000000")}
+for sheet_bad in (False, True):
+    for plan_bad in (False, True):
+        for out_bad in (False, True):
+            for t, tn in ((b"\1", "good"), (b"", "empty"), (X("02"), "15"), (X("0103"), "16"), (X("0103020000"), "17")):
+                back(f"faults: sheet {sheet_bad}, 18 {plan_bad}, 20 {out_bad}, trace {tn}, 19", C[:7] if sheet_bad else C, t,
+                     X("0000") if plan_bad else X("000000"), X("aabbccdd") if out_bad else X("aabbcc"))
+# a trace of 512 records, and one more: each item loses fifteen settings to the last, and goes out with it
+free = sheet([16] * 32, [])
+many = [r for i in range(32) for r in [(4, i, b, 15) for b in range(15)] + [(2, i, 15)]]
+assert len(many) == 512
+back("512 records", free, trace_bytes(many), b"\xff" * 32, expected="done " + "0f" * 32)
+back("one record more", free, trace_bytes(many + [(2, 0, 15)]), b"\xff" * 32, expected="refused 17")
+for k in range(60):
+    s = random_sheet(rng.randint(2, 5), 4, 0.8, rng.choice([0.1, 0.3]))
+    P = Problem(s)
+    st, trace = P.full(), []
+    for _ in range(rng.randint(0, 8)):
+        good = [r for r in candidates(P) if not empty(st) and holds(P, st, r)]
+        if not good:
+            break
+        r = rng.choice(good)
+        trace.append(r)
+        st = after(P, st, r)
+    plans = [[]]
+    for i in range(P.n):
+        plans = [p + [v] for p in plans for v in (sorted(st[1][i]) if i in st[0] else [255])
+                 if v == 255 or all(p[j] == 255 or P.ok(j, p[j], i, v) for j in range(i))]
+    for p in rng.sample(plans, min(2, len(plans))):
+        back(f"random {k}, a plan of what is left", s, trace_bytes(trace), bytes(p), expected="done")
+    back(f"random {k}, any bytes", s, trace_bytes(trace), bytes(rng.randint(0, 3) for _ in range(P.n)))
+
 with open(os.path.join(ROOT, "stdin"), "w") as f, open(os.path.join(ROOT, "stdout"), "w") as g:
     for name, job, fields, expected in cases:
         f.write(f"# {name}\n{job} {' '.join(fields)}\n")

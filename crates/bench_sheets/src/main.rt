@@ -2,6 +2,7 @@
 // A line that starts with # is passed over. What is written is compared with the file stdout.
 use jobs::CallAnswer;
 use jobs::CallOutcome;
+use jobs::Extended;
 use jobs::ManualState;
 use jobs::ReduceOutcome;
 use jobs::Reduced;
@@ -316,6 +317,53 @@ fn do_hand(text: &[u8], from: usize)
     show_call(manual::hand_call(&sheet[..n], ManualState { masks }, item_of(item)));
 }
 
+fn show_back(a: Extended, out: &[u8]) {
+    match a {
+        Extended::Refused(r) => {
+            words(b"refused ", jobs::extend_number(r) as usize);
+        }
+        Extended::Done => {
+            io::write_all(STDOUT_FILENO, b"done");
+        }
+    }
+    io::write_all(STDOUT_FILENO, b" ");
+    show_bytes(out);
+    io::write_all(STDOUT_FILENO, b"\n");
+}
+
+// Putting back with the first bytes of a buffer for the result.
+fn back_part(s: &[u8], trace: &[u8], plan: &[u8], out: &mut [u8], long: usize) {
+    if long <= out.len() {
+        let part = &mut out[..long];
+        let a = extend::put_back(s, trace, plan, part);
+        show_back(a, part);
+    }
+}
+
+// The plan and the result's buffer of a line whose sheet and trace are read.
+fn back_rest(text: &[u8], from: usize, s: &[u8], trace: &[u8])
+    requires { ⌜ from ≤ length (now text) ⌝ }
+{
+    let mut plan = [0u8; 64];
+    let k = field(text, from, &mut plan);
+    let at = next_field(text, from, k);
+    let mut out = [0u8; 64];
+    let n = field(text, at, &mut out);
+    back_part(s, trace, &plan[..k], &mut out, n);
+}
+
+// A line `back SHEET TRACE PLAN RESULT`: putting back, the result's buffer as it is before.
+fn do_back(text: &[u8], from: usize)
+    requires { ⌜ from ≤ length (now text) ⌝ }
+{
+    let mut sheet = [0u8; 20000];
+    let n = field(text, from, &mut sheet);
+    let at = next_field(text, from, n);
+    let mut trace = [0u8; 4096];
+    let k = field(text, at, &mut trace);
+    back_rest(text, next_field(text, at, k), &sheet[..n], &trace[..k]);
+}
+
 // The line at a place: its first byte names the job, and its input starts after four letters and a space.
 fn line(text: &[u8], from: usize)
     requires { ⌜ from < length (now text) ⌝ }
@@ -329,6 +377,7 @@ fn line(text: &[u8], from: usize)
         b'w' => do_work(text, from + 5),
         b's' => do_start(text, from + 5),
         b'h' => do_hand(text, from + 5),
+        b'b' => do_back(text, from + 5),
         _ => {}
     }
 }
@@ -342,7 +391,7 @@ fn lines(text: &[u8]) {
 }
 
 fn main() {
-    let mut text = [0u8; 262144];
+    let mut text = [0u8; 524288];
     let n = io::read_full(0, &mut text);
     lines(&text[..n]);
 }

@@ -1,6 +1,6 @@
 -- A hand call: the lowest value for which the snake rule holds, and the refusals in their order. Assumes nothing.
-use mathlib.Core.Path.{_≡_, refl, sym, ap, _∙_, subst}
-use mathlib.Core.Bool.{Bool, true, false, _&&_}
+use mathlib.Core.Path.{_≡_, ap, _∙_, subst}
+use mathlib.Core.Bool.{true, false, _&&_}
 use mathlib.Core.List.{List}
 use Prim.Native.Nat.{ℕ, _≤_, _<_}
 use native.Mathlib.Omega.{arith}
@@ -8,14 +8,14 @@ use lib.Dec.{T, ltb}
 use Rattle.bounded.specs.Bounded.{lowest}
 use Rattle.bounded.specs.Mask.{bit}
 use Rattle.bounded.proofs.Truth.{T-true, T-false, T-of, and-iff, ltb-iff}
-use Rattle.bounded.proofs.Bounded.{lowest-is, lowest-le, lowest-passes, lowest-least, lowest-unique}
+use Rattle.bounded.proofs.Bounded.{lowest-is, lowest-passes, lowest-least, lowest-unique}
 use Rattle.problem.specs.Problem.{Problem, State, fits, noneEmpty, anyLive, lowestLive, snake}
 use Rattle.problem.specs.Manual.{start, call}
 use Rattle.problem.specs.Held.{held}
 use Rattle.problem.specs.Masks.{stateOf}
 use Rattle.problem.specs.declared.Masks.{Masks}
 use Rattle.problem.specs.declared.Call.the-variants.{Eliminated, Misfit, NotActive, Emptied, NoSnake}
-use Rattle.problem.proofs.Reflect.{Live, Active, Fits, fits-test, anyLive-iff, snake-iff}
+use Rattle.problem.proofs.Reflect.{Live, fits-test, anyLive-iff, snake-iff}
 use Rattle.rules.specs.Ready.{Ready}
 use Rattle.rules.proofs.Laws.{live-value, active-32}
 use Rattle.sheet.specs.Sheet.{layout, readSheet}
@@ -62,7 +62,7 @@ module _ {t : List ℕ} {m : Masks} (R : Ready t m) (i : ℕ) where
   unfolding stateOf
   active-in e = T-true _ (and-iff (ltb i ((held t) .n)) (bit (m .active) i) .1 (ltb-iff i ((held t) .n) .1 (R .fits .active-lt i (T-of e)), T-of e))
 
-pub active-out : (P : Problem) (m : Masks) (i : ℕ) → bit (m .active) i ≡ false → (ltb i (P .n) && (stateOf m) .active i) ≡ false
+active-out : (P : Problem) (m : Masks) (i : ℕ) → bit (m .active) i ≡ false → (ltb i (P .n) && (stateOf m) .active i) ≡ false
 unfolding stateOf
 active-out P m i e = T-false _ (λ h. subst T e (and-iff (ltb i (P .n)) (bit (m .active) i) .0 h .1))
 
@@ -89,20 +89,23 @@ module _ (P : Problem) (s : State) (i : ℕ) where
   unfolding call
   call-done e f g h = rw (e, f, g, h, call)
 
--- ---- the same of a state that fits, at an active variable
+-- ---- the same of a state that fits
+
+fit : {t : List ℕ} {m : Masks} → Ready t m → fits (held t) (stateOf m) ≡ true
+fit R = T-true _ (fits-test (R .fits))
+
+pub ready-item : {t : List ℕ} {m : Masks} → Ready t m → (i : ℕ) → bit (m .active) i ≡ false → call (held t) (stateOf m) i ≡ NotActive
+ready-item {t} {m} R i off = call-item (held t) (stateOf m) i (fit R) (active-out (held t) m i off)
 
 module _ {t : List ℕ} {m : Masks} (R : Ready t m) (i : ℕ) (on : bit (m .active) i ≡ true) where
-  fit : fits (held t) (stateOf m) ≡ true
-  fit = T-true _ (fits-test (R .fits))
-
   pub ready-emptied : noneEmpty (held t) (stateOf m) ≡ false → call (held t) (stateOf m) i ≡ Emptied
-  ready-emptied e = call-emptied (held t) (stateOf m) i fit (active-in R i on) e
+  ready-emptied e = call-emptied (held t) (stateOf m) i (fit R) (active-in R i on) e
 
   pub ready-none : noneEmpty (held t) (stateOf m) ≡ true → 16 ≤ lowest 16 (snake (held t) (stateOf m) i) → call (held t) (stateOf m) i ≡ NoSnake
-  ready-none e l = call-none (held t) (stateOf m) i fit (active-in R i on) e (snake-none R i l)
+  ready-none e l = call-none (held t) (stateOf m) i (fit R) (active-in R i on) e (snake-none R i l)
 
   pub ready-done : noneEmpty (held t) (stateOf m) ≡ true → lowest 16 (snake (held t) (stateOf m) i) < 16 → call (held t) (stateOf m) i ≡ Eliminated (lowest 16 (snake (held t) (stateOf m) i))
-  ready-done e l = call-done (held t) (stateOf m) i fit (active-in R i on) e (snake-some R i l) ∙ ap Eliminated (snake-lowest R i l)
+  ready-done e l = call-done (held t) (stateOf m) i (fit R) (active-in R i on) e (snake-some R i l) ∙ ap Eliminated (snake-lowest R i l)
 
 -- ---- the jobs, by what reading the sheet finds
 

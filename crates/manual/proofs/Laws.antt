@@ -1,6 +1,6 @@
 -- Sets of all numbers below a bound, the full state, and cause 11, as the code tests them. Assumes nothing.
 use mathlib.Core.Path.{_≡_, refl, sym, ap, _∙_, subst}
-use mathlib.Core.Bool.{Bool, true, false, not, _&&_}
+use mathlib.Core.Bool.{Bool, true, false, _&&_}
 use mathlib.Core.Logic.{⊎-elim}
 use mathlib.Core.List.{List}
 use Prim.Native.Nat.{ℕ, _-_, _^_, _≤_, _<_}
@@ -11,7 +11,7 @@ use lib.Pow.{pow-mono, pow-pos}
 use borrow.Author.Tests.{lt-ltb, le-ltb}
 use Rattle.bounded.specs.Bounded.{imp, all, any, lowest}
 use Rattle.bounded.specs.Mask.{bit, maskOf}
-use Rattle.bounded.proofs.Truth.{T-ext, T-false, T-not, T-of, and-iff, imp-iff, not-iff, ltb-iff, lt-dec}
+use Rattle.bounded.proofs.Truth.{T-ext, T-false, T-not, and-iff, imp-iff, not-iff, ltb-iff, lt-dec}
 use Rattle.bounded.proofs.Bounded.{all-iff, any-iff}
 use Rattle.bounded.proofs.Mask.{bit-none, bit-high, bit-mask, full-bit, mask-is, mask-lt, mask-ext, zero-bits}
 use Rattle.problem.specs.Problem.{Problem, State, full, fits}
@@ -19,7 +19,7 @@ use Rattle.problem.specs.Held.{held, heldSize, heldVariables, RowTable}
 use Rattle.problem.specs.Masks.{stateOf}
 use Rattle.problem.specs.declared.Masks.{Masks}
 use Rattle.problem.proofs.Reflect.{fits-says}
-use Rattle.manual.specs.Parts.{fitsAt, domainFull}
+use Rattle.manual.specs.Parts.{fitsAt}
 
 -- ---- the numbers below a bound
 
@@ -61,20 +61,6 @@ size-narrow R i = R .narrow i
 pub variables-lowest : (t : List ℕ) → (held t) .n ≡ lowest 32 (λ i. eqb ((held t) .size i) 0)
 unfolding held heldVariables
 variables-lowest t = refl
-
--- ---- the full state
-
-pub full-active : (P : Problem) → maskOf 32 (λ i. ltb i (P .n)) ≡ maskOf 32 (full P .active)
-unfolding full
-full-active P = refl
-
-pub full-in : (P : Problem) (i : ℕ) → i < P .n → maskOf 16 (λ a. ltb a (P .size i)) ≡ domainFull P i
-unfolding domainFull full
-full-in P i l = ap (λ (b : Bool). maskOf 16 (λ a. b && ltb a (P .size i))) (sym (lt-ltb i (P .n) l))
-
-pub full-out : (P : Problem) (i : ℕ) → P .n ≤ i → 0 ≡ domainFull P i
-unfolding domainFull full
-full-out P i l = mask-is 16 0 (full P .live i) (omega arith) (λ c k. bit-none c ∙ ap (λ (b : Bool). b && ltb c (P .size i)) (sym (le-ltb i (P .n) l)))
 
 -- ---- cause 11, variable by variable
 

@@ -1,20 +1,20 @@
 -- Sweeps: what one keeps, that one which changes nothing ends them, and that 513 are enough. Assumes nothing.
 use mathlib.Core.Path.{_≡_, refl, sym, ap, _∙_, fun-ext, subst}
-use mathlib.Core.Bool.{Bool, true, false, not, _&&_}
+use mathlib.Core.Bool.{Bool, true, false, _&&_}
 use mathlib.Core.Logic.{_⊎_, inl, inr, _≢_}
 use mathlib.Core.List.{List}
 use Prim.Native.Nat.{ℕ, zero, suc, _+_, _-_, _*_, _≤_, _<_}
 use native.Mathlib.Nat.{not-suc-le-zero}
 use native.Mathlib.Omega.{arith}
 use lib.Dec.{T, eqb}
-use lib.ListN.{length, getD, replicate}
+use lib.ListN.{getD, replicate}
 use lib.Seq.{ext-getD}
 use borrow.Author.Tests.{eqb-true}
-use Rattle.bounded.specs.Bounded.{all, sumTo}
-use Rattle.bounded.specs.Mask.{bit, maskOf}
+use Rattle.bounded.specs.Bounded.{sumTo}
+use Rattle.bounded.specs.Mask.{bit}
 use Rattle.bounded.specs.Table.{tab}
 use Rattle.bounded.proofs.Truth.{T-ext, T-dec, T-not, and-iff, not-iff}
-use Rattle.bounded.proofs.Bounded.{all-iff, sum-le}
+use Rattle.bounded.proofs.Bounded.{all-iff}
 use Rattle.bounded.proofs.Loops.{all-each}
 use Rattle.bounded.proofs.Mask.{bit-none}
 use Rattle.problem.specs.Problem.{Problem, State, full, anyLive, unsupported, liveCount, sizeSum}

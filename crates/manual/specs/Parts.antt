@@ -30,10 +30,6 @@ module _ (P : Problem) (s : State) where
   unfoldable pub domainLeft : ℕ → ℕ
   domainLeft i = maskOf maxValues (prune P s .live i)
 
--- the domain of i at first
-unfoldable pub domainFull : Problem → ℕ → ℕ
-domainFull P i = maskOf maxValues (full P .live i)
-
 -- the domains of two states agree
 unfoldable pub sameDomains : Masks → Masks → Bool
 sameDomains x y = all maxVariables (λ i. eqb (getD (x .domains) i 0) (getD (y .domains) i 0))

@@ -5,7 +5,7 @@ ghost use Prim.Native.Nat.{_^_, _<_, _≤_};
 ghost use lib.Dec.{ltb};
 ghost use Rattle.bounded.specs.Bounded.{imp, all, lowest};
 ghost use Rattle.bounded.specs.Mask.{bit, maskOf};
-ghost use Rattle.problem.specs.Problem.{maxVariables, maxValues, full, fits as fitsTest, snake as snakeHolds};
+ghost use Rattle.problem.specs.Problem.{maxVariables, maxValues, full, fits as fitsTest, noneEmpty, snake as snakeHolds};
 ghost use Rattle.problem.specs.Manual.{prune, pruneTimes, start as startState};
 ghost use Rattle.problem.specs.Masks.{stateOf, masksOf};
 ghost use Rattle.problem.specs.Held.{held, RowTable};
@@ -14,7 +14,7 @@ ghost use Rattle.sheet.specs.Sheet.{layout, Keeps};
 ghost use Rattle.sheet.specs.Relation.{problemOf};
 ghost use Rattle.rules.specs.Ready.{Ready};
 ghost use Rattle.jobs.specs.Hand.{startJob, callRefused, callJob};
-ghost use Rattle.manual.specs.Parts.{fitsAt, noneBare, domainLeft, domainFull, sameDomains, maxTurns, startRefused, startAnswer, callEliminated, callOn};
+ghost use Rattle.manual.specs.Parts.{fitsAt, noneBare, domainLeft, sameDomains, maxTurns, startRefused, startAnswer, callEliminated, callOn};
 use bounded::has16;
 use bounded::has32;
 use jobs::CallAnswer;
@@ -35,22 +35,6 @@ fn power(z: usize) -> usize
     ensures { λ r. ⌜ Is (2 ^ z) 4294967297 r ⌝ }
 {
     1 << z
-}
-
-// All n variables.
-fn all_variables(n: usize) -> u32
-    requires { ⌜ n ≤ 32 ⌝ }
-    ensures { λ r. ⌜ r ≡ maskOf maxVariables (λ i. ltb i n) ⌝ }
-{
-    (power(n) - 1) as u32
-}
-
-// All z values.
-fn all_values(z: usize) -> u16
-    requires { ⌜ z ≤ 16 ⌝ }
-    ensures { λ r. ⌜ r ≡ maskOf maxValues (λ a. ltb a z) ⌝ }
-{
-    (power(z) - 1) as u16
 }
 
 // 2^a where b holds, else 0.
@@ -84,31 +68,6 @@ fn variables(t: &[u16]) -> usize
         i += 1;
     }
     32
-}
-
-// ---- the full state
-
-fn full_domain(t: &[u16], n: usize, i: usize) -> u16
-    requires { ⌜ RowTable (now t) × (n ≡ (held (now t)) .n) × (i < 32) ⌝ }
-    ensures { λ r. ⌜ r ≡ domainFull (held (now (t .entry))) i ⌝ }
-{
-    if i < n { all_values(size(t, i)) } else { 0 }
-}
-
-// All items in and all settings on.
-fn full_masks(t: &[u16]) -> Masks
-    requires { ⌜ RowTable (now t) ⌝ }
-    ensures { λ r. ⌜ r ≡ masksOf (full (held (now (t .entry)))) ⌝ }
-{
-    let n = variables(t);
-    let mut r = problem::empty_masks();
-    r.active = all_variables(n);
-    let mut i: usize = 0;
-    while i < 32 {
-        r.domains[i] = full_domain(t, n, i);
-        i += 1;
-    }
-    r
 }
 
 // ---- one sweep
@@ -174,7 +133,10 @@ fn same_domains(x: Masks, y: Masks) -> bool
 {
     let mut i: usize = 0;
     while i < 32 {
-        if x.domains[i] != y.domains[i] {
+        let was = x.domains[i];
+        let left = y.domains[i];
+        let same = was == left;
+        if !same {
             return false;
         }
         i += 1;
@@ -204,7 +166,7 @@ fn start_masks(t: &[u16]) -> Masks
     requires { ⌜ RowTable (now t) ⌝ }
     ensures { λ r. ⌜ r ≡ masksOf (pruneTimes maxTurns (held (now (t .entry))) (full (held (now (t .entry))))) ⌝ }
 {
-    settle(t, full_masks(t))
+    settle(t, reduce::full_masks(t))
 }
 
 fn started(s: &[u8]) -> StartAnswer
@@ -334,15 +296,12 @@ fn eliminated(t: &[u16], m: Masks, i: usize, v: usize) -> CallAnswer
     }
 }
 
-// A call of an item that is in: 13, 14, or the step.
-fn call_active(t: &[u16], st: ManualState, i: usize) -> CallAnswer
-    requires { ⌜ Ready (now t) (st .masks) × (i < 32) × (bit (st .masks .active) i ≡ true) ⌝ }
+// 14, or the step with the lowest fitting v.
+fn call_snake(t: &[u16], st: ManualState, i: usize) -> CallAnswer
+    requires { ⌜ Ready (now t) (st .masks) × (i < 32) × (bit (st .masks .active) i ≡ true) × (noneEmpty (held (now t)) (stateOf (st .masks)) ≡ true) ⌝ }
     ensures { λ a. ⌜ a ≡ callOn (held (now (t .entry))) st i ⌝ }
 {
     let m = st.masks;
-    if !rules::none_empty(t, m) {
-        return refused_call(ManualRefusal::Emptied, st);
-    }
     let v = lowest_snake(t, m, i);
     if v < 16 {
         return eliminated(t, m, i, v);
@@ -350,7 +309,21 @@ fn call_active(t: &[u16], st: ManualState, i: usize) -> CallAnswer
     refused_call(ManualRefusal::Rule, st)
 }
 
-// A call over a table: 11, 12, or what an item that is in comes to.
+// A call with a state that fits: 12, then 13. `named` says that the item is in, `filled` that no item in is without a setting on.
+fn call_fitting(t: &[u16], st: ManualState, i: u64, named: bool, filled: bool) -> CallAnswer
+    requires { ⌜ Ready (now t) (st .masks) × (named ≡ bit (st .masks .active) i) × (filled ≡ noneEmpty (held (now t)) (stateOf (st .masks))) ⌝ }
+    ensures { λ a. ⌜ a ≡ callOn (held (now (t .entry))) st i ⌝ }
+{
+    if !named {
+        return refused_call(ManualRefusal::Item, st);
+    }
+    if !filled {
+        return refused_call(ManualRefusal::Emptied, st);
+    }
+    call_snake(t, st, i as usize)
+}
+
+// A call over a table: 11, and then what a state that fits comes to.
 fn call_on(t: &[u16], st: ManualState, i: u64) -> CallAnswer
     requires { ⌜ RowTable (now t) ⌝ }
     ensures { λ a. ⌜ a ≡ callOn (held (now (t .entry))) st i ⌝ }
@@ -359,10 +332,7 @@ fn call_on(t: &[u16], st: ManualState, i: u64) -> CallAnswer
     if !fits(t, m) {
         return refused_call(ManualRefusal::State, st);
     }
-    if !is_active(m, i) {
-        return refused_call(ManualRefusal::Item, st);
-    }
-    call_active(t, st, i as usize)
+    call_fitting(t, st, i, is_active(m, i), rules::none_empty(t, m))
 }
 
 fn called(s: &[u8], st: ManualState, i: u64) -> CallAnswer

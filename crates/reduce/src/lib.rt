@@ -37,6 +37,9 @@ fn is_step(x: Next) -> bool
     }
 }
 
+// Each kind is searched a field at a time, the lowest first. A variable that is not active and a value that is not in a domain make no
+// step, so they are passed over without a rule test.
+
 // ---- kind 1, bare
 
 // The lowest k at which value b of i has no support.
@@ -213,7 +216,7 @@ fn next_neighbourhood(t: &[u16], m: Masks) -> Next
 
 // ---- kind 5, slide
 
-// The lowest value for which the slide rule takes value b of i off.
+// The lowest value for which value b of i goes off by the slide rule.
 fn substitution_value(t: &[u16], m: Masks, i: usize, b: usize) -> Next
     requires { ⌜ Ready (now t) m × (i < 32) × (b < 16) ⌝ }
     ensures { λ r. ⌜ r ≡ substitutionValue (held (now (t .entry))) (stateOf m) i b ⌝ }
@@ -302,8 +305,8 @@ pub fn next_step(t: &[u16], m: Masks) -> Next
 
 // ---- one step
 
-// The state after a step. Kinds 1, 4 and 5 take one value off; kinds 2 and 3 take a variable out, and the values that had a support
-// at it only go off with it.
+// The state after a step. Kinds 1, 4 and 5 take a value out of a domain; kinds 2 and 3 take a variable out and, in the same step, each
+// value elsewhere that had no support at it.
 pub fn apply(t: &[u16], m: Masks, r: Record) -> Masks
     requires { ⌜ Ready (now t) m × Within r ⌝ }
     ensures { λ x. ⌜ x ≡ masksOf (after (held (now (t .entry))) (stateOf m) r) ⌝ }
@@ -412,7 +415,7 @@ fn write_version(b: &mut [u8])
     b[0] = 1;
 }
 
-// The run over a filled table, its trace at the front of a buffer with room for the longest.
+// The run over a filled table, its trace at the front of a buffer with room for the longest. Each step uses up a value, so it ends.
 fn run_table(t: &[u16], b: &mut [u8]) -> Reduced
     requires { ⌜ RowTable (now t) × (1 + 5 * sizeSum (held (now t)) ≤ length (now b)) ⌝ }
     ensures { λ r. ⌜ (r ≡ (runDone (held (now (t .entry))) (now (b .entry))) .answer) × (now (b .exit) ≡ (runDone (held (now (t .entry))) (now (b .entry))) .buffer) ⌝ }

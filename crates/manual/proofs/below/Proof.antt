@@ -1,10 +1,9 @@
 -- `manual::below`. Assumes nothing.
-use mathlib.Core.Path.{_≡_, ap, _∙_}
+use mathlib.Core.Path.{ap, _∙_}
 use Prim.Native.Nat.{ℕ, _<_, _^_}
 use lib.Dec.{ltb}
 use Rattle.manual.proofs.Laws.{below-word}
 use borrow.Author.Needs.{needs}
-use native.Mathlib.Omega.{arith}
 use Rattle.manual.proofs.below.Statement.{statement}
 use Rattle.manual.proofs.below.Tie as tie
 

@@ -1,5 +1,5 @@
 -- `manual::called`: the table holds the sheet's problem. Assumes nothing.
-use mathlib.Core.Path.{_≡_, ap, _∙_}
+use mathlib.Core.Path.{ap, _∙_}
 use denote.Ref.{now}
 use Rattle.problem.specs.Problem.{Problem}
 use Rattle.sheet.specs.Sheet.{layout}
@@ -8,7 +8,6 @@ use Rattle.sheet.proofs.Accepted.{problem-bounded}
 use Rattle.manual.specs.Parts.{callOn}
 use Rattle.manual.proofs.Sweeps.{table-good, table-holds}
 use borrow.Author.Needs.{needs}
-use native.Mathlib.Omega.{arith}
 use Rattle.manual.proofs.called.Statement.{statement}
 use Rattle.manual.proofs.called.Tie as tie
 

@@ -3,7 +3,6 @@ use mathlib.Core.Path.{sym}
 use Prim.Native.Nat.{_<_, _^_}
 use Rattle.bounded.proofs.Mask.{bit-high}
 use borrow.Author.Needs.{needs}
-use native.Mathlib.Omega.{arith}
 use Rattle.manual.proofs.is_active.Statement.{statement}
 use Rattle.manual.proofs.is_active.Tie as tie
 

@@ -19,15 +19,28 @@ Inv-loop t m i a k₀ k = (k ≤ 32) × (all k (λ k. not (unsupported (held t) 
 abbrev μ-loop : tie.MeasureT-loop
 μ-loop t m i a k₀ k = 32 - k
 
-pub none-bare-spec : {M : Type 1} → statement M
+loop-holds : tie.Need-loop-holds Inv-loop μ-loop
+loop-holds c = (search needs, all-none _)
+
+unsupported-requires : tie.Need-unsupported-requires Inv-loop μ-loop
+unsupported-requires c κs = search needs
+
+returns : tie.Need-returns Inv-loop μ-loop
 unfolding noneBare
-none-bare-spec =
-    tie.close
-    (tie.spec Inv-loop μ-loop
-    (λ c. (search needs, all-none _))
-    (λ c κs. search needs)
-    (λ c. sym (all-fail _ 32 _ (omega arith) (ap not (sym (c .before .unsupported .ensures) ∙ c .if1 .taken))))
-    (λ c. omega arith)
-    (λ c. omega arith)
-    (λ c. (omega arith, all-more _ _ (c .before .before .before .loop .inv .1) (ap not (sym (c .before .unsupported .ensures) ∙ c .if1 .left))))
-    (λ c. sym (all-end _ 32 _ (omega arith) (c .before .loop .inv .1))))
+returns c = sym (all-fail _ 32 _ (omega arith) (ap not (sym (c .before .unsupported .ensures) ∙ c .if1 .taken)))
+
+add-k : tie.Need-add-k Inv-loop μ-loop
+add-k c = search needs
+
+loop-less : tie.Need-loop-less Inv-loop μ-loop
+loop-less c = search needs
+
+loop-again : tie.Need-loop-again Inv-loop μ-loop
+loop-again c = (omega arith, all-more _ _ (c .before .before .before .loop .inv .1) (ap not (sym (c .before .unsupported .ensures) ∙ c .if1 .left)))
+
+returns-2 : tie.Need-returns-2 Inv-loop μ-loop
+unfolding noneBare
+returns-2 c = sym (all-end _ 32 _ (omega arith) (c .before .loop .inv .1))
+
+pub none-bare-spec : {M : Type 1} → statement M
+none-bare-spec = tie.close (tie.spec Inv-loop μ-loop loop-holds unsupported-requires returns add-k loop-less loop-again returns-2)

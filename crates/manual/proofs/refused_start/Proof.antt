@@ -1,10 +1,9 @@
 -- `manual::refused_start`. Assumes nothing.
-use mathlib.Core.Path.{_≡_, ap}
+use mathlib.Core.Path.{ap}
 use Rattle.problem.specs.declared.Masks.{Masks}
 use Rattle.jobs.specs.declared.StartAnswer.{StartAnswer}
 use Rattle.jobs.specs.declared.StartOutcome.the-variants.{Refused}
 use borrow.Author.Needs.{needs}
-use native.Mathlib.Omega.{arith}
 use Rattle.manual.proofs.refused_start.Statement.{statement}
 use Rattle.manual.proofs.refused_start.Tie as tie
 

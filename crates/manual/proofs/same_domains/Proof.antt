@@ -1,10 +1,10 @@
 -- `manual::same_domains`: a loop over the variables. Assumes nothing.
 use Prim.Native.Nat.{_≤_, _-_}
-use mathlib.Core.Path.{_≡_, sym, _∙_}
+use mathlib.Core.Path.{_≡_, sym}
 use mathlib.Core.Bool.{true}
 use lib.Dec.{eqb}
 use lib.ListN.{getD}
-use borrow.Author.Tests.{eq-eqb, ne-eqb, not-true, not-false}
+use borrow.Author.Tests.{not-true, not-false}
 use Rattle.bounded.specs.Bounded.{all}
 use Rattle.bounded.proofs.Loops.{all-none, all-more, all-fail, all-end}
 use Rattle.manual.specs.Parts.{sameDomains}
@@ -22,21 +22,21 @@ abbrev μ-loop : tie.MeasureT-loop
 loop-holds : tie.Need-loop-holds Inv-loop μ-loop
 loop-holds c = (search needs, all-none _)
 
-mul-if1 : tie.Need-mul-if1 Inv-loop μ-loop
-mul-if1 c = search needs
+mul-was : tie.Need-mul-was Inv-loop μ-loop
+mul-was c = search needs
 
-element-copy-out-if1 : tie.Need-element-copy-out-if1 Inv-loop μ-loop
-element-copy-out-if1 c = search needs
+element-copy-out-was : tie.Need-element-copy-out-was Inv-loop μ-loop
+element-copy-out-was c = search needs
 
-mul-if1-2 : tie.Need-mul-if1-2 Inv-loop μ-loop
-mul-if1-2 c = search needs
+mul-left : tie.Need-mul-left Inv-loop μ-loop
+mul-left c = search needs
 
-element-copy-out-if1-2 : tie.Need-element-copy-out-if1-2 Inv-loop μ-loop
-element-copy-out-if1-2 c = search needs
+element-copy-out-left : tie.Need-element-copy-out-left Inv-loop μ-loop
+element-copy-out-left c = search needs
 
 returns : tie.Need-returns Inv-loop μ-loop
 unfolding sameDomains
-returns c = sym (all-fail _ 32 _ (omega arith) (ne-eqb _ _ (c .if1 .taken)))
+returns c = sym (all-fail _ 32 (c .before .before .before .before .loop .i) (omega arith) (not-true _ (c .if1 .taken)))
 
 add-i : tie.Need-add-i Inv-loop μ-loop
 add-i c = search needs
@@ -45,7 +45,7 @@ loop-less : tie.Need-loop-less Inv-loop μ-loop
 loop-less c = search needs
 
 loop-again : tie.Need-loop-again Inv-loop μ-loop
-loop-again c = (omega arith, all-more _ _ (c .before .before .before .before .loop .inv .1) (eq-eqb _ _ (c .if1 .left)))
+loop-again c = (omega arith, all-more _ (c .before .before .before .before .loop .i) (c .before .before .before .before .loop .inv .1) (not-false _ (c .if1 .left)))
 
 returns-2 : tie.Need-returns-2 Inv-loop μ-loop
 unfolding sameDomains
@@ -58,10 +58,10 @@ same-domains-spec =
     Inv-loop
     μ-loop
     loop-holds
-    mul-if1
-    element-copy-out-if1
-    mul-if1-2
-    element-copy-out-if1-2
+    mul-was
+    element-copy-out-was
+    mul-left
+    element-copy-out-left
     returns
     add-i
     loop-less

@@ -1,6 +1,5 @@
 -- `manual::settle`: the sweeps that are left make the same of the state in hand as all of them of the state at first. Assumes nothing.
-use Prim.Native.Nat.{_<_}
-use mathlib.Core.Path.{_≡_, refl, sym, ap, _∙_, subst}
+use mathlib.Core.Path.{_≡_, refl, sym, ap, _∙_}
 use Rattle.problem.specs.Manual.{pruneTimes}
 use Rattle.problem.specs.Held.{held}
 use Rattle.problem.specs.Masks.{stateOf, masksOf}

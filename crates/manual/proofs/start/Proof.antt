@@ -1,11 +1,9 @@
 -- `manual::start`: what reading the sheet finds. Assumes nothing.
-use mathlib.Core.Path.{_≡_, sym, _∙_}
-use denote.Ref.{now}
+use mathlib.Core.Path.{sym, _∙_}
 use Rattle.sheet.specs.Sheet.{layout}
 use Rattle.sheet.proofs.Accepted.{keeps}
 use Rattle.manual.proofs.Calls.{start-refused, start-accepted}
 use borrow.Author.Needs.{needs}
-use native.Mathlib.Omega.{arith}
 use Rattle.manual.proofs.start.Statement.{statement}
 use Rattle.manual.proofs.start.Tie as tie
 

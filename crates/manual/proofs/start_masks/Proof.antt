@@ -1,6 +1,6 @@
 -- `manual::start_masks`. Assumes nothing.
-use mathlib.Core.Path.{_≡_, ap, _∙_}
-use Rattle.problem.specs.Problem.{State, full}
+use mathlib.Core.Path.{ap, _∙_}
+use Rattle.problem.specs.Problem.{State}
 use Rattle.problem.specs.Manual.{pruneTimes}
 use Rattle.problem.specs.Held.{held}
 use Rattle.problem.specs.Masks.{stateOf, masksOf}
@@ -8,7 +8,6 @@ use denote.Ref.{now}
 use Rattle.manual.specs.Parts.{maxTurns}
 use Rattle.manual.proofs.Sweeps.{full-ready, full-says}
 use borrow.Author.Needs.{needs}
-use native.Mathlib.Omega.{arith}
 use Rattle.manual.proofs.start_masks.Statement.{statement}
 use Rattle.manual.proofs.start_masks.Tie as tie
 

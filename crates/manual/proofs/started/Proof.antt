@@ -1,5 +1,5 @@
 -- `manual::started`: the table holds the sheet's problem. Assumes nothing.
-use mathlib.Core.Path.{_≡_, ap, _∙_}
+use mathlib.Core.Path.{ap, _∙_}
 use denote.Ref.{now}
 use Rattle.problem.specs.declared.Masks.{Masks}
 use Rattle.sheet.specs.Sheet.{layout}
@@ -9,7 +9,6 @@ use Rattle.jobs.specs.declared.StartAnswer.{StartAnswer}
 use Rattle.jobs.specs.declared.StartOutcome.the-variants.{Started}
 use Rattle.manual.proofs.Sweeps.{table-good, table-start}
 use borrow.Author.Needs.{needs}
-use native.Mathlib.Omega.{arith}
 use Rattle.manual.proofs.started.Statement.{statement}
 use Rattle.manual.proofs.started.Tie as tie
 

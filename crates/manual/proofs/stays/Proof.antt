@@ -4,7 +4,6 @@ use Rattle.problem.specs.Masks.{stateOf}
 use Rattle.problem.proofs.HeldTable.{held-few}
 use Rattle.manual.proofs.Sweeps.{stays-is, goes-is}
 use borrow.Author.Needs.{needs}
-use native.Mathlib.Omega.{arith}
 use Rattle.manual.proofs.stays.Statement.{statement}
 use Rattle.manual.proofs.stays.Tie as tie
 

@@ -1,5 +1,5 @@
 -- `manual::weight`. Assumes nothing.
-use mathlib.Core.Path.{_≡_, _∙_}
+use mathlib.Core.Path.{_∙_}
 use Prim.Native.Nat.{_^_, _≤_}
 use lib.Pow.{pow-mono}
 use borrow.Author.Needs.{needs}

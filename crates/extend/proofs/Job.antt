@@ -1,0 +1,145 @@
+-- The job's cases, in the order of its tests. Assumes nothing.
+use mathlib.Core.Path.{_≡_, sym, ap, _∙_, subst}
+use mathlib.Core.Bool.{Bool, true, false}
+use mathlib.Core.List.{List}
+use Prim.Native.Nat.{ℕ}
+use lib.Dec.{eqb}
+use lib.ListN.{length}
+use borrow.Author.Tests.{eq-eqb, ne-eqb}
+use Rattle.bounded.specs.Table.{tab}
+use Rattle.problem.specs.Problem.{Problem, State, full}
+use Rattle.problem.specs.Reduce.{afterTrace}
+use Rattle.problem.specs.Extend.{undoTrace}
+use Rattle.problem.specs.Held.{held, tableOf, RowTable}
+use Rattle.problem.specs.Masks.{stateOf, masksOf}
+use Rattle.problem.specs.declared.Masks.{Masks}
+use Rattle.problem.specs.declared.Record.{Record}
+use Rattle.problem.proofs.Reflect.{Fits, full-fits}
+use Rattle.problem.proofs.Sound.{Solution}
+use Rattle.problem.proofs.Trace.{trace-fits}
+use Rattle.problem.proofs.HeldTable.{held-same, table-rows}
+use Rattle.sheet.specs.Sheet.{layout, readSheet, variablesOf, Keeps}
+use Rattle.sheet.specs.Relation.{problemOf}
+use Rattle.sheet.specs.declared.SheetRead.{SheetRead}
+use Rattle.sheet.specs.declared.SheetRead.the-variants as read
+use Rattle.sheet.specs.declared.SheetRefusal.{SheetRefusal}
+use Rattle.sheet.proofs.Accepted.{keeps, problem-bounded}
+use Rattle.jobs.specs.PutBack.{Checked, Lawful as Records, planOf, planFits, checkTrace, PutBackResult, putBackRefused, putBackDone, afterCheck, putBackJob}
+use Rattle.jobs.specs.declared.Extended.the-variants.{Done, Refused}
+use Rattle.jobs.specs.declared.ExtendRefusal.the-variants.{Sheet, PlanLength, ResultLength, Plan}
+use Rattle.rules.specs.Ready.{Ready}
+use Rattle.rules.proofs.After.{state-after}
+use Rattle.extend.specs.Walk.{checkedFrom, ended, lawfulEnd}
+use Rattle.extend.specs.Undone.{UndoableFrom, undoneBy}
+use Rattle.extend.proofs.First.{ready-masks, ready-full}
+use Rattle.extend.proofs.Walk.{ended-lawful, front-lawful}
+use Rattle.extend.proofs.Plan.{plan-solves}
+
+-- ---- after the trace
+
+abbrev planned : Problem → List Record → List ℕ → List ℕ → Bool → PutBackResult
+planned P ts p b x = elim x [ true ↦ putBackDone P ts p | false ↦ putBackRefused Plan b ]
+
+-- a table, and a trace over it that is lawful and leads to the state of `last`
+module _ {t : List ℕ} (R : RowTable t) (trace plan out : List ℕ) (last : Masks) (e : ended (held t) (full (held t)) (checkTrace (held t) trace) ≡ lawfulEnd last) where
+  found : (ts : List Record) × (checkTrace (held t) trace ≡ Records ts) × (last ≡ masksOf (afterTrace (held t) (full (held t)) ts))
+  found = ended-lawful (held t) (full (held t)) (checkTrace (held t) trace) last e
+
+  abbrev records : List Record
+  records = found .0
+
+  last-fits : Fits (held t) (afterTrace (held t) (full (held t)) records)
+  last-fits = trace-fits (held t) (full-fits (held t)) records
+
+  pub ready-last : Ready t last
+  ready-last = subst (Ready t) (sym (found .2)) (ready-masks R last-fits)
+
+  says-last : stateOf last ≡ afterTrace (held t) (full (held t)) records
+  says-last = ap stateOf (found .2) ∙ state-after (ready-masks R last-fits) last-fits
+
+  after-plan : (x : Bool) → planFits (held t) (stateOf last) plan ≡ x → afterCheck (held t) plan out (checkTrace (held t) trace) ≡ planned (held t) records plan out x
+  after-plan x h =
+      ap (afterCheck (held t) plan out) (found .1)
+      ∙ ap (planned (held t) records plan out) (ap (λ (s : State). planFits (held t) s plan) (sym says-last) ∙ h)
+
+  pub plan-refused : planFits (held t) (stateOf last) plan ≡ false → putBackRefused Plan out ≡ afterCheck (held t) plan out (checkTrace (held t) trace)
+  plan-refused h = sym (after-plan false h)
+
+  module _ (first : Masks) (ef : first ≡ masksOf (full (held t))) (h : planFits (held t) (stateOf last) plan ≡ true) where
+    says-first : stateOf first ≡ full (held t)
+    says-first = ready-full R first ef .1
+
+    checks-first : checkedFrom (held t) trace (stateOf first) 1 ≡ Records records
+    checks-first = ap (λ (s : State). checkedFrom (held t) trace s 1) says-first ∙ front-lawful (held t) trace records (found .1)
+
+    -- the plan in the result is undone from the first state
+    pub undoable-all : (xs : List ℕ) → xs ≡ plan → length plan ≡ (held t) .n → UndoableFrom t trace first 1 xs
+    undoable-all xs ex n =
+        subst (UndoableFrom t trace first 1) (sym ex)
+        (record {
+          long = n;
+          records = records;
+          checks = checks-first;
+          solved =
+              subst (λ (s : State). Solution (held t) (afterTrace (held t) s records) (planOf plan)) (sym says-first)
+              (plan-solves last-fits plan (ap (λ (s : State). planFits (held t) s plan) (sym says-last) ∙ h));
+        })
+
+    pub put-done : (xs ys : List ℕ) → xs ≡ plan → ys ≡ undoneBy (held t) (stateOf first) (checkedFrom (held t) trace (stateOf first) 1) xs
+        → (Done ≡ (afterCheck (held t) plan out (checkTrace (held t) trace)) .answer) × (ys ≡ (afterCheck (held t) plan out (checkTrace (held t) trace)) .result)
+    put-done xs ys ex ey =
+        let g = sym (after-plan true h) in (
+          ap (λ (r : PutBackResult). r .answer) g,
+          ey ∙ ap (λ (s : State). undoneBy (held t) s (checkedFrom (held t) trace s 1) xs) says-first
+              ∙ ap (λ (c : Checked). undoneBy (held t) (full (held t)) c xs) (front-lawful (held t) trace records (found .1))
+              ∙ ap (λ (z : List ℕ). tab ((held t) .n) (undoTrace (held t) (full (held t)) records (planOf z))) ex
+              ∙ ap (λ (r : PutBackResult). r .result) g,
+        )
+
+-- ---- over the table of a sheet
+
+pub sheet-table : (s t : List ℕ) → Keeps layout s → t ≡ tableOf (problemOf layout s) → RowTable t × (held t ≡ problemOf layout s)
+sheet-table s t y e =
+    let B = problem-bounded s y in
+    (subst RowTable (sym e) (table-rows (problemOf layout s) B), ap held e ∙ held-same (problemOf layout s) B)
+
+pub sheet-variables : (s t : List ℕ) → held t ≡ problemOf layout s → variablesOf s ≡ (held t) .n
+unfolding problemOf
+sheet-variables s t e = ap (λ (P : Problem). P .n) (sym e)
+
+-- ---- the tests before
+
+abbrev sized : Bool → Bool → List ℕ → PutBackResult → PutBackResult
+sized x y b r = elim x [ false ↦ putBackRefused PlanLength b | true ↦ elim y [ false ↦ putBackRefused ResultLength b | true ↦ r ] ]
+
+abbrev opened : List ℕ → List ℕ → List ℕ → List ℕ → SheetRead → PutBackResult
+opened s t p b x =
+    elim x [
+      | read.Refused r ↦ putBackRefused (Sheet r) b
+      | read.Accepted n m ↦ sized (eqb (length p) (variablesOf s)) (eqb (length b) (variablesOf s)) b (afterCheck (problemOf layout s) p b (checkTrace (problemOf layout s) t))
+    ]
+
+-- the variables that an accepted sheet answers are its own
+pub answered : (s : List ℕ) (n m : ℕ) → readSheet layout s ≡ read.Accepted n m → (Keeps layout s) × (n ≡ variablesOf s)
+answered s n m e = let k = keeps layout s n m e in (k, cc)
+
+module _ (s t p b : List ℕ) where
+  pub job-sheet : (r : SheetRefusal) → readSheet layout s ≡ read.Refused r → putBackRefused (Sheet r) b ≡ putBackJob s t p b
+  unfolding putBackJob
+  job-sheet r e = sym (ap (opened s t p b) e)
+
+  module _ (n m : ℕ) (e : readSheet layout s ≡ read.Accepted n m) where
+    abbrev over : PutBackResult
+    over = afterCheck (problemOf layout s) p b (checkTrace (problemOf layout s) t)
+
+    pub job-plan : (length p ≡ variablesOf s → ⊥) → putBackRefused PlanLength b ≡ putBackJob s t p b
+    unfolding putBackJob
+    job-plan h = sym (ap (opened s t p b) e ∙ ap (λ (x : Bool). sized x (eqb (length b) (variablesOf s)) b over) (ne-eqb (length p) (variablesOf s) h))
+
+    pub job-result : length p ≡ variablesOf s → (length b ≡ variablesOf s → ⊥) → putBackRefused ResultLength b ≡ putBackJob s t p b
+    unfolding putBackJob
+    job-result g h = sym (ap (opened s t p b) e ∙ (λ i. sized (eq-eqb (length p) (variablesOf s) g i) (ne-eqb (length b) (variablesOf s) h i) b over))
+
+    pub job-rest : length p ≡ variablesOf s → length b ≡ variablesOf s → over ≡ putBackJob s t p b
+    unfolding putBackJob
+    job-rest g h = sym (ap (opened s t p b) e ∙ (λ i. sized (eq-eqb (length p) (variablesOf s) g i) (eq-eqb (length b) (variablesOf s) h i) b over))

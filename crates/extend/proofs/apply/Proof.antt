@@ -1,0 +1,17 @@
+-- `extend::apply`: a lawful record's fields are in range. Assumes nothing.
+use Rattle.problem.specs.Held.{held}
+use Rattle.problem.specs.Masks.{stateOf}
+use Rattle.problem.proofs.Trace.{lawful-iff}
+use Rattle.reduce.proofs.States.{holds-within}
+use borrow.Author.Needs.{needs}
+use Rattle.extend.proofs.apply.Statement.{statement}
+use Rattle.extend.proofs.apply.Tie as tie
+
+apply-requires : tie.Need-apply-requires
+apply-requires c κs = let p = c .before .pre in (p .0, holds-within (p .0) _ (lawful-iff _ _ _ .0 (p .1) .1))
+
+returns : tie.Need-returns
+returns c = c .apply .ensures
+
+pub apply-spec : {M : Type 1} → statement M
+apply-spec = tie.close (tie.spec apply-requires returns)

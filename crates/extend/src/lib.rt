@@ -1,0 +1,519 @@
+// Putting back, document 01's third job: a trace checked record by record, the plan for the items left, and the records undone.
+ghost use mathlib.Core.Path.{_≡_};
+ghost use mathlib.Core.Bool.{_&&_, true, false};
+ghost use mathlib.Core.Logic.{_≢_};
+ghost use Prim.Native.Nat.{_-_, _^_, _<_, _≤_};
+ghost use lib.Dec.{T};
+ghost use lib.ListN.{length, getD};
+ghost use Rattle.bounded.specs.Bounded.{all};
+ghost use Rattle.bounded.specs.Mask.{maskOf};
+ghost use Rattle.bounded.specs.Table.{tab};
+ghost use Rattle.problem.specs.Problem.{full, unsupported as unsupportedAt, snake as snakeAt, triangle as triangleAt, neighbourhood as neighbourhoodAt};
+ghost use Rattle.problem.specs.Problem.{snakeSubstitution as slideAt, slideSpares, lowestLive, snakeServes, triangleServes};
+ghost use Rattle.problem.specs.Reduce.{holds as holdsAt, lawful as lawfulAt, after};
+ghost use Rattle.problem.specs.Extend.{undo};
+ghost use Rattle.problem.specs.Held.{held, heldVariables, rowPlace, RowTable};
+ghost use Rattle.problem.specs.Masks.{stateOf, masksOf, Proper};
+ghost use Rattle.problem.specs.declared.Record.the-variants.{Snake, Triangle};
+ghost use Rattle.sheet.specs.Bytes.{Is};
+ghost use Rattle.sheet.specs.Sheet.{Keeps, layout, variablesOf};
+ghost use Rattle.sheet.specs.Relation.{problemOf};
+ghost use Rattle.rules.specs.Ready.{Ready, Value};
+ghost use Rattle.jobs.specs.PutBack.{planOf, planFits, checkTrace, afterCheck, putBackJob};
+ghost use Rattle.extend.specs.Walk.{checkedFrom, ended, faulty, lawfulEnd};
+ghost use Rattle.extend.specs.Plan.{entryFits, Entries, pairFits, pairsOf};
+ghost use Rattle.extend.specs.Undone.{mended as mendedAt, Left, Undoable, UndoableFrom, undoneBy};
+use bounded::has16;
+use bounded::has32;
+use jobs::ExtendRefusal;
+use jobs::Extended;
+use jobs::RecordRead;
+use problem::Masks;
+use problem::Record;
+use problem::empty_masks;
+use sheet::SheetRead;
+use trace::record_at;
+
+// What checking a trace finds.
+enum TraceCheck {
+    Lawful,
+    Fault(ExtendRefusal),
+}
+
+// The check's answer. An enum holds no array, so the state that the records lead to stands beside it.
+struct TraceEnd {
+    pub check: TraceCheck,
+    pub state: Masks,
+}
+
+// ---- one record, with any numbers in its fields
+
+fn holds_unsupported(t: &[u16], m: Masks, i: usize, b: usize, k: usize) -> bool
+    requires { ⌜ Ready (now t) m ⌝ }
+    ensures { λ r. ⌜ r ≡ unsupportedAt (held (now (t .entry))) (stateOf m) i b k ⌝ }
+{
+    if (i < 32) & ((b < 16) & (k < 32)) {
+        rules::unsupported(t, m, i, b, k)
+    } else {
+        false
+    }
+}
+
+fn holds_snake(t: &[u16], m: Masks, i: usize, v: usize) -> bool
+    requires { ⌜ Ready (now t) m ⌝ }
+    ensures { λ r. ⌜ r ≡ snakeAt (held (now (t .entry))) (stateOf m) i v ⌝ }
+{
+    if (i < 32) & (v < 16) {
+        rules::snake(t, m, i, v)
+    } else {
+        false
+    }
+}
+
+fn holds_triangle(t: &[u16], m: Masks, i: usize, j: usize) -> bool
+    requires { ⌜ Ready (now t) m ⌝ }
+    ensures { λ r. ⌜ r ≡ triangleAt (held (now (t .entry))) (stateOf m) i j ⌝ }
+{
+    if (i < 32) & (j < 32) {
+        rules::triangle(t, m, i, j)
+    } else {
+        false
+    }
+}
+
+fn holds_neighbourhood(t: &[u16], m: Masks, i: usize, b: usize, a: usize) -> bool
+    requires { ⌜ Ready (now t) m ⌝ }
+    ensures { λ r. ⌜ r ≡ neighbourhoodAt (held (now (t .entry))) (stateOf m) i b a ⌝ }
+{
+    if (i < 32) & ((b < 16) & (a < 16)) {
+        rules::neighbourhood(t, m, i, b, a)
+    } else {
+        false
+    }
+}
+
+fn holds_slide(t: &[u16], m: Masks, i: usize, b: usize, a: usize) -> bool
+    requires { ⌜ Ready (now t) m ⌝ }
+    ensures { λ r. ⌜ r ≡ slideAt (held (now (t .entry))) (stateOf m) slideSpares i b a ⌝ }
+{
+    if (i < 32) & ((b < 16) & (a < 16)) {
+        rules::snake_substitution(t, m, i, b, a)
+    } else {
+        false
+    }
+}
+
+// The rule of the record's kind holds for its fields.
+fn holds(t: &[u16], m: Masks, r: Record) -> bool
+    requires { ⌜ Ready (now t) m ⌝ }
+    ensures { λ b. ⌜ b ≡ holdsAt (held (now (t .entry))) (stateOf m) r ⌝ }
+{
+    match r {
+        Record::Unsupported(i, b, k) => holds_unsupported(t, m, i, b, k),
+        Record::Snake(i, v) => holds_snake(t, m, i, v),
+        Record::Triangle(i, j) => holds_triangle(t, m, i, j),
+        Record::Neighbourhood(i, b, a) => holds_neighbourhood(t, m, i, b, a),
+        Record::SnakeSubstitution(i, b, a) => holds_slide(t, m, i, b, a),
+    }
+}
+
+// No record is lawful once an active variable has an empty domain.
+fn lawful(t: &[u16], m: Masks, r: Record) -> bool
+    requires { ⌜ Ready (now t) m ⌝ }
+    ensures { λ b. ⌜ b ≡ lawfulAt (held (now (t .entry))) (stateOf m) r ⌝ }
+{
+    if rules::none_empty(t, m) {
+        holds(t, m, r)
+    } else {
+        false
+    }
+}
+
+// The state after a lawful record.
+fn apply(t: &[u16], m: Masks, r: Record) -> Masks
+    requires { ⌜ Ready (now t) m × T (lawfulAt (held (now t)) (stateOf m) r) ⌝ }
+    ensures { λ x. ⌜ x ≡ masksOf (after (held (now (t .entry))) (stateOf m) r) ⌝ }
+{
+    reduce::apply(t, m, r)
+}
+
+// ---- the trace
+
+// The answer at a fault.
+fn fault(e: ExtendRefusal) -> TraceEnd
+    ensures { λ r. ⌜ r ≡ faulty e ⌝ }
+{
+    TraceEnd {
+        check: TraceCheck::Fault(e),
+        state: empty_masks(),
+    }
+}
+
+// Record by record from the place after the front, each in the state that the records before it lead to.
+fn check_records(t: &[u16], trace: &[u8], first: Masks) -> TraceEnd
+    requires { ⌜ Ready (now t) first ⌝ }
+    ensures { λ r. ⌜ r ≡ ended (held (now (t .entry))) (stateOf first) (checkedFrom (held (now (t .entry))) (now (trace .entry)) (stateOf first) 1) ⌝ }
+{
+    let mut m = first;
+    let mut at: usize = 1;
+    loop {
+        let found = record_at(trace, at);
+        match found {
+            RecordRead::Read { record, next } => {
+                if !lawful(t, m, record) {
+                    return fault(ExtendRefusal::Unlawful);
+                }
+                m = apply(t, m, record);
+                at = next;
+            }
+            RecordRead::End => {
+                return TraceEnd {
+                    check: TraceCheck::Lawful,
+                    state: m,
+                };
+            }
+            RecordRead::Malformed => {
+                return fault(ExtendRefusal::Malformed);
+            }
+        }
+    }
+}
+
+// The whole trace from the first state: its front, then its records.
+fn check_trace(t: &[u16], trace: &[u8], first: Masks) -> TraceEnd
+    requires { ⌜ RowTable (now t) × (first ≡ masksOf (full (held (now t)))) ⌝ }
+    ensures { λ r. ⌜ r ≡ ended (held (now (t .entry))) (full (held (now (t .entry)))) (checkTrace (held (now (t .entry))) (now (trace .entry))) ⌝ }
+{
+    if trace.len() == 0 {
+        return fault(ExtendRefusal::TraceFront);
+    }
+    if trace[0] != 1 {
+        return fault(ExtendRefusal::TraceFront);
+    }
+    check_records(t, trace, first)
+}
+
+// ---- the plan
+
+// Value v is in the domain of variable i.
+fn is_live(m: Masks, i: usize, v: usize) -> bool
+    requires { ⌜ Proper m × (i < 32) ⌝ }
+    ensures { λ r. ⌜ r ≡ (stateOf m) .live i v ⌝ }
+{
+    if v < 16 {
+        has16(m.domains[i], v)
+    } else {
+        false
+    }
+}
+
+// An item in has a setting on, and an item out has 255.
+fn entry_fits(m: Masks, i: usize, v: usize) -> bool
+    requires { ⌜ Proper m × (i < 32) ⌝ }
+    ensures { λ r. ⌜ r ≡ entryFits (stateOf m) i v ⌝ }
+{
+    if has32(m.active, i) {
+        is_live(m, i, v)
+    } else {
+        v == 255
+    }
+}
+
+fn entries_fit(m: Masks, plan: &[u8]) -> bool
+    requires { ⌜ Proper m × (length (now plan) ≤ 32) ⌝ }
+    ensures { λ r. ⌜ r ≡ all (length (now (plan .entry))) (λ i. entryFits (stateOf m) i (planOf (now (plan .entry)) i)) ⌝ }
+{
+    let mut i: usize = 0;
+    while i < plan.len() {
+        if !entry_fits(m, i, plan[i] as usize) {
+            return false;
+        }
+        i += 1;
+    }
+    true
+}
+
+// Value a of i is allowed with value b of j. No two values of one variable are, whatever the row between them says.
+fn pair_allowed(t: &[u16], i: usize, a: usize, j: usize, b: usize) -> bool
+    requires { ⌜ RowTable (now t) × (Value (now t) i a × Value (now t) j b) ⌝ }
+    ensures { λ r. ⌜ r ≡ (held (now (t .entry))) .allowed i a j b ⌝ }
+{
+    (i != j) & has16(t[32 + ((i * 32 + j) * 16 + a)], b)
+}
+
+// Two items in have an allowed pair.
+fn pair_fits(t: &[u16], m: Masks, plan: &[u8], i: usize, j: usize) -> bool
+    requires { ⌜ Ready (now t) m × (Entries m (now plan) × ((i < length (now plan)) × (j < length (now plan)))) ⌝ }
+    ensures { λ r. ⌜ r ≡ pairFits (held (now (t .entry))) (stateOf m) (planOf (now (plan .entry))) i j ⌝ }
+{
+    if has32(m.active, i) & (has32(m.active, j) & (i != j)) {
+        pair_allowed(t, i, plan[i] as usize, j, plan[j] as usize)
+    } else {
+        true
+    }
+}
+
+fn pairs_of(t: &[u16], m: Masks, plan: &[u8], i: usize) -> bool
+    requires { ⌜ Ready (now t) m × (Entries m (now plan) × ((length (now plan) ≡ (held (now t)) .n) × (i < length (now plan)))) ⌝ }
+    ensures { λ r. ⌜ r ≡ pairsOf (held (now (t .entry))) (stateOf m) (planOf (now (plan .entry))) i ⌝ }
+{
+    let mut j: usize = 0;
+    while j < plan.len() {
+        if !pair_fits(t, m, plan, i, j) {
+            return false;
+        }
+        j += 1;
+    }
+    true
+}
+
+fn pairs_fit(t: &[u16], m: Masks, plan: &[u8]) -> bool
+    requires { ⌜ Ready (now t) m × (Entries m (now plan) × (length (now plan) ≡ (held (now t)) .n)) ⌝ }
+    ensures { λ r. ⌜ r ≡ all ((held (now (t .entry))) .n) (pairsOf (held (now (t .entry))) (stateOf m) (planOf (now (plan .entry)))) ⌝ }
+{
+    let mut i: usize = 0;
+    while i < plan.len() {
+        if !pairs_of(t, m, plan, i) {
+            return false;
+        }
+        i += 1;
+    }
+    true
+}
+
+// The plan is one for the items left: each entry by itself first, since only a setting on has a row to read.
+fn plan_fits(t: &[u16], m: Masks, plan: &[u8]) -> bool
+    requires { ⌜ Ready (now t) m × (length (now plan) ≡ (held (now t)) .n) ⌝ }
+    ensures { λ r. ⌜ r ≡ planFits (held (now (t .entry))) (stateOf m) (now (plan .entry)) ⌝ }
+{
+    if entries_fit(m, plan) {
+        pairs_fit(t, m, plan)
+    } else {
+        false
+    }
+}
+
+// ---- undoing kind 2
+
+fn serves_snake(t: &[u16], m: Masks, i: usize, v: usize, j: usize, w: usize, c: usize) -> bool
+    requires { ⌜ Ready (now t) m × (Value (now t) i v × (Value (now t) j w × (c < 16))) ⌝ }
+    ensures { λ r. ⌜ r ≡ ((stateOf m) .live j c && snakeServes (held (now (t .entry))) (stateOf m) i v j w c) ⌝ }
+{
+    if is_live(m, j, c) {
+        rules::snake_serves(t, m, i, v, j, w, c)
+    } else {
+        false
+    }
+}
+
+// The lowest w' that may take the place of w at j where i has v.
+fn lowest_snake(t: &[u16], m: Masks, i: usize, v: usize, j: usize, w: usize) -> usize
+    requires { ⌜ Ready (now t) m × (Value (now t) i v × Value (now t) j w) ⌝ }
+    ensures { λ r. ⌜ Is (lowestLive (held (now (t .entry))) (stateOf m) j (λ c. snakeServes (held (now (t .entry))) (stateOf m) i v j w c)) 17 r ⌝ }
+{
+    let size = t[j] as usize;
+    let mut c: usize = 0;
+    while c < size {
+        if serves_snake(t, m, i, v, j, w, c) {
+            return c;
+        }
+        c += 1;
+    }
+    size
+}
+
+// The value of another active variable j once i has v.
+fn mended_other(t: &[u16], m: Masks, i: usize, v: usize, j: usize, w: u8) -> u8
+    requires { ⌜ Ready (now t) m × (Value (now t) i v × (Value (now t) j w × (((stateOf m) .active j ≡ true) × (j ≢ i)))) ⌝ }
+    ensures { λ r. ⌜ r ≡ mendedAt (held (now (t .entry))) (stateOf m) i v j w ⌝ }
+{
+    if pair_allowed(t, i, v, j, w as usize) {
+        w
+    } else {
+        lowest_snake(t, m, i, v, j, w as usize) as u8
+    }
+}
+
+// The value of j once i has v. What stands at a variable that is not active is left, and i is set afterwards.
+fn mended(t: &[u16], m: Masks, i: usize, v: usize, j: usize, w: u8) -> u8
+    requires { ⌜ Ready (now t) m × (Value (now t) i v × ((j < 32) × (T ((stateOf m) .active j) → j ≢ i → T ((stateOf m) .live j w)))) ⌝ }
+    ensures { λ r. ⌜ r ≡ mendedAt (held (now (t .entry))) (stateOf m) i v j w ⌝ }
+{
+    if has32(m.active, j) & (j != i) {
+        mended_other(t, m, i, v, j, w)
+    } else {
+        w
+    }
+}
+
+// Each other item's setting that is barred with v changes.
+fn repair(t: &[u16], m: Masks, i: usize, v: usize, out: &mut [u8])
+    requires { ⌜ Ready (now t) m × (Value (now t) i v × Left (now t) m i (now out)) ⌝ }
+    ensures { λ _. ⌜ now (out .exit) ≡ tab ((held (now (t .entry))) .n) (λ j. mendedAt (held (now (t .entry))) (stateOf m) i v j (planOf (now (out .entry)) j)) ⌝ }
+{
+    let mut j: usize = 0;
+    while j < out.len() {
+        out[j] = mended(t, m, i, v, j, out[j]);
+        j += 1;
+    }
+}
+
+fn undo_snake(t: &[u16], m: Masks, i: usize, v: usize, out: &mut [u8])
+    requires { ⌜ Ready (now t) m × (Undoable (now t) m (Snake i v) (now out)) ⌝ }
+    ensures { λ _. ⌜ now (out .exit) ≡ tab ((held (now (t .entry))) .n) (undo (held (now (t .entry))) (stateOf m) (Snake i v) (planOf (now (out .entry)))) ⌝ }
+{
+    repair(t, m, i, v, out);
+    out[i] = v as u8;
+}
+
+// ---- undoing kind 3
+
+fn serves_triangle(t: &[u16], m: Masks, i: usize, j: usize, v: usize, c: usize) -> bool
+    requires { ⌜ Ready (now t) m × (Value (now t) j v × ((i < 32) × (c < 16))) ⌝ }
+    ensures { λ r. ⌜ r ≡ ((stateOf m) .live i c && triangleServes (held (now (t .entry))) (stateOf m) i j v c) ⌝ }
+{
+    if is_live(m, i, c) {
+        rules::triangle_serves(t, m, i, j, v, c)
+    } else {
+        false
+    }
+}
+
+// The lowest u of i that serves for value v of j.
+fn lowest_triangle(t: &[u16], m: Masks, i: usize, j: usize, v: usize) -> usize
+    requires { ⌜ Ready (now t) m × (Value (now t) j v × (i < 32)) ⌝ }
+    ensures { λ r. ⌜ Is (lowestLive (held (now (t .entry))) (stateOf m) i (λ c. triangleServes (held (now (t .entry))) (stateOf m) i j v c)) 17 r ⌝ }
+{
+    let size = t[i] as usize;
+    let mut u: usize = 0;
+    while u < size {
+        if serves_triangle(t, m, i, j, v, u) {
+            return u;
+        }
+        u += 1;
+    }
+    size
+}
+
+fn undo_triangle(t: &[u16], m: Masks, i: usize, j: usize, out: &mut [u8])
+    requires { ⌜ Ready (now t) m × (Undoable (now t) m (Triangle i j) (now out)) ⌝ }
+    ensures { λ _. ⌜ now (out .exit) ≡ tab ((held (now (t .entry))) .n) (undo (held (now (t .entry))) (stateOf m) (Triangle i j) (planOf (now (out .entry)))) ⌝ }
+{
+    out[i] = lowest_triangle(t, m, i, j, out[j] as usize) as u8;
+}
+
+// ---- undoing a trace
+
+// One record undone against the state before it. Kinds 1, 4 and 5 change nothing.
+fn undo_record(t: &[u16], m: Masks, r: Record, out: &mut [u8])
+    requires { ⌜ Ready (now t) m × (Undoable (now t) m r (now out)) ⌝ }
+    ensures { λ _. ⌜ now (out .exit) ≡ tab ((held (now (t .entry))) .n) (undo (held (now (t .entry))) (stateOf m) r (planOf (now (out .entry)))) ⌝ }
+{
+    match r {
+        Record::Unsupported(_, _, _) => {}
+        Record::Snake(i, v) => undo_snake(t, m, i, v, out),
+        Record::Triangle(i, j) => undo_triangle(t, m, i, j, out),
+        Record::Neighbourhood(_, _, _) => {}
+        Record::SnakeSubstitution(_, _, _) => {}
+    }
+}
+
+// The records from a place on undone, last first: each call keeps the state before its record until the later ones are undone.
+fn undo_from(t: &[u16], m: Masks, trace: &[u8], at: usize, out: &mut [u8])
+    requires { ⌜ Ready (now t) m × (UndoableFrom (now t) (now trace) m at (now out)) ⌝ }
+    ensures { λ _. ⌜ now (out .exit) ≡ undoneBy (held (now (t .entry))) (stateOf m) (checkedFrom (held (now (t .entry))) (now (trace .entry)) (stateOf m) at) (now (out .entry)) ⌝ }
+{
+    let found = record_at(trace, at);
+    match found {
+        RecordRead::Read { record, next } => {
+            let later = apply(t, m, record);
+            undo_from(t, later, trace, next, out);
+            undo_record(t, m, record, out);
+        }
+        RecordRead::End => {}
+        RecordRead::Malformed => {}
+    }
+}
+
+// ---- the job
+
+// Copies the plan into the result.
+fn copy(plan: &[u8], out: &mut [u8])
+    requires { ⌜ length (now plan) ≡ length (now out) ⌝ }
+    ensures { λ _. ⌜ now (out .exit) ≡ now (plan .entry) ⌝ }
+{
+    let mut i: usize = 0;
+    while i < plan.len() {
+        out[i] = plan[i];
+        i += 1;
+    }
+}
+
+// The plan tested against the last state, and the records undone from the first.
+fn finish(
+    t: &[u16],
+    first: Masks,
+    last: Masks,
+    trace: &[u8],
+    plan: &[u8],
+    out: &mut [u8],
+) -> Extended
+    requires { ⌜ RowTable (now t) × ((first ≡ masksOf (full (held (now t)))) × ((ended (held (now t)) (full (held (now t))) (checkTrace (held (now t)) (now trace)) ≡ lawfulEnd last) × ((length (now plan) ≡ (held (now t)) .n) × (length (now out) ≡ (held (now t)) .n)))) ⌝ }
+    ensures { λ r. ⌜ (r ≡ (afterCheck (held (now (t .entry))) (now (plan .entry)) (now (out .entry)) (checkTrace (held (now (t .entry))) (now (trace .entry)))) .answer) × (now (out .exit) ≡ (afterCheck (held (now (t .entry))) (now (plan .entry)) (now (out .entry)) (checkTrace (held (now (t .entry))) (now (trace .entry)))) .result) ⌝ }
+{
+    if !plan_fits(t, last, plan) {
+        return Extended::Refused(ExtendRefusal::Plan);
+    }
+    copy(plan, out);
+    undo_from(t, first, trace, 1, out);
+    Extended::Done
+}
+
+// The trace, then the plan, over the table of a sheet.
+fn put_back_over(t: &[u16], trace: &[u8], plan: &[u8], out: &mut [u8]) -> Extended
+    requires { ⌜ RowTable (now t) × ((length (now plan) ≡ (held (now t)) .n) × (length (now out) ≡ (held (now t)) .n)) ⌝ }
+    ensures { λ r. ⌜ (r ≡ (afterCheck (held (now (t .entry))) (now (plan .entry)) (now (out .entry)) (checkTrace (held (now (t .entry))) (now (trace .entry)))) .answer) × (now (out .exit) ≡ (afterCheck (held (now (t .entry))) (now (plan .entry)) (now (out .entry)) (checkTrace (held (now (t .entry))) (now (trace .entry)))) .result) ⌝ }
+{
+    let first = reduce::full_masks(t);
+    let end = check_trace(t, trace, first);
+    let check = end.check;
+    match check {
+        TraceCheck::Fault(e) => Extended::Refused(e),
+        TraceCheck::Lawful => {
+            let last = end.state;
+            finish(t, first, last, trace, plan, out)
+        }
+    }
+}
+
+// The table of an accepted sheet, and the rest over it.
+fn put_back_sheet(s: &[u8], trace: &[u8], plan: &[u8], out: &mut [u8]) -> Extended
+    requires { ⌜ Keeps layout (now s) × ((length (now plan) ≡ variablesOf (now s)) × (length (now out) ≡ variablesOf (now s))) ⌝ }
+    ensures { λ r. ⌜ (r ≡ (afterCheck (problemOf layout (now (s .entry))) (now (plan .entry)) (now (out .entry)) (checkTrace (problemOf layout (now (s .entry))) (now (trace .entry)))) .answer) × (now (out .exit) ≡ (afterCheck (problemOf layout (now (s .entry))) (now (plan .entry)) (now (out .entry)) (checkTrace (problemOf layout (now (s .entry))) (now (trace .entry)))) .result) ⌝ }
+{
+    let mut t = [0u16; 16416];
+    sheet::fill_table(s, &mut t);
+    put_back_over(&t, trace, plan, out)
+}
+
+// Puts back what a trace took out: the plan of the whole sheet from one for the items left. A refusal leaves the result as it was.
+pub fn put_back(s: &[u8], trace: &[u8], plan: &[u8], out: &mut [u8]) -> Extended
+    ensures { λ r. ⌜ (r ≡ (putBackJob (now (s .entry)) (now (trace .entry)) (now (plan .entry)) (now (out .entry))) .answer) × (now (out .exit) ≡ (putBackJob (now (s .entry)) (now (trace .entry)) (now (plan .entry)) (now (out .entry))) .result) ⌝ }
+{
+    let read = sheet::read_sheet(s);
+    match read {
+        SheetRead::Refused(r) => Extended::Refused(ExtendRefusal::Sheet(r)),
+        SheetRead::Accepted {
+            variables,
+            blocks: _,
+        } => {
+            if plan.len() != variables {
+                return Extended::Refused(ExtendRefusal::PlanLength);
+            }
+            if out.len() != variables {
+                return Extended::Refused(ExtendRefusal::ResultLength);
+            }
+            put_back_sheet(s, trace, plan, out)
+        }
+    }
+}

@@ -1,0 +1,4 @@
+pub mod Counting
+pub mod Records
+pub mod Steps
+pub mod Text

@@ -1,0 +1,65 @@
+-- `report::count_bits`: before each turn the sum is the count below c. Assumes nothing.
+use mathlib.Core.Path.{_≡_, sym, ap, _∙_}
+use Prim.Native.Nat.{ℕ, _+_, _-_, _≤_}
+use native.Mathlib.Omega.{arith}
+use Rattle.bounded.specs.Bounded.{one, count}
+use Rattle.bounded.specs.Mask.{bit}
+use borrow.Author.Needs.{needs}
+use Rattle.report.proofs.Counting.{count-none, count-more, count-most}
+use Rattle.report.proofs.count_bits.Statement.{statement}
+use Rattle.report.proofs.count_bits.Tie as tie
+
+abbrev Inv-loop : tie.InvT-loop
+Inv-loop x n sum₀ c₀ sum c = (c ≤ n) × ((sum ≡ count c (λ k. bit x k)) × (sum ≤ c))
+
+abbrev μ-loop : tie.MeasureT-loop
+μ-loop x n sum₀ c₀ sum c = n - c
+
+loop-holds : tie.Need-loop-holds Inv-loop μ-loop
+loop-holds c = (omega arith, (sym (count-none _), omega arith))
+
+has32-requires : tie.Need-has32-requires Inv-loop μ-loop
+has32-requires c κs = omega arith
+
+one-requires : tie.Need-one-requires Inv-loop μ-loop
+one-requires c κs = search needs
+
+-- one turn more, and the count is at most the turns
+more : tie.Need-loop-again Inv-loop μ-loop
+more c =
+    let w = c .before .before .before .loop in
+    let x = c .before .before .before .before .args .x in
+    let e : w .sum + c .one .result ≡ count (w .c + 1) (λ k. bit x k) =
+    (λ i. w .inv .1 .0 i + (c .one .ensures ∙ ap one (c .before .has32 .ensures)) i) ∙ sym (count-more (λ k. bit x k) (w .c)) in
+    (omega arith, (e, omega (arith, e, count-most (w .c + 1) (λ k. bit x k))))
+
+add-sum : tie.Need-add-sum Inv-loop μ-loop
+add-sum c = let m = more c in omega arith
+
+add-c : tie.Need-add-c Inv-loop μ-loop
+add-c c = omega arith
+
+loop-less : tie.Need-loop-less Inv-loop μ-loop
+loop-less c = omega arith
+
+returns : tie.Need-returns Inv-loop μ-loop
+returns c =
+    let w = c .before .loop in
+    let x = c .before .before .args .x in
+    let e : w .c ≡ c .before .before .args .n = omega arith in
+    (w .inv .1 .0 ∙ ap (λ (k : ℕ). count k (λ c. bit x c)) e, omega arith)
+
+pub count-bits-spec : {M : Type 1} → statement M
+count-bits-spec =
+    tie.close
+    (tie.spec
+    Inv-loop
+    μ-loop
+    loop-holds
+    has32-requires
+    one-requires
+    add-sum
+    add-c
+    loop-less
+    more
+    returns)

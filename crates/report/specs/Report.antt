@@ -1,0 +1,30 @@
+-- What the report writes, and what it knows of a run that was not refused.
+use mathlib.Core.Path.{_≡_}
+use mathlib.Core.Bool.{true, false}
+use mathlib.Core.List.{List, []}
+use Prim.Native.Nat.{ℕ, _≤_}
+use lib.Dec.{ltb}
+use lib.ListN.{length}
+use Rattle.problem.specs.Problem.{Problem, full}
+use Rattle.problem.specs.Reduce.{run, afterTrace, endOf}
+use Rattle.problem.specs.Masks.{masksOf}
+use Rattle.problem.specs.declared.End.{End}
+use Rattle.problem.specs.declared.Masks.{Masks}
+use Rattle.jobs.specs.Print.{sheetLines}
+use Rattle.report.specs.Records.{recordsIn}
+
+-- a buffer of this length has room for every text
+abbrev pub reportRoom : ℕ
+reportRoom = 32768
+
+-- the text for the bytes s in a buffer of a length: all that is printed, or nothing where the buffer is short
+unfoldable pub reportText : List ℕ → ℕ → List ℕ
+reportText s room = elim (ltb room reportRoom) [ true ↦ [] | false ↦ sheetLines s ]
+
+-- the run of P ended so: its end, its number of steps and its last state, and its records in the trace w
+pub record Ran (P : Problem) (w : List ℕ) (e : End) (steps : ℕ) (m : Masks) : Type 0 where
+  pub end : e ≡ endOf P (afterTrace P (full P) (run P (full P)))
+  pub count : steps ≡ length (run P (full P))
+  pub few : steps ≤ 512
+  pub last : m ≡ masksOf (afterTrace P (full P) (run P (full P)))
+  pub told : recordsIn steps w 1 ≡ run P (full P)
