@@ -32,7 +32,7 @@ use problem::Masks;
 use problem::Record;
 use problem::empty_masks;
 use sheet::SheetRead;
-use trace::record_at;
+use trace::read_at;
 
 // What checking a trace finds.
 enum TraceCheck {
@@ -157,7 +157,7 @@ fn check_records(t: &[u16], trace: &[u8], first: Masks) -> TraceEnd
     let mut m = first;
     let mut at: usize = 1;
     loop {
-        let found = record_at(trace, at);
+        let found = read_at(trace, at);
         match found {
             RecordRead::Read { record, next } => {
                 if !lawful(t, m, record) {
@@ -423,7 +423,7 @@ fn undo_from(t: &[u16], m: Masks, trace: &[u8], at: usize, out: &mut [u8])
     requires { ⌜ Ready (now t) m × (UndoableFrom (now t) (now trace) m at (now out)) ⌝ }
     ensures { λ _. ⌜ now (out .exit) ≡ undoneBy (held (now (t .entry))) (stateOf m) (checkedFrom (held (now (t .entry))) (now (trace .entry)) (stateOf m) at) (now (out .entry)) ⌝ }
 {
-    let found = record_at(trace, at);
+    let found = read_at(trace, at);
     match found {
         RecordRead::Read { record, next } => {
             let later = apply(t, m, record);

@@ -84,6 +84,34 @@ pub fn record_at(s: &[u8], at: usize) -> RecordRead
     }
 }
 
+// ---- document 01's reader: it holds the lent bytes and its place, and is thin over `record_at`
+
+struct Reader<'a> {
+    src: &'a [u8],
+    at: usize,
+}
+
+// A reader of these bytes that stands at a place.
+fn placed<'a>(src: &'a [u8], at: usize) -> Reader<'a>
+    ensures { λ r. ⌜ (r .src ≡ src .entry) × (r .at ≡ at) ⌝ }
+{
+    Reader { src, at }
+}
+
+// What stands where the reader stands.
+fn next<'a>(r: Reader<'a>) -> RecordRead
+    ensures { λ x. ⌜ x ≡ recordAt (now (r .entry .src)) (r .entry .at) ⌝ }
+{
+    record_at(r.src, r.at)
+}
+
+// What a reader of these bytes finds at a place: plain parameters, so that its callers need no walk.
+pub fn read_at(s: &[u8], at: usize) -> RecordRead
+    ensures { λ r. ⌜ r ≡ recordAt (now (s .entry)) at ⌝ }
+{
+    next(placed(s, at))
+}
+
 // ---- writing
 
 // A record of three bytes after its length byte; the place after it.

@@ -28,8 +28,8 @@ abbrev μ-loop : tie.MeasureT-loop
 loop-holds : tie.Need-loop-holds Inv-loop μ-loop
 loop-holds c = (c .before .before .pre, refl)
 
-record-at-requires : tie.Need-record-at-requires Inv-loop μ-loop
-record-at-requires c κs = search needs
+read-at-requires : tie.Need-read-at-requires Inv-loop μ-loop
+read-at-requires c κs = search needs
 
 enum-known-found : tie.Need-enum-known-found Inv-loop μ-loop
 enum-known-found c = search needs
@@ -41,23 +41,23 @@ fault-requires : tie.Need-fault-requires Inv-loop μ-loop
 fault-requires c κs = search needs
 
 returns : tie.Need-returns Inv-loop μ-loop
-returns c = let l = c .before .before .before .before .before .before .before .loop in let a = c .before .before .before .before .before .before .before .before .before .before .args in let e = sym (c .before .before .before .before .before .before .record-at .ensures) ∙ c .before .before .before .before .found .given .1 in c .fault .ensures ∙ sym (l .inv .1 ∙ ap (ended (held (a .t .now)) (stateOf (l .m))) (checked-unlawful _ _ _ _ _ _ e (sym (c .before .before .lawful .ensures) ∙ not-true _ (c .before .if1 .taken))))
+returns c = let l = c .before .before .before .before .before .before .before .loop in let a = c .before .before .before .before .before .before .before .before .before .before .args in let e = sym (c .before .before .before .before .before .before .read-at .ensures) ∙ c .before .before .before .before .found .given .1 in c .fault .ensures ∙ sym (l .inv .1 ∙ ap (ended (held (a .t .now)) (stateOf (l .m))) (checked-unlawful _ _ _ _ _ _ e (sym (c .before .before .lawful .ensures) ∙ not-true _ (c .before .if1 .taken))))
 
 apply-requires : tie.Need-apply-requires Inv-loop μ-loop
 apply-requires c κs = (c .before .before .before .before .before .before .loop .inv .0, T-of (sym (c .before .lawful .ensures) ∙ not-false _ (c .if1 .left)))
 
 loop-less : tie.Need-loop-less Inv-loop μ-loop
-loop-less c = let e = sym (c .before .before .before .before .before .before .record-at .ensures) ∙ c .before .before .before .before .found .given .1 in let n = next-after _ _ _ _ e in omega arith
+loop-less c = let e = sym (c .before .before .before .before .before .before .read-at .ensures) ∙ c .before .before .before .before .found .given .1 in let n = next-after _ _ _ _ e in omega arith
 
 loop-again : tie.Need-loop-again Inv-loop μ-loop
-loop-again c = let l = c .before .before .before .before .before .before .before .loop in let a = c .before .before .before .before .before .before .before .before .before .before .args in let e = sym (c .before .before .before .before .before .before .record-at .ensures) ∙ c .before .before .before .before .found .given .1 in let y = step-on (l .inv .0) _ _ (c .apply .ensures) in let P = held (a .t .now) in (y .0, l .inv .1 ∙ ap (ended P (stateOf (l .m))) (checked-lawful P _ _ _ _ _ e (sym (c .before .before .lawful .ensures) ∙ not-false _ (c .before .if1 .left))) ∙ ended-more P (stateOf (l .m)) (c .before .before .before .before .found .given .0 .0) (checkedFrom P (a .trace .now) (after P (stateOf (l .m)) (c .before .before .before .before .found .given .0 .0)) (c .before .before .before .before .found .given .0 .1 .0)) ∙ ap (λ (z : State). ended P z (checkedFrom P (a .trace .now) z (c .before .before .before .before .found .given .0 .1 .0))) (sym (y .1)))
+loop-again c = let l = c .before .before .before .before .before .before .before .loop in let a = c .before .before .before .before .before .before .before .before .before .before .args in let e = sym (c .before .before .before .before .before .before .read-at .ensures) ∙ c .before .before .before .before .found .given .1 in let y = step-on (l .inv .0) _ _ (c .apply .ensures) in let P = held (a .t .now) in (y .0, l .inv .1 ∙ ap (ended P (stateOf (l .m))) (checked-lawful P _ _ _ _ _ e (sym (c .before .before .lawful .ensures) ∙ not-false _ (c .before .if1 .left))) ∙ ended-more P (stateOf (l .m)) (c .before .before .before .before .found .given .0 .0) (checkedFrom P (a .trace .now) (after P (stateOf (l .m)) (c .before .before .before .before .found .given .0 .0)) (c .before .before .before .before .found .given .0 .1 .0)) ∙ ap (λ (z : State). ended P z (checkedFrom P (a .trace .now) z (c .before .before .before .before .found .given .0 .1 .0))) (sym (y .1)))
 
 enum-told : tie.Need-enum-told Inv-loop μ-loop
 enum-told c = search needs
 
 returns-2 : tie.Need-returns-2 Inv-loop μ-loop
 unfolding afterTrace
-returns-2 c = let l = c .before .before .before .loop in let a = c .before .before .before .before .before .before .args in let e = sym (c .before .before .record-at .ensures) ∙ c .enum-told .given .1 in sym (l .inv .1 ∙ ap (ended (held (a .t .now)) (stateOf (l .m))) (checked-end _ _ _ _ e) ∙ ap lawfulEnd (masks-back (l .m) (l .inv .0 .proper)))
+returns-2 c = let l = c .before .before .before .loop in let a = c .before .before .before .before .before .before .args in let e = sym (c .before .before .read-at .ensures) ∙ c .enum-told .given .1 in sym (l .inv .1 ∙ ap (ended (held (a .t .now)) (stateOf (l .m))) (checked-end _ _ _ _ e) ∙ ap lawfulEnd (masks-back (l .m) (l .inv .0 .proper)))
 
 enum-told-2 : tie.Need-enum-told-2 Inv-loop μ-loop
 enum-told-2 c = search needs
@@ -66,7 +66,7 @@ fault-requires-2 : tie.Need-fault-requires-2 Inv-loop μ-loop
 fault-requires-2 c κs = search needs
 
 returns-3 : tie.Need-returns-3 Inv-loop μ-loop
-returns-3 c = let l = c .before .before .before .before .loop in let a = c .before .before .before .before .before .before .before .args in let e = sym (c .before .before .before .record-at .ensures) ∙ c .before .enum-told2 .given .1 in c .fault2 .ensures ∙ sym (l .inv .1 ∙ ap (ended (held (a .t .now)) (stateOf (l .m))) (checked-malformed _ _ _ _ e))
+returns-3 c = let l = c .before .before .before .before .loop in let a = c .before .before .before .before .before .before .before .args in let e = sym (c .before .before .before .read-at .ensures) ∙ c .before .enum-told2 .given .1 in c .fault2 .ensures ∙ sym (l .inv .1 ∙ ap (ended (held (a .t .now)) (stateOf (l .m))) (checked-malformed _ _ _ _ e))
 
 pub check-records-spec : {M : Type 1} → statement M
 check-records-spec =
@@ -75,7 +75,7 @@ check-records-spec =
     Inv-loop
     μ-loop
     loop-holds
-    record-at-requires
+    read-at-requires
     enum-known-found
     lawful-requires
     fault-requires
