@@ -1,13 +1,13 @@
 -- What the tests over the numbers below a bound say. Assumes nothing.
-use mathlib.Core.Path.{_≡_, refl, sym, ap, subst, _∙_}
-use mathlib.Core.Bool.{Bool, true, false, not, _&&_, _||_}
+use mathlib.Core.Path.{_≡_, refl, ap}
+use mathlib.Core.Bool.{Bool, true, false}
 use mathlib.Core.Logic.{_⊎_, inl, inr, _≢_, _↔_}
 use Prim.Native.Nat.{ℕ, zero, suc, _+_, _≤_, _<_}
 use native.Mathlib.Nat.{le-refl, le-of-suc-le-suc, not-suc-le-zero}
 use native.Mathlib.Omega.{arith}
 use lib.Dec.{T}
 use Rattle.bounded.specs.Bounded.{all, any, lowest, sumTo, one, count}
-use Rattle.bounded.proofs.Truth.{T-true, T-of, T-ext, T-dec, at-or-below, eq-dec, lt-dec}
+use Rattle.bounded.proofs.Truth.{T-true, T-of, T-dec, at-or-below, eq-dec, lt-dec}
 
 -- ---- all and any
 
@@ -73,21 +73,6 @@ all-or (suc n) f = go (T-dec (f n)) (all-or n f)
     go (inr d) r = inr (n, omega arith, d)
     go (inl t) (inl a) = inl (all-suc n f .1 (t, a))
     go (inl t) (inr x) = inr (x .0, omega (arith, x .1), x .2)
-
--- tests that agree below n
-pub all-ext : (n : ℕ) (f g : ℕ → Bool) → ((k : ℕ) → k < n → f k ≡ g k) → all n f ≡ all n g
-all-ext n f g h =
-    T-ext (
-      λ t. all-of n g (λ k l. subst T (h k l) (all-to n f t k l)),
-      λ t. all-of n f (λ k l. subst T (sym (h k l)) (all-to n g t k l)),
-    )
-
-pub any-ext : (n : ℕ) (f g : ℕ → Bool) → ((k : ℕ) → k < n → f k ≡ g k) → any n f ≡ any n g
-any-ext n f g h =
-    T-ext (
-      λ t. let x = any-to n f t in any-of n g (x .0, x .1, subst T (h (x .0) (x .1)) (x .2)),
-      λ t. let x = any-to n g t in any-of n f (x .0, x .1, subst T (sym (h (x .0) (x .1))) (x .2)),
-    )
 
 -- ---- lowest
 

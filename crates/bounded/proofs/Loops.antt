@@ -1,15 +1,15 @@
 -- What a loop that goes up from 0 knows of the tests: at its start, after one turn more, where it stops early, and at its end.
 -- Assumes nothing.
-use mathlib.Core.Path.{_≡_, refl, sym, ap, subst, _∙_}
-use mathlib.Core.Bool.{Bool, true, false, not, _&&_, _||_}
+use mathlib.Core.Path.{_≡_, refl, ap, subst, _∙_}
+use mathlib.Core.Bool.{Bool, true, false, _||_}
 use mathlib.Core.Logic.{_⊎_, inl, inr, ⊎-elim}
-use Prim.Native.Nat.{ℕ, zero, suc, _+_, _≤_, _<_}
+use Prim.Native.Nat.{ℕ, _+_, _≤_, _<_}
 use native.Mathlib.Numerals.{add-one}
 use native.Mathlib.Omega.{arith}
 use lib.Dec.{T}
-use Rattle.bounded.specs.Bounded.{all, any, lowest, imp, sumTo}
-use Rattle.bounded.proofs.Truth.{T-true, T-false, T-of, T-not, T-ext, T-dec, or-iff, clash, at-or-below, both}
-use Rattle.bounded.proofs.Bounded.{all-iff, any-iff, lowest-unique, lowest-least, lowest-passes}
+use Rattle.bounded.specs.Bounded.{all, any, lowest, sumTo}
+use Rattle.bounded.proofs.Truth.{T-true, T-false, T-of, T-not, T-ext, or-iff, at-or-below}
+use Rattle.bounded.proofs.Bounded.{all-iff, any-iff, lowest-unique, lowest-least}
 
 -- ---- all
 
@@ -70,10 +70,6 @@ pub lowest-none : (f : ℕ → Bool) → lowest 0 f ≡ 0
 unfolding lowest
 lowest-none f = refl
 
--- none below k: what a search knows when it comes to k
-pub lowest-before : (f : ℕ → Bool) (n k : ℕ) → k < lowest n f → f k ≡ false
-lowest-before f n k l = T-false (f k) (lowest-least n f k l)
-
 -- none so far, nor here
 pub lowest-more : (f : ℕ → Bool) (n : ℕ) → lowest n f ≡ n → f n ≡ false → lowest (n + 1) f ≡ n + 1
 lowest-more f n p q =
@@ -98,14 +94,3 @@ sum-none f = refl
 pub sum-more : (f : ℕ → ℕ) (n : ℕ) → sumTo (n + 1) f ≡ sumTo n f + f n
 unfolding sumTo
 sum-more f n = rw add-one
-
--- ---- tests joined
-
-pub imp-fail : {p q : Bool} → p ≡ true → q ≡ false → imp p q ≡ false
-imp-fail {p} {q} a b = rw (a, b)
-
-pub imp-met : {p q : Bool} → p ≡ true → q ≡ true → imp p q ≡ true
-imp-met {p} {q} a b = rw (a, b)
-
-pub imp-off : {p : Bool} (q : Bool) → p ≡ false → imp p q ≡ true
-imp-off {p} q a = rw a

@@ -2,18 +2,18 @@
 use Prim.Native.Nat.{ℕ, zero, suc, _+_, _-_, _*_, _/_, _%_, _^_, _<_, _≤_, min, max}
 use mathlib.Core.Path.{_≡_, refl, sym, ap, _∙_, subst}
 use mathlib.Core.Bool.{Bool, true, false, cond, not, _&&_, _||_, Bool·beq}
-use mathlib.Core.Logic.{_⊎_, inl, inr, ⊎-elim, _↔_}
+use mathlib.Core.Logic.{_⊎_, ⊎-elim}
 use native.Mathlib.Nat.{not-suc-le-zero, add-mul-div-right, zero-div, lt-of-le-of-lt, div-eq-of-lt, pow-le-pow-right}
 use native.Mathlib.Numerals.{add-one}
 use native.Mathlib.Omega.{arith}
 use lib.Dec.{T, eqb}
-use lib.Bits.{bitAnd, and-step, and-shr, and-le-l, bitOr, or-step, or-shr, or-lt}
+use lib.Bits.{bitAnd, and-step, and-shr, and-le-l, bitOr, or-step, or-shr}
 use lib.Pow.{shr-shr, pow-add, pow-pos, high}
 use borrow.Author.Tests.{eq-eqb, ne-eqb, eqb-true, eqb-false}
 use Rattle.bounded.specs.Bounded.{all, any, imp}
 use Rattle.bounded.specs.Mask.{bit, maskOf, without}
-use Rattle.bounded.proofs.Truth.{T-ext, T-true, T-of, and-iff, imp-iff, eqb-iff, split, clash, at-or-below, lt-dec}
-use Rattle.bounded.proofs.Bounded.{all-iff, all-ext, any-ext}
+use Rattle.bounded.proofs.Truth.{T-ext, T-of, and-iff, imp-iff, eqb-iff, split, clash, at-or-below, lt-dec}
+use Rattle.bounded.proofs.Bounded.{all-iff}
 use Rattle.bounded.proofs.Loops.{all-each, any-each, any-intro}
 
 -- ---- a digit is 0 or 1
@@ -197,12 +197,6 @@ within n x y h =
       λ t. eqb-iff (bitAnd x y) x .1 (mask-ext n (bitAnd x y) x (lt-of-le-of-lt (and-le-l x y) h) h (λ c l. bit-and x y c ∙ T-ext (λ u. and-iff (bit x c) (bit y c) .0 u .0, λ u. and-iff (bit x c) (bit y c) .1 (u, imp-iff (bit x c) (bit y c) .0 (all-iff n _ .0 t c l) u)))),
     )
 
--- the members that x and y share are within z
-pub within-both : (n x y z : ℕ) → x < 2 ^ n → eqb (bitAnd (bitAnd x y) z) (bitAnd x y) ≡ all n (λ c. imp (bit x c && bit y c) (bit z c))
-within-both n x y z l =
-    within n (bitAnd x y) z (lt-of-le-of-lt (and-le-l x y) l)
-    ∙ all-ext n _ _ (λ c k. ap (λ (t : Bool). imp t (bit z c)) (bit-and x y c))
-
 -- a set that is 0 has no member
 pub zero-bits : (n x : ℕ) → x < 2 ^ n → eqb x 0 ≡ not (any n (bit x))
 zero-bits n x l =
@@ -210,9 +204,3 @@ zero-bits n x l =
     (λ t. ne-eqb x 0 (λ e. clash t (ap (λ (m : ℕ). any n (bit m)) e ∙ any-intro (bit 0) n (λ k h. bit-none k))) ∙ ap not (sym t))
     (λ t. eq-eqb x 0 (mask-ext n x 0 l (pow-pos n) (λ c k. any-each (bit x) n t c k ∙ sym (bit-none c))) ∙ ap not (sym t))
     (split (any n (bit x)))
-
--- x and y share no member
-pub none-both : (n x y : ℕ) → x < 2 ^ n → eqb (bitAnd x y) 0 ≡ not (any n (λ c. bit x c && bit y c))
-none-both n x y l =
-    zero-bits n (bitAnd x y) (lt-of-le-of-lt (and-le-l x y) l)
-    ∙ ap not (any-ext n (bit (bitAnd x y)) (λ c. bit x c && bit y c) (λ c k. bit-and x y c))

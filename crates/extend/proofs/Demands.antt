@@ -1,23 +1,22 @@
 -- Demands 1 and 2 of putting back, over the definition that its contract cites. Assumes nothing.
 use mathlib.Core.Path.{_≡_, refl, sym, ap, _∙_, subst}
-use mathlib.Core.Bool.{Bool, true, false, _&&_, _||_}
-use mathlib.Core.List.{List, [], _∷_}
+use mathlib.Core.Bool.{Bool, true, false, _||_}
+use mathlib.Core.List.{List}
 use mathlib.Core.Logic.{_↔_, _⊎_, inl, inr, _≢_}
-use Prim.Native.Nat.{ℕ, _<_}
+use Prim.Native.Nat.{ℕ}
 use native.Mathlib.Omega.{arith}
 use lib.Dec.{T, eqb}
 use lib.ListN.{length}
 use borrow.Author.Tests.{eq-eqb, ne-eqb}
 use Rattle.bounded.specs.Bounded.{all}
-use Rattle.bounded.specs.Table.{tab}
-use Rattle.bounded.proofs.Truth.{T-of, T-true, T-false, T-dec, and-iff, eq-dec}
+use Rattle.bounded.proofs.Truth.{T-of, T-true, and-iff, eq-dec}
 use Rattle.bounded.proofs.Table.{getD-tab}
-use Rattle.problem.specs.Problem.{Problem, State, full}
+use Rattle.problem.specs.Problem.{Problem, full}
 use Rattle.problem.specs.Reduce.{lawfulTrace, afterTrace, run}
-use Rattle.problem.specs.Extend.{solves, undoTrace}
+use Rattle.problem.specs.Extend.{solves, solvesWhole, undoTrace}
 use Rattle.problem.specs.declared.Record.{Record}
 use Rattle.problem.proofs.Reflect.{Active, Live, Fits, full-fits}
-use Rattle.problem.proofs.Sound.{Solution, Solvable, solves-iff}
+use Rattle.problem.proofs.Sound.{Solvable, solves-iff, solvesWhole-iff}
 use Rattle.problem.proofs.Trace.{trace-fits, trace-undone, trace-solvable}
 use Rattle.problem.proofs.Run.{run-lawful}
 use Rattle.sheet.specs.Sheet.{layout, readSheet, variablesOf, Keeps}
@@ -135,13 +134,14 @@ module _ (P : Problem) (t p : List ℕ) (x : PutBackResult) (A : PutBack P t p x
   left-fits = trace-fits P (full-fits P) (A .records)
 
   -- "each plan of what is left is put back into a plan of the full sheet": the bytes of the result
-  pub put-back-plan : Solution P (full P) (planOf (x .result))
+  pub put-back-plan : T (solvesWhole P (planOf (x .result)))
   unfolding planFits
   put-back-plan =
       let h = and-iff (all (P .n) (λ i. (afterTrace P (full P) (A .records)) .active i || eqb (planOf p i) 255)) (solves P (afterTrace P (full P) (A .records)) (planOf p)) .0 (A .plan) in
       let S = trace-undone P (full-fits P) (A .records) (A .lawful) (planOf p) (solves-iff left-fits (planOf p) .0 (h .1)) in
       let at : (i : ℕ) → Active (full P) i → planOf (x .result) i ≡ undoTrace P (full P) (A .records) (planOf p) i
       = λ i a. ap (λ (y : PutBackResult). planOf (y .result) i) (A .result) ∙ getD-tab (P .n) (undoTrace P (full P) (A .records) (planOf p)) i 0 (full-fits P .active-lt i a) in
+      solvesWhole-iff P (planOf (x .result)) .1
       record {
         live = λ i a. subst (Live (full P) i) (sym (at i a)) (S .live i a);
         ok = λ i j a c d. subst (λ (v : ℕ). T (P .allowed i v j (planOf (x .result) j))) (sym (at i a)) (subst (λ (v : ℕ). T (P .allowed i (undoTrace P (full P) (A .records) (planOf p) i) j v)) (sym (at j c)) (S .ok i j a c d));

@@ -7,14 +7,14 @@ use Prim.Native.Nat.{ℕ, _-_, _^_, _≤_, _<_}
 use native.Mathlib.Omega.{arith}
 use lib.Dec.{T, eqb, ltb}
 use lib.ListN.{getD}
-use lib.Pow.{pow-mono, pow-pos}
-use borrow.Author.Tests.{lt-ltb, le-ltb}
+use lib.Pow.{pow-mono}
+use borrow.Author.Tests.{lt-ltb}
 use Rattle.bounded.specs.Bounded.{imp, all, any, lowest}
 use Rattle.bounded.specs.Mask.{bit, maskOf}
 use Rattle.bounded.proofs.Truth.{T-ext, T-false, T-not, and-iff, imp-iff, not-iff, ltb-iff, lt-dec}
 use Rattle.bounded.proofs.Bounded.{all-iff, any-iff}
-use Rattle.bounded.proofs.Mask.{bit-none, bit-high, bit-mask, full-bit, mask-is, mask-lt, mask-ext, zero-bits}
-use Rattle.problem.specs.Problem.{Problem, State, full, fits}
+use Rattle.bounded.proofs.Mask.{bit-high, bit-mask, mask-lt, mask-ext, zero-bits}
+use Rattle.problem.specs.Problem.{Problem, State, fits}
 use Rattle.problem.specs.Held.{held, heldSize, heldVariables, RowTable}
 use Rattle.problem.specs.Masks.{stateOf}
 use Rattle.problem.specs.declared.Masks.{Masks}
@@ -22,14 +22,6 @@ use Rattle.problem.proofs.Reflect.{fits-says}
 use Rattle.manual.specs.Parts.{fitsAt}
 
 -- ---- the numbers below a bound
-
-pub mask-below : (k z : ℕ) → z ≤ k → 2 ^ z - 1 ≡ maskOf k (λ c. ltb c z)
-mask-below k z h =
-    let p : 2 ^ z ≤ 2 ^ k = pow-mono h in
-    let q : 0 < 2 ^ z = pow-pos z in
-    let r : 2 ^ z - 1 < 2 ^ z = omega arith in
-    mask-is k (2 ^ z - 1) (λ c. ltb c z) (omega arith)
-    (λ c l. ⊎-elim (λ m. full-bit z c m ∙ sym (lt-ltb c z m)) (λ m. bit-high z (2 ^ z - 1) c r m ∙ sym (le-ltb c z m)) (lt-dec c z))
 
 -- a set is within the numbers below z, as one comparison
 pub below-word : (x z : ℕ) → x < 2 ^ 16 → z ≤ 16 → ltb x (2 ^ z) ≡ all 16 (λ a. imp (bit x a) (ltb a z))

@@ -1,14 +1,14 @@
 -- What each test of specs/Problem.antt says, as a proposition, in a state that fits. Assumes nothing.
-use mathlib.Core.Path.{_≡_, refl, sym, subst}
-use mathlib.Core.Bool.{Bool, true, false, not, _&&_}
+use mathlib.Core.Path.{_≡_, subst}
+use mathlib.Core.Bool.{Bool, _&&_}
 use mathlib.Core.Logic.{_⊎_, inl, inr, _≢_, _↔_, Iff·rfl}
 use Prim.Native.Nat.{ℕ, _<_}
-use lib.Dec.{T, eqb, ltb}
-use Rattle.bounded.specs.Bounded.{imp, all, any, lowest}
-use Rattle.bounded.proofs.Truth.{T-dec, T-true, T-ext, and-iff, imp-iff, imp-fails, not-iff, eqb-iff, ltb-iff}
+use lib.Dec.{T}
+use Rattle.bounded.specs.Bounded.{imp}
+use Rattle.bounded.proofs.Truth.{and-iff, imp-iff, imp-fails, not-iff, eqb-iff, ltb-iff}
 use Rattle.bounded.proofs.Bounded.{all-iff, any-iff, all-or, lowest-is}
 use Rattle.problem.specs.Problem.{Problem, State, full, maxVariables, maxValues, allActive, allLive, anyLive, lowestLive, allOther, allThird, fits, noneEmpty, substitutes, unsupported, snakeServes, snake, triangleServes, triangle, neighbourhood, slideServes, snakeSubstitution, remove, eliminate}
-use Rattle.problem.specs.Manual.{supported, arcConsistent, finished, pairLeft}
+use Rattle.problem.specs.Manual.{supported, arcConsistent, finished}
 
 abbrev pub Active : State → ℕ → Type 0
 Active s i = T (s .active i)
@@ -202,10 +202,6 @@ module _ (P : Problem) (s : State) where
   pub remove-live : (i b j w : ℕ) → Live (remove P s i b) j w ↔ (Live s j w × ((j ≡ i × w ≡ b) → ⊥))
   unfolding remove
   remove-live i b j w = simp (and-iff, not-iff, eqb-iff) Iff·rfl
-
-  pub remove-active : (i b j : ℕ) → Active (remove P s i b) j ↔ Active s j
-  unfolding remove
-  remove-active i b j = Iff·rfl
 
   pub eliminate-active : (i j : ℕ) → Active (eliminate P s i) j ↔ (Active s j × j ≢ i)
   unfolding eliminate

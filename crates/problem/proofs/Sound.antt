@@ -1,15 +1,14 @@
 -- Each kind of step: a solution before gives a solution after, and a solution after, undone, is a solution before. Assumes nothing.
 use mathlib.Core.Path.{_≡_, refl, sym, _∙_, ap, subst}
-use mathlib.Core.Bool.{Bool, true, false, _&&_, not}
+use mathlib.Core.Bool.{Bool, _&&_, not}
 use mathlib.Core.Logic.{_≢_, _↔_, _⊎_, inl, inr}
 use Prim.Native.Nat.{ℕ}
 use lib.Dec.{T, eqb}
 use Rattle.bounded.proofs.Truth.{T-true, T-false, T-dec, eq-dec, and-iff, not-iff, eqb-iff}
 use Rattle.problem.specs.Problem.{Problem, State, full, lowestLive, snakeServes, triangleServes, slideServes, remove, eliminate}
-use Rattle.problem.specs.Reduce.{after, holds}
 use Rattle.problem.specs.Extend.{solves, solvesWhole, put, repair, undo}
 use Rattle.problem.specs.declared.Record.the-variants as record·
-use Rattle.problem.proofs.Reflect.{Active, Live, Allowed, Fits, turn, allActive-iff, allOther-iff, lowestLive-is, Substitutes, Unsupported, Snake, SnakeServes, Triangle, TriangleServes, Neighbourhood, SlideServes, SnakeSubstitution, snakeServes-iff, triangleServes-iff, slideServes-iff, remove-live, eliminate-active, eliminate-live}
+use Rattle.problem.proofs.Reflect.{Active, Live, Allowed, Fits, full-fits, turn, allActive-iff, allOther-iff, lowestLive-is, Substitutes, Unsupported, Snake, Triangle, TriangleServes, Neighbourhood, SnakeSubstitution, snakeServes-iff, triangleServes-iff, slideServes-iff, remove-live, eliminate-active, eliminate-live}
 
 -- p gives each active variable a live value, and each two of them an allowed pair
 pub record Solution (P : Problem) (s : State) (p : ℕ → ℕ) : Type 0 where
@@ -23,6 +22,11 @@ solves-iff F p = (
       record { live = λ i hi. h i hi .0; ok = λ i j hi hj d. h i hi .1 j hj (λ e. d (sym e)) },
   λ A. simp (allActive-iff F, and-iff, allOther-iff F) (λ i hi. (A .live i hi, λ j hj d. A .ok i j hi hj (λ e. d (sym e)))),
 )
+
+-- a plan of the full sheet
+pub solvesWhole-iff : (P : Problem) (p : ℕ → ℕ) → T (solvesWhole P p) ↔ Solution P (full P) p
+unfolding solvesWhole
+solvesWhole-iff P p = solves-iff (full-fits P) p
 
 -- a state has a solution
 abbrev pub Solvable : Problem → State → Type 0

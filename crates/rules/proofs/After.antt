@@ -11,11 +11,11 @@ use Rattle.bounded.specs.Table.{tab}
 use Rattle.bounded.proofs.Truth.{T-false, lt-dec}
 use Rattle.bounded.proofs.Mask.{bit-none, bit-mask-all}
 use Rattle.bounded.proofs.Table.{length-tab, getD-tab}
-use Rattle.problem.specs.Problem.{Problem, State, remove, eliminate}
+use Rattle.problem.specs.Problem.{Problem, State}
 use Rattle.problem.specs.Held.{held}
 use Rattle.problem.specs.Masks.{stateOf, masksOf}
 use Rattle.problem.specs.declared.Masks.{Masks}
-use Rattle.problem.proofs.Reflect.{Fits, remove-fits, eliminate-fits}
+use Rattle.problem.proofs.Reflect.{Fits}
 use Rattle.problem.proofs.HeldTable.{held-few}
 use Rattle.problem.proofs.Bridge.{masks-proper}
 use Rattle.rules.specs.Ready.{Ready}
@@ -48,15 +48,3 @@ module _ {t : List ℕ} {m : Masks} (R : Ready t m) where
 
   pub ready-after : {s : State} → Fits (held t) s → Ready t (masksOf s)
   ready-after {s} F = record { table = R .table; proper = masks-proper s; fits = subst (Fits (held t)) (sym (state-after F)) F }
-
-  pub remove-says : (i b : ℕ) → stateOf (masksOf (remove (held t) (stateOf m) i b)) ≡ remove (held t) (stateOf m) i b
-  remove-says i b = state-after (remove-fits (held t) (stateOf m) (R .fits) i b)
-
-  pub remove-ready : (i b : ℕ) → Ready t (masksOf (remove (held t) (stateOf m) i b))
-  remove-ready i b = ready-after (remove-fits (held t) (stateOf m) (R .fits) i b)
-
-  pub eliminate-says : (i : ℕ) → stateOf (masksOf (eliminate (held t) (stateOf m) i)) ≡ eliminate (held t) (stateOf m) i
-  eliminate-says i = state-after (eliminate-fits (held t) (stateOf m) (R .fits) i)
-
-  pub eliminate-ready : (i : ℕ) → Ready t (masksOf (eliminate (held t) (stateOf m) i))
-  eliminate-ready i = ready-after (eliminate-fits (held t) (stateOf m) (R .fits) i)

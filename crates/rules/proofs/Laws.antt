@@ -41,13 +41,6 @@ module _ {P : Problem} {s : State} (F : Fits P s) where
         λ h. simp (all-iff, imp-iff) (λ c k o. allLive-iff F l f .0 h c o),
       )
 
-  pub anyLive-16 : (l : ℕ) → P .size l ≤ 16 → (f : ℕ → Bool) → any 16 (λ c. s .live l c && f c) ≡ anyLive P s l f
-  anyLive-16 l narrow f =
-      T-ext (
-        λ h. let x = simp (any-iff, and-iff) at h in anyLive-iff F l f .1 (x .0, x .2 .0, x .2 .1),
-        λ h. let x = anyLive-iff F l f .0 h in simp (any-iff, and-iff) (x .0, omega (arith, F .live-lt l (x .0) (x .1)), (x .1, x .2)),
-      )
-
   -- ---- the tests over sets, as propositions
 
   pub coversIn-iff : (rest i a j b : ℕ) → T (coversIn P s rest i a j b) ↔ ((l : ℕ) → l < 32 → T (bit rest l) → Substitutes P s i a j b l)
@@ -108,14 +101,6 @@ thirds-out x i j p q = (T-false _ (λ h. thirds-iff x i j i p q p .0 h .0 .1 ref
 
 pub slideSet-out : (spare : Bool) (x i j : ℕ) → i < 32 → j < 32 → bit (slideSet spare x i j) j ≡ false
 slideSet-out spare x i j p q = T-false _ (λ h. slideSet-iff spare x i j j p q q .0 h .1 .0 refl)
-
-pub live-bit : (m : Masks) (i a : ℕ) → (stateOf m) .live i a ≡ bit (getD (m .domains) i 0) a
-unfolding stateOf
-live-bit m i a = refl
-
-pub active-bit : (m : Masks) (i : ℕ) → (stateOf m) .active i ≡ bit (m .active) i
-unfolding stateOf
-active-bit m i = refl
 
 -- ---- words
 

@@ -1,16 +1,15 @@
 -- Laws of a number in decimal digits. Assumes nothing.
-use mathlib.Core.Path.{_≡_, refl, sym, ap, _∙_}
+use mathlib.Core.Path.{_≡_, sym, ap, _∙_}
 use mathlib.Core.Bool.{Bool, true, false}
 use mathlib.Core.List.{List, [], _∷_, _++_}
-use mathlib.Core.Logic.{_⊎_, inl, inr, ⊎-elim}
+use mathlib.Core.Logic.{_⊎_, ⊎-elim}
 use Prim.Native.Nat.{ℕ, zero, suc, _+_, _*_, _/_, _%_, _^_, _≤_, _<_}
 use native.Mathlib.Nat.{pow-suc}
 use native.Mathlib.Omega.{arith}
-use lib.Dec.{ltb}
 use lib.ListN.{length, length-append}
 use borrow.Author.Tests.{lt-ltb, le-ltb}
 use Rattle.bounded.proofs.Truth.{lt-dec}
-use Rattle.jobs.specs.Print.{digitsFrom, decimal, field}
+use Rattle.jobs.specs.Print.{digitsFrom, decimal}
 
 -- the definition over its test
 abbrev digits : Bool → ℕ → ℕ → List ℕ
@@ -67,6 +66,3 @@ decimal-five x h = decimal-digits 4 x h
 
 pub decimal-four : (x : ℕ) → x < 10000 → (1 ≤ length (decimal x)) × (length (decimal x) ≤ 4)
 decimal-four x h = decimal-digits 3 x h
-
-pub field-six : (x : ℕ) → x < 100000 → (2 ≤ length (field x)) × (length (field x) ≤ 6)
-field-six x h = let d = decimal-five x h in (omega arith, omega arith)

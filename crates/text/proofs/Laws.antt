@@ -1,14 +1,14 @@
 -- Texts one after the other. Assumes nothing.
 use mathlib.Core.Path.{_≡_, refl, sym, ap, _∙_}
-use mathlib.Core.List.{List, [], _∷_, _++_, append-assoc, append-nil}
-use Prim.Native.Nat.{ℕ, suc, _+_, _≤_, _<_}
+use mathlib.Core.List.{List, _++_, append-assoc}
+use Prim.Native.Nat.{ℕ, _+_, _≤_, _<_}
 use native.Mathlib.Omega.{arith}
 use lib.ListN.{length, take, drop, set, getD, length-append}
 use lib.Seq.{paste, paste-zero, paste-suc, take-length}
 use native.Mathlib.Numerals.{add-one}
 use Rattle.problem.specs.declared.Record.{Record}
 use Rattle.problem.specs.declared.Record.the-variants.{Unsupported, Snake, Triangle, Neighbourhood, SnakeSubstitution}
-use Rattle.jobs.specs.Print.{decimal, stepText, stepLines}
+use Rattle.jobs.specs.Print.{stepText}
 use Rattle.trace.specs.Written.{written}
 use Rattle.text.specs.Parts.{stepWord, stepFields}
 use Rattle.trace.proofs.Written.{written-more}
@@ -49,30 +49,3 @@ step-parts (Snake i v) = refl
 step-parts (Triangle i j) = refl
 step-parts (Neighbourhood i b a) = refl
 step-parts (SnakeSubstitution i b a) = refl
-
--- ---- lines
-
--- the line of step k
-abbrev pub stepLine : ℕ → Record → List ℕ
-stepLine k r = decimal k ++ (32 ∷ (stepText r ++ (10 ∷ [])))
-
-pub lines-none : (k : ℕ) → stepLines k [] ≡ []
-unfolding stepLines
-lines-none k = refl
-
-pub lines-first : (k : ℕ) (r : Record) (t : List Record) → stepLines k (r ∷ t) ≡ stepLine k r ++ stepLines (k + 1) t
-unfolding stepLines
-lines-first k r t = refl
-
--- one line more
-pub lines-more : (k : ℕ) (t : List Record) (r : Record) → stepLines k (t ++ (r ∷ [])) ≡ stepLines k t ++ stepLine (k + length t) r
-lines-more k [] r =
-    let e : k ≡ k + 0 = omega arith in
-    lines-first k r [] ∙ ap (λ (w : List ℕ). stepLine k r ++ w) (lines-none (k + 1)) ∙ append-nil (stepLine k r)
-    ∙ ap (λ (n : ℕ). stepLine n r) e ∙ ap (λ (w : List ℕ). w ++ stepLine (k + 0) r) (sym (lines-none k))
-lines-more k (q ∷ t) r =
-    let e : k + 1 + length t ≡ k + suc (length t) = omega arith in
-    lines-first k q (t ++ (r ∷ [])) ∙ ap (λ (w : List ℕ). stepLine k q ++ w) (lines-more (k + 1) t r)
-    ∙ sym (append-assoc (stepLine k q) (stepLines (k + 1) t) (stepLine (k + 1 + length t) r))
-    ∙ ap (λ (w : List ℕ). w ++ stepLine (k + 1 + length t) r) (sym (lines-first k q t))
-    ∙ ap (λ (n : ℕ). stepLines k (q ∷ t) ++ stepLine n r) e

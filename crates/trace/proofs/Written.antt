@@ -1,9 +1,8 @@
 -- Laws of a list written over a list. Assumes nothing.
-use mathlib.Core.Path.{_≡_, refl, sym, ap, _∙_}
-use mathlib.Core.List.{List, [], _∷_, _++_, append-assoc, append-nil}
-use Prim.Native.Nat.{ℕ, zero, suc, _+_, _≤_, _<_}
+use mathlib.Core.Path.{_≡_, sym, ap, _∙_}
+use mathlib.Core.List.{List, [], _∷_, _++_, append-assoc}
+use Prim.Native.Nat.{ℕ, _+_, _≤_, _<_}
 use native.Mathlib.Nat.{zero-add, add-zero, add-assoc}
-use native.Mathlib.Numerals.{add-one}
 use native.Mathlib.Omega.{arith}
 use lib.ListN.{length, take, drop, set, length-append, length-drop, take-append-drop}
 use lib.Seq.{sets, sets-eq, length-take-le, take-at, drop-at, drop-drop}
@@ -53,16 +52,6 @@ module _ (b : List ℕ) (p : ℕ) where
       sym (drop-drop (length v) (p + length w) (written b p w)) ∙ ap (drop (length v)) (drop-written w h) ∙ drop-drop (length v) (p + length w) b
       ∙ ap (λ (k : ℕ). drop k b) (add-assoc p (length w) (length v) ∙ ap (λ (k : ℕ). p + k) (sym (length-append w v))) in
       (λ i. take-written w h i ++ (v ++ e i)) ∙ simp append-assoc
-
--- one number, and a list after it
-pub written-cons : (b : List ℕ) (p v : ℕ) (w : List ℕ) → p < length b → written (set b p v) (p + 1) w ≡ written b p (v ∷ w)
-written-cons b p v w h = ap (λ (l : List ℕ). written l (p + 1) w) (written-one b p v h) ∙ written-more b p (v ∷ []) w (omega arith)
-
--- a list, and one number after it
-pub written-snoc : (b : List ℕ) (p : ℕ) (w : List ℕ) (q v : ℕ) → q ≡ p + length w → q < length b → set (written b p w) q v ≡ written b p (w ++ (v ∷ []))
-written-snoc b p w q v e h =
-    let l = length-written b p w (omega arith) in
-    written-one (written b p w) q v (omega arith) ∙ ap (λ (k : ℕ). written (written b p w) k (v ∷ [])) e ∙ written-more b p w (v ∷ []) (omega arith)
 
 -- the front of a buffer
 pub written-front : (d w : List ℕ) → written d 0 w ≡ fronted w d
