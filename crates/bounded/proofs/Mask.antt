@@ -153,6 +153,10 @@ pub mask-more : (n : ℕ) (f : ℕ → Bool) → maskOf (n + 1) f ≡ maskOf n f
 unfolding maskOf
 mask-more n f = rw (add-one n)
 
+-- a loop that adds the weights of the members: one member more
+pub mask-next : (f : ℕ → Bool) (x n w : ℕ) (b : Bool) → x ≡ maskOf n f → w ≡ cond b (2 ^ n) 0 → b ≡ f n → x + w ≡ maskOf (n + 1) f
+mask-next f x n w b e h g = ap (λ (y : ℕ). y + w) e ∙ ap (λ (y : ℕ). maskOf n f + y) (h ∙ ap (λ (t : Bool). cond t (2 ^ n) 0) g) ∙ sym (mask-more n f)
+
 -- the set of all numbers below z, as a number
 mask-all : (z : ℕ) → maskOf z (λ _. true) ≡ 2 ^ z - 1
 unfolding maskOf

@@ -1,5 +1,6 @@
 // Sets of small numbers as masks.
 ghost use mathlib.Core.Path.{_≡_};
+ghost use mathlib.Core.Bool.{cond};
 ghost use Prim.Native.Nat.{_^_, _<_, _≤_};
 ghost use Rattle.bounded.specs.Mask.{bit, without as withoutOf};
 
@@ -33,4 +34,20 @@ pub fn without32(x: u32, b: usize) -> u32
     ensures { λ r. ⌜ r ≡ withoutOf 32 x b ⌝ }
 {
     x & !(1u32 << b)
+}
+
+// 2 to the power z.
+pub fn power(z: usize) -> usize
+    requires { ⌜ z ≤ 32 ⌝ }
+    ensures { λ r. ⌜ r ≡ 2 ^ z ⌝ }
+{
+    1 << z
+}
+
+// What a set of 16 gains where b comes in: 2^b where t holds, else 0.
+pub fn weight(t: bool, b: usize) -> u16
+    requires { ⌜ b < 16 ⌝ }
+    ensures { λ r. ⌜ r ≡ cond t (2 ^ b) 0 ⌝ }
+{
+    if t { power(b) as u16 } else { 0 }
 }

@@ -28,10 +28,10 @@ use Rattle.jobs.specs.PutBack.{Checked, Lawful as Records, planOf, planFits, ch
 use Rattle.jobs.specs.declared.Extended.the-variants.{Done, Refused}
 use Rattle.jobs.specs.declared.ExtendRefusal.the-variants.{Sheet, PlanLength, ResultLength, Plan}
 use Rattle.rules.specs.Ready.{Ready}
-use Rattle.rules.proofs.After.{state-after}
+use Rattle.rules.proofs.After.{state-held, ready-held}
 use Rattle.extend.specs.Walk.{checkedFrom, ended, lawfulEnd}
 use Rattle.extend.specs.Undone.{UndoableFrom, undoneBy}
-use Rattle.extend.proofs.First.{ready-masks, ready-full}
+use Rattle.extend.proofs.First.{ready-full}
 use Rattle.extend.proofs.Walk.{ended-lawful, front-lawful}
 use Rattle.extend.proofs.Plan.{plan-solves}
 
@@ -52,10 +52,10 @@ module _ {t : List ℕ} (R : RowTable t) (trace plan out : List ℕ) (last : Mas
   last-fits = trace-fits (held t) (full-fits (held t)) records
 
   pub ready-last : Ready t last
-  ready-last = subst (Ready t) (sym (found .2)) (ready-masks R last-fits)
+  ready-last = subst (Ready t) (sym (found .2)) (ready-held R last-fits)
 
   says-last : stateOf last ≡ afterTrace (held t) (full (held t)) records
-  says-last = ap stateOf (found .2) ∙ state-after (ready-masks R last-fits) last-fits
+  says-last = ap stateOf (found .2) ∙ state-held R last-fits
 
   after-plan : (x : Bool) → planFits (held t) (stateOf last) plan ≡ x → afterCheck (held t) plan out (checkTrace (held t) trace) ≡ planned (held t) records plan out x
   after-plan x h =

@@ -1,9 +1,9 @@
--- A rule that holds has fields that the table can name. Assumes nothing.
+-- A record with fields that the table cannot name: no rule holds of it. Assumes nothing.
 use mathlib.Core.Path.{_≡_, sym, ap, _∙_, subst}
 use mathlib.Core.Bool.{Bool, true, false, _&&_}
 use mathlib.Core.List.{List}
 use Prim.Native.Nat.{ℕ, _<_}
-use lib.Dec.{T, ltb}
+use lib.Dec.{ltb}
 use borrow.Author.Tests.{ltb-true}
 use Rattle.bounded.proofs.Truth.{T-not, T-false, both, and-iff, ltb-iff}
 use Rattle.problem.specs.Problem.{Problem, State, noneEmpty, unsupported, snake, triangle, neighbourhood, snakeSubstitution, slideSpares}
@@ -13,11 +13,8 @@ use Rattle.problem.specs.Masks.{stateOf, masksOf}
 use Rattle.problem.specs.declared.Masks.{Masks}
 use Rattle.problem.specs.declared.Record.{Record}
 use Rattle.problem.specs.declared.Record.the-variants.{Unsupported, Snake, Triangle, Neighbourhood, SnakeSubstitution}
-use Rattle.problem.proofs.Reflect.{unsupported-iff, snake-iff, triangle-iff, neighbourhood-iff, snakeSubstitution-iff}
-use Rattle.problem.proofs.Trace.{lawful-iff, after-fits}
 use Rattle.rules.specs.Ready.{Ready}
-use Rattle.rules.proofs.Laws.{live-value, active-32}
-use Rattle.rules.proofs.After.{ready-after, state-after}
+use Rattle.reduce.proofs.States.{after-state, after-ready, holds-within}
 
 -- two and three tests of range
 pub range2 : (i m j n : ℕ) → (ltb i m && ltb j n) ≡ true → (i < m) × (j < n)
@@ -32,58 +29,35 @@ range3 i m j n k l e =
 out2 : (i m j n : ℕ) → (ltb i m && ltb j n) ≡ false → (i < m) × (j < n) → ⊥
 out2 i m j n e h = T-not e (simp (and-iff, ltb-iff) h)
 
-out3 : (i m j n k l : ℕ) → (ltb i m && (ltb j n && ltb k l)) ≡ false → (i < m) × (j < n) × (k < l) → ⊥
-out3 i m j n k l e h = T-not e (simp (and-iff, ltb-iff) (h .0, (h .1, h .2)))
+out3 : (i m j n k l : ℕ) → (ltb i m && (ltb j n && ltb k l)) ≡ false → (i < m) × ((j < n) × (k < l)) → ⊥
+out3 i m j n k l e h = T-not e (simp (and-iff, ltb-iff) h)
 
 module _ {t : List ℕ} {m : Masks} (R : Ready t m) where
-  -- ---- a rule that holds
-
-  pub unsupported-range : (i b k : ℕ) → T (unsupported (held t) (stateOf m) i b k) → (i < 32) × (b < 16) × (k < 32)
-  unsupported-range i b k h =
-      let x = unsupported-iff (R .fits) i b k .0 h in
-      let v = live-value R i b (x .0) in
-      (v .variable, v .value, active-32 R k (x .1))
-
-  pub snake-range : (i v : ℕ) → T (snake (held t) (stateOf m) i v) → (i < 32) × (v < 16)
-  snake-range i v h = let x = live-value R i v (snake-iff (R .fits) i v .0 h .0) in (x .variable, x .value)
-
-  pub triangle-range : (i j : ℕ) → T (triangle (held t) (stateOf m) i j) → (i < 32) × (j < 32)
-  triangle-range i j h = let x = triangle-iff (R .fits) i j .0 h in (active-32 R i (x .0), active-32 R j (x .1 .0))
-
-  pub neighbourhood-range : (i b a : ℕ) → T (neighbourhood (held t) (stateOf m) i b a) → (i < 32) × (b < 16) × (a < 16)
-  neighbourhood-range i b a h =
-      let x = neighbourhood-iff (R .fits) i b a .0 h in
-      let v = live-value R i b (x .0) in
-      (v .variable, v .value, live-value R i a (x .1 .0) .value)
-
-  pub slide-range : (i b a : ℕ) → T (snakeSubstitution (held t) (stateOf m) slideSpares i b a) → (i < 32) × (b < 16) × (a < 16)
-  slide-range i b a h =
-      let x = snakeSubstitution-iff (R .fits) slideSpares i b a .0 h in
-      let v = live-value R i b (x .0) in
-      (v .variable, v .value, live-value R i a (x .1 .0) .value)
-
   -- ---- out of range no rule holds
 
   pub unsupported-out : (i b k : ℕ) → (ltb i 32 && (ltb b 16 && ltb k 32)) ≡ false → unsupported (held t) (stateOf m) i b k ≡ false
-  unsupported-out i b k e = T-false _ (λ h. out3 i 32 b 16 k 32 e (unsupported-range i b k h))
+  unfolding holds
+  unsupported-out i b k e = T-false _ (λ h. out3 i 32 b 16 k 32 e (holds-within R (Unsupported i b k) h))
 
   pub snake-out : (i v : ℕ) → (ltb i 32 && ltb v 16) ≡ false → snake (held t) (stateOf m) i v ≡ false
-  snake-out i v e = T-false _ (λ h. out2 i 32 v 16 e (snake-range i v h))
+  unfolding holds
+  snake-out i v e = T-false _ (λ h. out2 i 32 v 16 e (holds-within R (Snake i v) h))
 
   pub triangle-out : (i j : ℕ) → (ltb i 32 && ltb j 32) ≡ false → triangle (held t) (stateOf m) i j ≡ false
-  triangle-out i j e = T-false _ (λ h. out2 i 32 j 32 e (triangle-range i j h))
+  unfolding holds
+  triangle-out i j e = T-false _ (λ h. out2 i 32 j 32 e (holds-within R (Triangle i j) h))
 
   pub neighbourhood-out : (i b a : ℕ) → (ltb i 32 && (ltb b 16 && ltb a 16)) ≡ false → neighbourhood (held t) (stateOf m) i b a ≡ false
-  neighbourhood-out i b a e = T-false _ (λ h. out3 i 32 b 16 a 16 e (neighbourhood-range i b a h))
+  unfolding holds
+  neighbourhood-out i b a e = T-false _ (λ h. out3 i 32 b 16 a 16 e (holds-within R (Neighbourhood i b a) h))
 
   pub slide-out : (i b a : ℕ) → (ltb i 32 && (ltb b 16 && ltb a 16)) ≡ false → snakeSubstitution (held t) (stateOf m) slideSpares i b a ≡ false
-  slide-out i b a e = T-false _ (λ h. out3 i 32 b 16 a 16 e (slide-range i b a h))
+  unfolding holds
+  slide-out i b a e = T-false _ (λ h. out3 i 32 b 16 a 16 e (holds-within R (SnakeSubstitution i b a) h))
 
   -- what a step answers is a state again, and says the state after it
   pub step-on : (r : Record) (x : Masks) → x ≡ masksOf (after (held t) (stateOf m) r) → Ready t x × (stateOf x ≡ after (held t) (stateOf m) r)
-  step-on r x e =
-      let F = after-fits (held t) (R .fits) r in
-      (subst (Ready t) (sym e) (ready-after R F), ap stateOf e ∙ state-after R F)
+  step-on r x e = (subst (Ready t) (sym e) (after-ready R r), ap stateOf e ∙ after-state R r)
 
 module _ (P : Problem) (s : State) (r : Record) where
   pub lawful-on : noneEmpty P s ≡ true → holds P s r ≡ lawful P s r

@@ -2,17 +2,16 @@
 ghost use mathlib.Core.Path.{_≡_};
 ghost use mathlib.Core.Bool.{_&&_, true, false};
 ghost use mathlib.Core.Logic.{_≢_};
-ghost use Prim.Native.Nat.{_-_, _^_, _<_, _≤_};
+ghost use Prim.Native.Nat.{_-_, _<_, _≤_};
 ghost use lib.Dec.{T};
-ghost use lib.ListN.{length, getD};
+ghost use lib.ListN.{length};
 ghost use Rattle.bounded.specs.Bounded.{all};
-ghost use Rattle.bounded.specs.Mask.{maskOf};
 ghost use Rattle.bounded.specs.Table.{tab};
 ghost use Rattle.problem.specs.Problem.{full, unsupported as unsupportedAt, snake as snakeAt, triangle as triangleAt, neighbourhood as neighbourhoodAt};
 ghost use Rattle.problem.specs.Problem.{snakeSubstitution as slideAt, slideSpares, lowestLive, snakeServes, triangleServes};
 ghost use Rattle.problem.specs.Reduce.{holds as holdsAt, lawful as lawfulAt, after};
 ghost use Rattle.problem.specs.Extend.{undo};
-ghost use Rattle.problem.specs.Held.{held, heldVariables, rowPlace, RowTable};
+ghost use Rattle.problem.specs.Held.{held, RowTable};
 ghost use Rattle.problem.specs.Masks.{stateOf, masksOf, Proper};
 ghost use Rattle.problem.specs.declared.Record.the-variants.{Snake, Triangle};
 ghost use Rattle.sheet.specs.Bytes.{Is};
@@ -233,21 +232,13 @@ fn entries_fit(m: Masks, plan: &[u8]) -> bool
     true
 }
 
-// Value a of i is allowed with value b of j. No two values of one variable are, whatever the row between them says.
-fn pair_allowed(t: &[u16], i: usize, a: usize, j: usize, b: usize) -> bool
-    requires { ⌜ RowTable (now t) × (Value (now t) i a × Value (now t) j b) ⌝ }
-    ensures { λ r. ⌜ r ≡ (held (now (t .entry))) .allowed i a j b ⌝ }
-{
-    (i != j) & has16(t[32 + ((i * 32 + j) * 16 + a)], b)
-}
-
 // Two items in have an allowed pair.
 fn pair_fits(t: &[u16], m: Masks, plan: &[u8], i: usize, j: usize) -> bool
     requires { ⌜ Ready (now t) m × (Entries m (now plan) × ((i < length (now plan)) × (j < length (now plan)))) ⌝ }
     ensures { λ r. ⌜ r ≡ pairFits (held (now (t .entry))) (stateOf m) (planOf (now (plan .entry))) i j ⌝ }
 {
     if has32(m.active, i) & (has32(m.active, j) & (i != j)) {
-        pair_allowed(t, i, plan[i] as usize, j, plan[j] as usize)
+        rules::pair_allowed(t, i, plan[i] as usize, j, plan[j] as usize)
     } else {
         true
     }
@@ -327,7 +318,7 @@ fn mended_other(t: &[u16], m: Masks, i: usize, v: usize, j: usize, w: u8) -> u8
     requires { ⌜ Ready (now t) m × (Value (now t) i v × (Value (now t) j w × (((stateOf m) .active j ≡ true) × (j ≢ i)))) ⌝ }
     ensures { λ r. ⌜ r ≡ mendedAt (held (now (t .entry))) (stateOf m) i v j w ⌝ }
 {
-    if pair_allowed(t, i, v, j, w as usize) {
+    if rules::pair_allowed(t, i, v, j, w as usize) {
         w
     } else {
         lowest_snake(t, m, i, v, j, w as usize) as u8

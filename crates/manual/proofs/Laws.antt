@@ -1,21 +1,18 @@
 -- Sets of all numbers below a bound, the full state, and cause 11, as the code tests them. Assumes nothing.
-use mathlib.Core.Path.{_≡_, refl, sym, ap, _∙_, subst}
+use mathlib.Core.Path.{_≡_, sym, ap, _∙_, subst}
 use mathlib.Core.Bool.{Bool, true, false, _&&_}
 use mathlib.Core.Logic.{⊎-elim}
-use mathlib.Core.List.{List}
 use Prim.Native.Nat.{ℕ, _-_, _^_, _≤_, _<_}
 use native.Mathlib.Omega.{arith}
 use lib.Dec.{T, eqb, ltb}
 use lib.ListN.{getD}
 use lib.Pow.{pow-mono}
-use borrow.Author.Tests.{lt-ltb}
-use Rattle.bounded.specs.Bounded.{imp, all, any, lowest}
+use Rattle.bounded.specs.Bounded.{imp, all, any}
 use Rattle.bounded.specs.Mask.{bit, maskOf}
 use Rattle.bounded.proofs.Truth.{T-ext, T-false, T-not, and-iff, imp-iff, not-iff, ltb-iff, lt-dec}
 use Rattle.bounded.proofs.Bounded.{all-iff, any-iff}
 use Rattle.bounded.proofs.Mask.{bit-high, bit-mask, mask-lt, mask-ext, zero-bits}
 use Rattle.problem.specs.Problem.{Problem, State, fits}
-use Rattle.problem.specs.Held.{held, heldSize, heldVariables, RowTable}
 use Rattle.problem.specs.Masks.{stateOf}
 use Rattle.problem.specs.declared.Masks.{Masks}
 use Rattle.problem.proofs.Reflect.{fits-says}
@@ -39,20 +36,6 @@ below-word x z p q =
         (λ m. sym (bit-mask z (bit x) c m))
         (λ (m : z ≤ c). T-false _ (λ u. let g = f c k u in omega arith) ∙ sym (bit-high z (maskOf z (bit x)) c (mask-lt z (bit x)) m))
         (lt-dec c z))
-
--- ---- the problem that a table holds
-
-pub size-entry : (t : List ℕ) (i : ℕ) → i < 32 → getD t i 0 ≡ (held t) .size i
-unfolding held heldSize
-size-entry t i l = rw (lt-ltb i 32 l)
-
-pub size-narrow : {t : List ℕ} → RowTable t → (i : ℕ) → (held t) .size i ≤ 16
-unfolding held
-size-narrow R i = R .narrow i
-
-pub variables-lowest : (t : List ℕ) → (held t) .n ≡ lowest 32 (λ i. eqb ((held t) .size i) 0)
-unfolding held heldVariables
-variables-lowest t = refl
 
 -- ---- cause 11, variable by variable
 

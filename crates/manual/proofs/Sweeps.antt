@@ -3,32 +3,29 @@ use mathlib.Core.Path.{_≡_, refl, sym, ap, _∙_, fun-ext, subst}
 use mathlib.Core.Bool.{Bool, true, false, _&&_}
 use mathlib.Core.Logic.{_⊎_, inl, inr, _≢_}
 use mathlib.Core.List.{List}
-use Prim.Native.Nat.{ℕ, zero, suc, _+_, _-_, _*_, _≤_, _<_}
+use Prim.Native.Nat.{ℕ, zero, suc, _+_, _-_, _≤_, _<_}
 use native.Mathlib.Nat.{not-suc-le-zero}
 use native.Mathlib.Omega.{arith}
 use lib.Dec.{T, eqb}
-use lib.ListN.{getD, replicate}
+use lib.ListN.{getD}
 use lib.Seq.{ext-getD}
 use borrow.Author.Tests.{eqb-true}
-use Rattle.bounded.specs.Bounded.{sumTo}
-use Rattle.bounded.specs.Mask.{bit}
 use Rattle.bounded.specs.Table.{tab}
-use Rattle.bounded.proofs.Truth.{T-ext, T-dec, T-not, and-iff, not-iff}
+use Rattle.bounded.proofs.Truth.{T-ext, T-dec, and-iff, not-iff}
 use Rattle.bounded.proofs.Bounded.{all-iff}
 use Rattle.bounded.proofs.Loops.{all-each}
-use Rattle.bounded.proofs.Mask.{bit-none}
-use Rattle.problem.specs.Problem.{Problem, State, full, anyLive, unsupported, liveCount, sizeSum}
+use Rattle.problem.specs.Problem.{Problem, State, full, anyLive, unsupported, liveCount}
 use Rattle.problem.specs.Manual.{supported, prune, pruneTimes, startTurns, start}
 use Rattle.problem.specs.Held.{held, tableOf, Bounded, RowTable}
-use Rattle.problem.specs.Masks.{stateOf, masksOf, emptyMasks, Proper}
+use Rattle.problem.specs.Masks.{stateOf, masksOf, Proper}
 use Rattle.problem.specs.declared.Masks.{Masks}
-use Rattle.problem.proofs.Reflect.{Active, Live, Allowed, Fits, full-fits, anyLive-iff, supported-iff, unsupported-iff}
+use Rattle.problem.proofs.Reflect.{Active, Live, Allowed, Fits, anyLive-iff, supported-iff, unsupported-iff}
 use Rattle.problem.proofs.HeldTable.{held-same, table-rows}
-use Rattle.problem.proofs.Start.{start-fits, start-consistent}
-use Rattle.problem.proofs.Count.{full-count}
+use Rattle.problem.proofs.Start.{prune-fits, start-fits, start-consistent}
+use Rattle.problem.proofs.Count.{full-count, sizes-most}
 use Rattle.problem.proofs.Bridge.{masks-back, masks-proper}
 use Rattle.rules.specs.Ready.{Ready}
-use Rattle.rules.proofs.After.{state-after, ready-after}
+use Rattle.rules.proofs.After.{state-held, ready-held}
 use Rattle.manual.specs.Parts.{noneBare, domainLeft, sameDomains, maxTurns}
 
 -- ---- one sweep
@@ -58,11 +55,6 @@ pub goes-is : (P : Problem) (s : State) (i a : ℕ) → s .live i a ≡ false �
 unfolding prune
 goes-is P s i a e = ap (λ (b : Bool). b && supported P s i a) (sym e)
 
-prune-fits : {P : Problem} {s : State} → Fits P s → Fits P (prune P s)
-unfolding prune
-prune-fits F =
-    record { active-lt = F .active-lt; live-active = λ i a o. F .live-active i a ((simp and-iff at o) .0); live-lt = λ i a o. F .live-lt i a ((simp and-iff at o) .0) }
-
 -- the masks of a sweep: the active variables as they were, and the domains that are left
 pub sweep-masks : (P : Problem) (m r : Masks) → Proper m → r .active ≡ m .active → r .domains ≡ tab 32 (domainLeft P (stateOf m)) → r ≡ masksOf (prune P (stateOf m))
 unfolding masksOf prune domainLeft
@@ -70,43 +62,10 @@ sweep-masks P m r R p q = λ k. record { active = (p ∙ ap (λ (x : Masks). x .
 
 module _ {t : List ℕ} {m : Masks} (R : Ready t m) where
   pub sweep-ready : Ready t (masksOf (prune (held t) (stateOf m)))
-  sweep-ready = ready-after R (prune-fits (R .fits))
+  sweep-ready = ready-held (R .table) (prune-fits (held t) (R .fits))
 
   pub sweep-says : stateOf (masksOf (prune (held t) (stateOf m))) ≡ prune (held t) (stateOf m)
-  sweep-says = state-after R (prune-fits (R .fits))
-
--- ---- the first state
-
-empty-ready : {t : List ℕ} → RowTable t → Ready t emptyMasks
-unfolding stateOf
-empty-ready {t} R =
-    record {
-      table = R;
-      proper = record { active-lt = omega arith; length-is = refl; domain-lt = λ i l. rw (zeros i) (omega arith) };
-      fits = record {
-        active-lt = λ i h. absurd (T-not (bit-none i) h);
-        live-active = λ i a h. absurd (T-not (ap (λ (x : ℕ). bit x a) (zeros i) ∙ bit-none a) h);
-        live-lt = λ i a h. absurd (T-not (ap (λ (x : ℕ). bit x a) (zeros i) ∙ bit-none a) h);
-      };
-    }
-  where
-    none : ℕ
-    none = 0
-
-    zeros-of : (n i : ℕ) → getD (replicate n none) i none ≡ none
-    zeros-of zero i = refl
-    zeros-of (suc n) zero = refl
-    zeros-of (suc n) (suc i) = zeros-of n i
-
-    zeros : (i : ℕ) → getD (emptyMasks .domains) i 0 ≡ none
-    zeros i = zeros-of 32 i
-
-module _ {t : List ℕ} (R : RowTable t) where
-  pub full-ready : Ready t (masksOf (full (held t)))
-  full-ready = ready-after (empty-ready R) (full-fits (held t))
-
-  pub full-says : stateOf (masksOf (full (held t))) ≡ full (held t)
-  full-says = state-after (empty-ready R) (full-fits (held t))
+  sweep-says = state-held (R .table) (prune-fits (held t) (R .fits))
 
 -- ---- sweeps until one changes nothing
 
@@ -145,16 +104,11 @@ module _ (P : Problem) where
             λ h. and-iff (start P .live i a) (supported P (start P) i a) .1 (h, supported-iff (start-fits P) i a .1 (start-consistent P i a h)),
           )
 
-  sum-most : (n : ℕ) (f : ℕ → ℕ) → ((i : ℕ) → f i ≤ 16) → sumTo n f ≤ 16 * n
-  unfolding sumTo
-  sum-most zero f h = omega arith
-  sum-most (suc n) f h = omega (arith, sum-most n f h, h n)
-
   -- more sweeps than a sheet can have values are enough
   pub start-enough : Bounded P → pruneTimes maxTurns P (full P) ≡ start P
-  unfolding start sizeSum
+  unfolding start
   start-enough B =
-      let c : liveCount P (full P) ≤ 512 = omega (arith, full-count P, sum-most (P .n) (P .size) (B .narrow), B .few) in
+      let c : liveCount P (full P) ≤ 512 = omega (arith, full-count P, sizes-most P B) in
       times-more (startTurns P) (maxTurns - startTurns P) maxTurns (full P) (omega arith) ∙ times-same (maxTurns - startTurns P) (start P) prune-start
 
   -- the table of a sheet's problem holds it

@@ -1,15 +1,14 @@
 // Document 01, "Taking out by hand": the start, and one hand call.
 ghost use mathlib.Core.Path.{_≡_};
-ghost use mathlib.Core.Bool.{cond, true};
-ghost use Prim.Native.Nat.{_^_, _<_, _≤_};
+ghost use mathlib.Core.Bool.{true};
+ghost use Prim.Native.Nat.{_<_, _≤_};
 ghost use lib.Dec.{ltb};
 ghost use Rattle.bounded.specs.Bounded.{imp, all, lowest};
-ghost use Rattle.bounded.specs.Mask.{bit, maskOf};
-ghost use Rattle.problem.specs.Problem.{maxVariables, maxValues, full, fits as fitsTest, noneEmpty, snake as snakeHolds};
+ghost use Rattle.bounded.specs.Mask.{bit};
+ghost use Rattle.problem.specs.Problem.{maxValues, full, fits as fitsTest, noneEmpty, snake as snakeHolds};
 ghost use Rattle.problem.specs.Manual.{prune, pruneTimes, start as startState};
 ghost use Rattle.problem.specs.Masks.{stateOf, masksOf};
 ghost use Rattle.problem.specs.Held.{held, RowTable};
-ghost use Rattle.sheet.specs.Bytes.{Is};
 ghost use Rattle.sheet.specs.Sheet.{layout, Keeps};
 ghost use Rattle.sheet.specs.Relation.{problemOf};
 ghost use Rattle.rules.specs.Ready.{Ready};
@@ -27,24 +26,6 @@ use problem::Masks;
 use sheet::SheetRead;
 use sheet::SheetRefusal;
 
-// ---- sets of all numbers below a bound
-
-// 2 to the power z.
-fn power(z: usize) -> usize
-    requires { ⌜ z ≤ 32 ⌝ }
-    ensures { λ r. ⌜ Is (2 ^ z) 4294967297 r ⌝ }
-{
-    1 << z
-}
-
-// 2^a where b holds, else 0.
-fn weight(b: bool, a: usize) -> u16
-    requires { ⌜ a < 16 ⌝ }
-    ensures { λ r. ⌜ r ≡ cond b (2 ^ a) 0 ⌝ }
-{
-    if b { power(a) as u16 } else { 0 }
-}
-
 // ---- the problem that a table holds
 
 // How many values variable i has.
@@ -53,21 +34,6 @@ fn size(t: &[u16], i: usize) -> usize
     ensures { λ r. ⌜ r ≡ (held (now (t .entry))) .size i ⌝ }
 {
     t[i] as usize
-}
-
-// How many variables: the sizes end at the first that is 0.
-fn variables(t: &[u16]) -> usize
-    requires { ⌜ RowTable (now t) ⌝ }
-    ensures { λ r. ⌜ r ≡ (held (now (t .entry))) .n ⌝ }
-{
-    let mut i: usize = 0;
-    while i < 32 {
-        if size(t, i) == 0 {
-            return i;
-        }
-        i += 1;
-    }
-    32
 }
 
 // ---- one sweep
@@ -106,7 +72,7 @@ fn domain_left(t: &[u16], m: Masks, i: usize) -> u16
     let mut x: u16 = 0;
     let mut a: usize = 0;
     while a < 16 {
-        x += weight(stays(t, m, i, a), a);
+        x += bounded::weight(stays(t, m, i, a), a);
         a += 1;
     }
     x
@@ -213,7 +179,7 @@ fn below(x: u16, z: usize) -> bool
     requires { ⌜ z ≤ 16 ⌝ }
     ensures { λ r. ⌜ r ≡ all maxValues (λ a. imp (bit x a) (ltb a z)) ⌝ }
 {
-    (x as usize) < power(z)
+    (x as usize) < bounded::power(z)
 }
 
 // 11 at one variable. An active one is one of the problem's and has values of its own only; another has an empty domain.
@@ -234,7 +200,7 @@ fn fits(t: &[u16], m: Masks) -> bool
     requires { ⌜ RowTable (now t) ⌝ }
     ensures { λ r. ⌜ r ≡ fitsTest (held (now (t .entry))) (stateOf m) ⌝ }
 {
-    let n = variables(t);
+    let n = reduce::variables(t);
     let mut i: usize = 0;
     while i < 32 {
         if !fits_at(t, m, n, i) {

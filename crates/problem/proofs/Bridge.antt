@@ -1,8 +1,7 @@
 -- A state as masks and as tests, both ways. Assumes nothing.
 use mathlib.Core.Path.{_≡_, refl, sym, ap, _∙_, fun-ext}
-use mathlib.Core.Bool.{Bool}
 use mathlib.Core.Logic.{_⊎_, inl, inr, _↔_}
-use Prim.Native.Nat.{ℕ, _^_, _≤_, _<_}
+use Prim.Native.Nat.{ℕ, _≤_, _<_}
 use native.Mathlib.Nat.{not-le-of-lt}
 use native.Mathlib.Omega.{arith}
 use lib.Dec.{T}
@@ -13,7 +12,7 @@ use Rattle.bounded.specs.Table.{tab}
 use Rattle.bounded.proofs.Truth.{T-false, T-not, lt-dec}
 use Rattle.bounded.proofs.Mask.{bit-high, bit-none, bit-mask, bit-mask-all, mask-lt, mask-ext}
 use Rattle.bounded.proofs.Table.{length-tab, getD-tab}
-use Rattle.problem.specs.Problem.{Problem, State, maxVariables, maxValues, fits}
+use Rattle.problem.specs.Problem.{Problem, State, fits}
 use Rattle.problem.specs.Masks.{stateOf, masksOf, Proper}
 use Rattle.problem.specs.Held.{Bounded}
 use Rattle.problem.specs.declared.Masks.{Masks}
@@ -47,23 +46,26 @@ masks-proper s =
 pub masks-back : (m : Masks) → Proper m → masksOf (stateOf m) ≡ m
 masks-back m R = sym (masks-is m (stateOf m) R (λ i l. refl) (λ i a l k. refl))
 
--- the masks of a state that fits say the state
-pub state-back : (P : Problem) → Bounded P → {s : State} → Fits P s → stateOf (masksOf s) ≡ s
+-- the masks of a state that fits a problem of at most 32 variables of at most 16 values say the state
+pub state-within : (P : Problem) → P .n ≤ 32 → ((i : ℕ) → P .size i ≤ 16) → {s : State} → Fits P s → stateOf (masksOf s) ≡ s
 unfolding stateOf masksOf
-state-back P B {s} F = λ t. record { active = actives t; live = lives t }
+state-within P few narrow {s} F = λ t. record { active = actives t; live = lives t }
   where
     actives : (λ i. bit (maskOf 32 (s .active)) i) ≡ s .active
-    actives = fun-ext (bit-mask-all 32 (s .active) (λ k t. omega (arith, F .active-lt k t, B .few)))
+    actives = fun-ext (bit-mask-all 32 (s .active) (λ k t. omega (arith, F .active-lt k t, few)))
 
     lives : (λ i a. bit (getD (tab 32 (λ i. maskOf 16 (s .live i))) i 0) a) ≡ s .live
     lives = fun-ext λ i. fun-ext λ a. go i a (lt-dec i 32)
       where
         go : (i a : ℕ) → (i < 32) ⊎ (32 ≤ i) → bit (getD (tab 32 (λ i. maskOf 16 (s .live i))) i 0) a ≡ s .live i a
-        go i a (inl l) = rw (getD-tab 32 (λ i. maskOf 16 (s .live i)) i 0 l) (bit-mask-all 16 (s .live i) (λ c t. omega (arith, F .live-lt i c t, B .narrow i)) a)
+        go i a (inl l) = rw (getD-tab 32 (λ i. maskOf 16 (s .live i)) i 0 l) (bit-mask-all 16 (s .live i) (λ c t. omega (arith, F .live-lt i c t, narrow i)) a)
         go i a (inr l) =
             let q : length (tab 32 (λ i. maskOf 16 (s .live i))) ≤ i = omega (arith, length-tab 32 (λ i. maskOf 16 (s .live i))) in
             rw (List·getD-eq-default (tab 32 (λ i. maskOf 16 (s .live i))) 0 q)
-            (bit-none a ∙ sym (T-false (s .live i a) (λ t. not-le-of-lt (F .active-lt i (F .live-active i a t)) (omega (arith, B .few)))))
+            (bit-none a ∙ sym (T-false (s .live i a) (λ t. not-le-of-lt (F .active-lt i (F .live-active i a t)) (omega (arith, few)))))
+
+pub state-back : (P : Problem) → Bounded P → {s : State} → Fits P s → stateOf (masksOf s) ≡ s
+state-back P B F = state-within P (B .few) (B .narrow) F
 
 -- a struct's state fits at every number where it fits at the numbers that the struct can name
 pub fits-iff : (P : Problem) (m : Masks) → Proper m → T (fits P (stateOf m)) ↔ Fits P (stateOf m)

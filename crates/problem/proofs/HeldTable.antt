@@ -1,21 +1,20 @@
 -- The table of a problem holds that problem, and its rows tell what is allowed, both ways round. Assumes nothing.
 use mathlib.Core.Path.{_≡_, refl, sym, ap, _∙_, subst}
-use mathlib.Core.Bool.{Bool, true, false, not, _&&_, cond}
-use mathlib.Core.Logic.{_⊎_, inl, inr, _≢_, _↔_, ⊎-elim}
+use mathlib.Core.Bool.{Bool, true, false, not, _&&_}
+use mathlib.Core.Logic.{_⊎_, inl, inr, _≢_, _↔_}
 use mathlib.Core.List.{List}
-use Prim.Native.Nat.{ℕ, _+_, _-_, _*_, _/_, _%_, _≤_, _<_}
+use Prim.Native.Nat.{ℕ, _-_, _/_, _%_, _≤_, _<_}
 use native.Mathlib.Omega.{arith}
-use lib.Dec.{T, eqb, ltb}
-use lib.ListN.{length, getD}
+use lib.Dec.{T, eqb}
+use lib.ListN.{getD}
 use borrow.Author.Tests.{lt-ltb, le-ltb}
 use Rattle.bounded.specs.Bounded.{lowest}
 use Rattle.bounded.specs.Mask.{bit, maskOf}
-use Rattle.bounded.specs.Table.{tab}
-use Rattle.bounded.proofs.Truth.{T-ext, T-true, and-iff, not-iff, eqb-iff, ltb-iff, lt-dec}
+use Rattle.bounded.proofs.Truth.{T-ext, and-iff, not-iff, eqb-iff, ltb-iff, lt-dec}
 use Rattle.bounded.proofs.Bounded.{lowest-unique, lowest-le}
 use Rattle.bounded.proofs.Mask.{bit-mask}
 use Rattle.bounded.proofs.Table.{length-tab, getD-tab}
-use Rattle.problem.specs.Problem.{Problem, maxValues}
+use Rattle.problem.specs.Problem.{Problem}
 use Rattle.problem.specs.Held.{tableLength, rowPlace, heldSize, heldVariables, heldValue, rowAllows, heldRow, held, RowTable, tableEntry, tableOf, Bounded}
 use Rattle.problem.proofs.Same.{problem-same}
 
@@ -47,6 +46,21 @@ row-tells {t} R i a j b vi vj d =
 pub held-few : (t : List ℕ) → (held t) .n ≤ 32
 unfolding held heldVariables
 held-few t = lowest-le 32 (λ i. eqb (heldSize t i) 0)
+
+-- of at most 16 values each
+pub held-narrow : {t : List ℕ} → RowTable t → (i : ℕ) → (held t) .size i ≤ 16
+unfolding held
+held-narrow R i = R .narrow i
+
+-- an entry below 32 is a size
+pub held-entry : (t : List ℕ) (i : ℕ) → i < 32 → (held t) .size i ≡ getD t i 0
+unfolding held heldSize
+held-entry t i l = rw (lt-ltb i 32 l)
+
+-- the sizes end at the first that is 0
+pub held-lowest : (t : List ℕ) → (held t) .n ≡ lowest 32 (λ i. eqb ((held t) .size i) 0)
+unfolding held heldVariables
+held-lowest t = refl
 
 module _ (P : Problem) (B : Bounded P) where
   size-entry : (k : ℕ) → k < 32 → tableEntry P k ≡ P .size k

@@ -3,7 +3,7 @@ use mathlib.Core.Path.{_≡_, refl, sym, ap, subst, _∙_}
 use mathlib.Core.Bool.{Bool, true, false}
 use mathlib.Core.List.{List, [], _∷_}
 use mathlib.Core.Logic.{_⊎_, inl, inr}
-use Prim.Native.Nat.{ℕ, zero, suc, _+_, _≤_, _<_}
+use Prim.Native.Nat.{ℕ, zero, suc, _≤_, _<_}
 use native.Mathlib.Nat.{not-suc-le-zero, le-of-suc-le-suc}
 use native.Mathlib.Omega.{arith}
 use lib.Dec.{T}
@@ -19,7 +19,7 @@ use Rattle.problem.specs.declared.Next.{Next}
 use Rattle.problem.specs.declared.Next.the-variants.{Step, Nothing}
 use Rattle.problem.specs.declared.End.{End}
 use Rattle.problem.specs.declared.End.the-variants.{Impossible, Solved, Rest}
-use Rattle.problem.proofs.Reflect.{Active, Live, Fits, full-fits, allActive-or, anyLive-iff, noneEmpty-iff, unsupported-iff, snake-iff, triangle-iff, neighbourhood-iff, snakeSubstitution-iff}
+use Rattle.problem.proofs.Reflect.{Active, Live, Fits, allActive-or, anyLive-iff, noneEmpty-iff, unsupported-iff, snake-iff, triangle-iff, neighbourhood-iff, snakeSubstitution-iff}
 use Rattle.problem.proofs.Trace.{after-fits, trace-fits, step-falls, lawful-iff, trace-iff, trace-short}
 
 -- ---- searching
@@ -49,10 +49,10 @@ when-found Q true r h x e = subst Q (same-step e) (h tt)
 when-found Q false r h x e = absurd (never e)
 
 -- where none is found there is none anywhere
-first-none : (n : ℕ) (f : ℕ → Next) → first n f ≡ Nothing → (k : ℕ) → k < n → f k ≡ Nothing
+pub first-each : (n : ℕ) (f : ℕ → Next) → first n f ≡ Nothing → (k : ℕ) → k < n → f k ≡ Nothing
 unfolding first
-first-none zero f e k h = absurd (not-suc-le-zero h)
-first-none (suc n) f e k h = go (f zero) refl e k h (first-none n (λ k. f (suc k)))
+first-each zero f e k h = absurd (not-suc-le-zero h)
+first-each (suc n) f e k h = go (f zero) refl e k h (first-each n (λ k. f (suc k)))
   where
     go : (x : Next) → f zero ≡ x → _≡_ {A = Next} (elim x as (λ y. Next) [ Step r ↦ Step r | Nothing ↦ first n (λ k. f (suc k)) ]) Nothing → (k : ℕ) → k < suc n → (first n (λ k. f (suc k)) ≡ Nothing → (k : ℕ) → k < n → f (suc k) ≡ Nothing) → f k ≡ Nothing
     go Nothing p e zero h ih = p
@@ -80,7 +80,7 @@ module _ (P : Problem) (s : State) where
   unsupported-complete F e i b k h =
       let x = unsupported-iff F i b k .0 h in
       when-none (unsupported P s i b k) (Unsupported i b k)
-      (first-none _ _ (first-none _ _ (first-none _ _ e i (F .active-lt i (F .live-active i b (x .0)))) b (F .live-lt i b (x .0))) k (F .active-lt k (x .1))) h
+      (first-each _ _ (first-each _ _ (first-each _ _ e i (F .active-lt i (F .live-active i b (x .0)))) b (F .live-lt i b (x .0))) k (F .active-lt k (x .1))) h
 
   snake-found : (r : Record) → nextSnake P s ≡ Step r → Holds r
   unfolding nextSnake holds
@@ -90,7 +90,7 @@ module _ (P : Problem) (s : State) where
   unfolding nextSnake
   snake-complete F e i v h =
       let x = snake-iff F i v .0 h in
-      when-none (snake P s i v) (Snake i v) (first-none _ _ (first-none _ _ e i (F .active-lt i (F .live-active i v (x .0)))) v (F .live-lt i v (x .0))) h
+      when-none (snake P s i v) (Snake i v) (first-each _ _ (first-each _ _ e i (F .active-lt i (F .live-active i v (x .0)))) v (F .live-lt i v (x .0))) h
 
   triangle-found : (r : Record) → nextTriangle P s ≡ Step r → Holds r
   unfolding nextTriangle holds
@@ -100,7 +100,7 @@ module _ (P : Problem) (s : State) where
   unfolding nextTriangle
   triangle-complete F e i j h =
       let x = triangle-iff F i j .0 h in
-      when-none (triangle P s i j) (Triangle i j) (first-none _ _ (first-none _ _ e i (F .active-lt i (x .0))) j (F .active-lt j (x .1 .0))) h
+      when-none (triangle P s i j) (Triangle i j) (first-each _ _ (first-each _ _ e i (F .active-lt i (x .0))) j (F .active-lt j (x .1 .0))) h
 
   neighbourhood-found : (r : Record) → nextNeighbourhood P s ≡ Step r → Holds r
   unfolding nextNeighbourhood holds
@@ -111,7 +111,7 @@ module _ (P : Problem) (s : State) where
   neighbourhood-complete F e i b a h =
       let x = neighbourhood-iff F i b a .0 h in
       when-none (neighbourhood P s i b a) (Neighbourhood i b a)
-      (first-none _ _ (first-none _ _ (first-none _ _ e i (F .active-lt i (F .live-active i b (x .0)))) b (F .live-lt i b (x .0))) a (F .live-lt i a (x .1 .0))) h
+      (first-each _ _ (first-each _ _ (first-each _ _ e i (F .active-lt i (F .live-active i b (x .0)))) b (F .live-lt i b (x .0))) a (F .live-lt i a (x .1 .0))) h
 
   slide-found : (r : Record) → nextSnakeSubstitution P s ≡ Step r → Holds r
   unfolding nextSnakeSubstitution holds
@@ -122,7 +122,7 @@ module _ (P : Problem) (s : State) where
   slide-complete F e i b a h =
       let x = snakeSubstitution-iff F slideSpares i b a .0 h in
       when-none (snakeSubstitution P s slideSpares i b a) (SnakeSubstitution i b a)
-      (first-none _ _ (first-none _ _ (first-none _ _ e i (F .active-lt i (F .live-active i b (x .0)))) b (F .live-lt i b (x .0))) a (F .live-lt i a (x .1 .0))) h
+      (first-each _ _ (first-each _ _ (first-each _ _ e i (F .active-lt i (F .live-active i b (x .0)))) b (F .live-lt i b (x .0))) a (F .live-lt i a (x .1 .0))) h
 
   -- ---- the kinds joined
 
@@ -136,11 +136,11 @@ module _ (P : Problem) (s : State) where
   kind-found (suc (suc (suc (suc (suc k))))) r e = slide-found r e
 
   -- what `next` is, by whether some active variable is without a value
-  next-open : noneEmpty P s ≡ true → next P s ≡ first kindBound (nextOfKind P s)
+  pub next-open : noneEmpty P s ≡ true → next P s ≡ first kindBound (nextOfKind P s)
   unfolding next
   next-open e = rw (e, next)
 
-  next-shut : noneEmpty P s ≡ false → next P s ≡ Nothing
+  pub next-shut : noneEmpty P s ≡ false → next P s ≡ Nothing
   unfolding next
   next-shut e = rw (e, next)
 
@@ -160,7 +160,7 @@ module _ (P : Problem) (s : State) where
       x = lawful-iff P s r .0 t
 
       none : (k : ℕ) → k < kindBound → nextOfKind P s k ≡ Nothing
-      none = first-none kindBound (nextOfKind P s) (sym (next-open (T-true (noneEmpty P s) (x .0))) ∙ e)
+      none = first-each kindBound (nextOfKind P s) (sym (next-open (T-true (noneEmpty P s) (x .0))) ∙ e)
 
       by-kind : (r : Record) → T (holds P s r) → ⊥
       by-kind (Unsupported i b k) h = unsupported-complete F (none 1 (omega arith)) i b k h
@@ -234,19 +234,20 @@ EndSays s Impossible = (i : ℕ) × Active s i × ((a : ℕ) → Live s i a → 
 EndSays s Solved = (i : ℕ) → Active s i → ⊥
 EndSays s Rest = ((i : ℕ) × Active s i) × ((i : ℕ) → Active s i → (a : ℕ) × Live s i a)
 
-module _ (P : Problem) {s : State} (F : Fits P s) where
-  end-impossible : noneEmpty P s ≡ false → endOf P s ≡ Impossible
+module _ (P : Problem) (s : State) where
+  pub end-impossible : noneEmpty P s ≡ false → endOf P s ≡ Impossible
   unfolding endOf
   end-impossible e = rw (e, endOf)
 
-  end-rest : noneEmpty P s ≡ true → any (P .n) (s .active) ≡ true → endOf P s ≡ Rest
+  pub end-rest : noneEmpty P s ≡ true → any (P .n) (s .active) ≡ true → endOf P s ≡ Rest
   unfolding endOf
   end-rest e f = rw (e, f, endOf)
 
-  end-solved : noneEmpty P s ≡ true → any (P .n) (s .active) ≡ false → endOf P s ≡ Solved
+  pub end-solved : noneEmpty P s ≡ true → any (P .n) (s .active) ≡ false → endOf P s ≡ Solved
   unfolding endOf
   end-solved e f = rw (e, f, endOf)
 
+module _ (P : Problem) {s : State} (F : Fits P s) where
   -- where a variable is without a value, one is found
   emptied : (T (noneEmpty P s) → ⊥) → EndSays s Impossible
   unfolding noneEmpty
@@ -260,9 +261,9 @@ module _ (P : Problem) {s : State} (F : Fits P s) where
   end-says = by-empty (noneEmpty P s) refl
     where
       by-active : noneEmpty P s ≡ true → (b : Bool) → any (P .n) (s .active) ≡ b → EndSays s (endOf P s)
-      by-active e true f = rw (end-rest e f) (let x = any-iff (P .n) (s .active) .0 (T-of f) in (x .0, x .2), noneEmpty-iff F .0 (T-of e))
-      by-active e false f = rw (end-solved e f) (λ i h. T-not f (any-iff (P .n) (s .active) .1 (i, F .active-lt i h, h)))
+      by-active e true f = rw (end-rest P s e f) (let x = any-iff (P .n) (s .active) .0 (T-of f) in (x .0, x .2), noneEmpty-iff F .0 (T-of e))
+      by-active e false f = rw (end-solved P s e f) (λ i h. T-not f (any-iff (P .n) (s .active) .1 (i, F .active-lt i h, h)))
 
       by-empty : (b : Bool) → noneEmpty P s ≡ b → EndSays s (endOf P s)
       by-empty true e = by-active e (any (P .n) (s .active)) refl
-      by-empty false e = rw (end-impossible e) (emptied (T-not e))
+      by-empty false e = rw (end-impossible P s e) (emptied (T-not e))

@@ -1,15 +1,15 @@
 -- The start is arc consistent, contains every arc consistent family of domains, and keeps every solution. Assumes nothing.
 use mathlib.Core.Path.{_≡_, refl, sym, subst}
-use mathlib.Core.Bool.{Bool, true, false, _&&_, not}
-use mathlib.Core.Logic.{_≢_, _↔_, _⊎_, inl, inr, Iff·rfl}
-use Prim.Native.Nat.{ℕ, zero, suc, _+_, _≤_, _<_}
+use mathlib.Core.Bool.{Bool, _&&_}
+use mathlib.Core.Logic.{_↔_, _⊎_, inl, inr, Iff·rfl}
+use Prim.Native.Nat.{ℕ, zero, suc, _<_}
 use native.Mathlib.Nat.{not-suc-le-zero}
 use native.Mathlib.Omega.{arith}
 use lib.Dec.{T, eqb, ltb}
-use Rattle.bounded.proofs.Truth.{eq-dec, and-iff, eqb-iff, ltb-iff, T-ext}
+use Rattle.bounded.proofs.Truth.{and-iff, eqb-iff, ltb-iff}
 use Rattle.problem.specs.Problem.{Problem, State, full, allActive, allLive, liveCount}
 use Rattle.problem.specs.Manual.{supported, prune, pruneTimes, startTurns, start}
-use Rattle.problem.proofs.Reflect.{Active, Live, Allowed, Fits, full-fits, turn, allActive-iff, allActive-or, allLive-iff, allLive-or, Supported, ArcConsistent, supported-iff}
+use Rattle.problem.proofs.Reflect.{Active, Live, Allowed, Fits, full-fits, allActive-iff, allActive-or, allLive-iff, allLive-or, Supported, ArcConsistent, supported-iff}
 use Rattle.problem.proofs.Sound.{Solution}
 use Rattle.problem.proofs.Count.{count-falls}
 
@@ -18,7 +18,7 @@ module _ (P : Problem) where
   unfolding prune
   prune-live F i a = simp (and-iff, supported-iff F) Iff·rfl
 
-  prune-fits : {s : State} → Fits P s → Fits P (prune P s)
+  pub prune-fits : {s : State} → Fits P s → Fits P (prune P s)
   unfolding prune
   prune-fits F =
       record { active-lt = F .active-lt; live-active = λ i a o. F .live-active i a ((simp and-iff at o) .0); live-lt = λ i a o. F .live-lt i a ((simp and-iff at o) .0) }

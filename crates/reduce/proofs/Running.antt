@@ -1,21 +1,18 @@
 -- The loop of the run: what holds before each turn, at its start, after a turn, and at its end. Assumes nothing.
 use mathlib.Core.Path.{_≡_, refl, sym, ap, _∙_, subst}
-use mathlib.Core.Bool.{Bool, true, false}
 use mathlib.Core.List.{List, [], _∷_, _++_, append-nil, append-assoc}
-use Prim.Native.Nat.{ℕ, zero, suc, _+_, _*_, _≤_, _<_}
-use native.Mathlib.Numerals.{add-one}
+use Prim.Native.Nat.{ℕ, suc, _+_, _*_, _≤_, _<_}
 use native.Mathlib.Omega.{arith}
 use lib.Dec.{T}
-use lib.ListN.{length, drop, set, length-append, length-set}
+use lib.ListN.{length, set, length-append, length-set}
 use lib.Seq.{drop-set-lt}
 use Rattle.problem.specs.Problem.{Problem, State, full, liveCount, sizeSum}
-use Rattle.problem.specs.Reduce.{holds, lawful, after, lawfulTrace, afterTrace, next, runFrom, run, endOf}
+use Rattle.problem.specs.Reduce.{lawful, after, lawfulTrace, afterTrace, next, run, endOf}
 use Rattle.problem.specs.Held.{held, RowTable}
 use Rattle.problem.specs.Masks.{stateOf, masksOf}
 use Rattle.problem.specs.declared.Masks.{Masks}
 use Rattle.problem.specs.declared.Record.{Record}
 use Rattle.problem.specs.declared.Record.the-variants.{Unsupported, Snake, Triangle, Neighbourhood, SnakeSubstitution}
-use Rattle.problem.specs.declared.Next.{Next}
 use Rattle.problem.specs.declared.Next.the-variants.{Step, Nothing}
 use Rattle.problem.proofs.Reflect.{Fits, full-fits}
 use Rattle.problem.proofs.Trace.{after-fits, lawful-iff, step-falls, trace-iff, trace-falls}
@@ -23,9 +20,7 @@ use Rattle.problem.proofs.Count.{full-count}
 use Rattle.problem.proofs.Run.{next-lawful, run-step, run-stop, run-enough}
 use Rattle.problem.proofs.Bridge.{masks-back}
 use Rattle.jobs.specs.Trace.{recordBytes, recordsBytes, traceBytes, fronted}
-use Rattle.jobs.specs.Run.{RunResult, runDone}
-use Rattle.jobs.specs.declared.Reduced.{Reduced}
-use Rattle.jobs.specs.declared.ReduceOutcome.{ReduceOutcome}
+use Rattle.jobs.specs.Run.{runDone}
 use Rattle.jobs.specs.declared.ReduceOutcome.the-variants.{Done}
 use Rattle.jobs.proofs.Worked.{trace-length}
 use Rattle.trace.specs.Written.{written, Small}
@@ -33,7 +28,7 @@ use Rattle.trace.proofs.Written.{fronted-more, length-fronted}
 use Rattle.trace.proofs.Back.{trace-more, record-most}
 use Rattle.rules.specs.Ready.{Ready}
 use Rattle.reduce.specs.Steps.{Within}
-use Rattle.reduce.proofs.States.{state-held, full-ready, after-state, after-ready, holds-within}
+use Rattle.reduce.proofs.States.{full-ready, full-says, after-state, after-ready, holds-within}
 
 -- ---- the run, one step at a time
 
@@ -91,9 +86,9 @@ running-start t d R l =
     record {
       done = [];
       ready = full-ready R;
-      reached = state-held R (full-fits (held t));
+      reached = full-says R;
       lawful = tt;
-      told = ap (run (held t)) (sym (state-held R (full-fits (held t))));
+      told = ap (run (held t)) (sym (full-says R));
       bytes = first-byte d (omega arith);
       place = refl;
       count = refl;

@@ -1,9 +1,9 @@
 -- A search for the lowest step: what a loop that goes up from 0 knows of it, bounds that may be wider, and the searches of each kind.
 -- Assumes nothing.
-use mathlib.Core.Path.{_≡_, refl, sym, ap, _∙_, subst, fun-ext}
+use mathlib.Core.Path.{_≡_, refl, sym, ap, _∙_, fun-ext}
 use mathlib.Core.Bool.{Bool, true, false}
 use mathlib.Core.List.{List}
-use mathlib.Core.Logic.{_⊎_, inl, inr, _≢_, ⊎-elim}
+use mathlib.Core.Logic.{_⊎_, inl, inr, ⊎-elim}
 use Prim.Native.Nat.{ℕ, zero, suc, _+_, _≤_, _<_}
 use native.Mathlib.Nat.{not-suc-le-zero, le-of-suc-le-suc}
 use native.Mathlib.Numerals.{add-one}
@@ -11,19 +11,19 @@ use native.Mathlib.Omega.{arith}
 use lib.Dec.{T}
 use lib.ListN.{getD}
 use Rattle.bounded.specs.Mask.{bit}
-use Rattle.bounded.proofs.Truth.{T-of, T-not, T-false, at-or-below, lt-dec}
+use Rattle.bounded.proofs.Truth.{T-of, T-not, T-false, at-or-below}
 use Rattle.problem.specs.Problem.{Problem, State, unsupported, snake, triangle, neighbourhood, snakeSubstitution, slideSpares}
-use Rattle.problem.specs.Reduce.{when, first, nextUnsupported, nextSnake, nextTriangle, nextNeighbourhood, nextSnakeSubstitution, nextOfKind, kindBound, next}
-use Rattle.problem.specs.Problem.{noneEmpty}
-use Rattle.problem.specs.Held.{held, RowTable}
+use Rattle.problem.specs.Reduce.{when, first, nextUnsupported, nextSnake, nextTriangle, nextNeighbourhood, nextSnakeSubstitution, nextOfKind}
+use Rattle.problem.specs.Held.{held}
 use Rattle.problem.specs.Masks.{stateOf}
 use Rattle.problem.specs.declared.Masks.{Masks}
 use Rattle.problem.specs.declared.Record.{Record}
 use Rattle.problem.specs.declared.Record.the-variants.{Unsupported, Snake, Triangle, Neighbourhood, SnakeSubstitution}
 use Rattle.problem.specs.declared.Next.{Next}
 use Rattle.problem.specs.declared.Next.the-variants.{Step, Nothing}
-use Rattle.problem.proofs.Reflect.{Active, Live, Fits, unsupported-iff, snake-iff, triangle-iff, neighbourhood-iff, snakeSubstitution-iff}
-use Rattle.problem.proofs.HeldTable.{held-few}
+use Rattle.problem.proofs.Reflect.{Active, Live, unsupported-iff, snake-iff, triangle-iff, neighbourhood-iff, snakeSubstitution-iff}
+use Rattle.problem.proofs.HeldTable.{held-few, held-narrow}
+use Rattle.problem.proofs.Run.{first-each}
 use Rattle.rules.specs.Ready.{Ready}
 use Rattle.reduce.specs.Search.{isStep, unsupportedValue, unsupportedVariable, snakeVariable, triangleVariable, neighbourhoodValue, neighbourhoodVariable, substitutionValue, substitutionVariable}
 
@@ -66,16 +66,6 @@ first-at : (n : ℕ) (f : ℕ → Next) (k : ℕ) (r : Record) → k < n → ((j
 first-at zero f k r l h e = absurd (not-suc-le-zero l)
 first-at (suc n) f zero r l h e = first-here n f r e
 first-at (suc n) f (suc k) r l h e = first-later n f (h zero (omega arith)) ∙ first-at n (λ k. f (suc k)) k r (le-of-suc-le-suc l) (λ j m. h (suc j) (omega arith)) e
-
--- where nothing is found there is nothing anywhere
-pub first-each : (n : ℕ) (f : ℕ → Next) → first n f ≡ Nothing → (k : ℕ) → k < n → f k ≡ Nothing
-first-each zero f e k l = absurd (not-suc-le-zero l)
-first-each (suc n) f e k l = go (f zero) refl k l (first-each n (λ k. f (suc k)))
-  where
-    go : (x : Next) → f zero ≡ x → (k : ℕ) → k < suc n → (first n (λ k. f (suc k)) ≡ Nothing → (k : ℕ) → k < n → f (suc k) ≡ Nothing) → f k ≡ Nothing
-    go (Step r) p k l ih = let q = first-here n f r p in let z : _≡_ {A = ℕ} 0 1 = cc in absurd (omega arith)
-    go Nothing p zero l ih = p
-    go Nothing p (suc k) l ih = ih (sym (first-later n f p) ∙ e) k (le-of-suc-le-suc l)
 
 -- ---- a loop that goes up from 0
 
@@ -138,10 +128,6 @@ module _ {t : List ℕ} {m : Masks} (R : Ready t m) where
   abbrev s : State
   s = stateOf m
 
-  narrow : (i : ℕ) → P .size i ≤ 16
-  unfolding held
-  narrow i = R .table .narrow i
-
   -- not within the bounds
   no-variable : (i : ℕ) → P .n ≤ i → Active s i → ⊥
   no-variable i l h = omega (arith, R .fits .active-lt i h)
@@ -178,7 +164,7 @@ module _ {t : List ℕ} {m : Masks} (R : Ready t m) where
   pub unsupported-first : first 32 (unsupportedVariable P s) ≡ nextUnsupported P s
   unfolding unsupportedVariable unsupportedValue nextUnsupported
   unsupported-first =
-      wide-three (λ i b k. when (unsupported P s i b k) (Unsupported i b k)) (P .n) (P .size) (λ i. P .n) 32 16 32 (held-few t) narrow (λ i. held-few t)
+      wide-three (λ i b k. when (unsupported P s i b k) (Unsupported i b k)) (P .n) (P .size) (λ i. P .n) 32 16 32 (held-few t) (held-narrow (R .table)) (λ i. held-few t)
       (λ i b k o. unsupported-none i b k (λ x y. ⊎-elim (λ l. no-value i b (inl l) x) (λ q. ⊎-elim (λ l. no-value i b (inr l) x) (λ l. no-variable k l y) q) o))
 
   -- ---- kind 2
@@ -192,7 +178,7 @@ module _ {t : List ℕ} {m : Masks} (R : Ready t m) where
 
   pub snake-first : first 32 (snakeVariable P s) ≡ nextSnake P s
   unfolding snakeVariable nextSnake
-  snake-first = wide-two (λ i v. when (snake P s i v) (Snake i v)) (P .n) (P .size) 32 16 (held-few t) narrow (λ i v o. snake-none i v (no-value i v o))
+  snake-first = wide-two (λ i v. when (snake P s i v) (Snake i v)) (P .n) (P .size) 32 16 (held-few t) (held-narrow (R .table)) (λ i v o. snake-none i v (no-value i v o))
 
   -- ---- kind 3
 
@@ -225,7 +211,7 @@ module _ {t : List ℕ} {m : Masks} (R : Ready t m) where
   pub neighbourhood-first : first 32 (neighbourhoodVariable P s) ≡ nextNeighbourhood P s
   unfolding neighbourhoodVariable neighbourhoodValue nextNeighbourhood
   neighbourhood-first =
-      wide-three (λ i b a. when (neighbourhood P s i b a) (Neighbourhood i b a)) (P .n) (P .size) (P .size) 32 16 16 (held-few t) narrow narrow
+      wide-three (λ i b a. when (neighbourhood P s i b a) (Neighbourhood i b a)) (P .n) (P .size) (P .size) 32 16 16 (held-few t) (held-narrow (R .table)) (held-narrow (R .table))
       (λ i b a o. neighbourhood-none i b a (λ x y. ⊎-elim (λ l. no-value i b (inl l) x) (λ q. ⊎-elim (λ l. no-value i b (inr l) x) (λ l. no-value i a (inr l) y) q) o))
 
   -- ---- kind 5
@@ -244,7 +230,7 @@ module _ {t : List ℕ} {m : Masks} (R : Ready t m) where
   pub substitution-first : first 32 (substitutionVariable P s) ≡ nextSnakeSubstitution P s
   unfolding substitutionVariable substitutionValue nextSnakeSubstitution
   substitution-first =
-      wide-three (λ i b a. when (snakeSubstitution P s slideSpares i b a) (SnakeSubstitution i b a)) (P .n) (P .size) (P .size) 32 16 16 (held-few t) narrow narrow
+      wide-three (λ i b a. when (snakeSubstitution P s slideSpares i b a) (SnakeSubstitution i b a)) (P .n) (P .size) (P .size) 32 16 16 (held-few t) (held-narrow (R .table)) (held-narrow (R .table))
       (λ i b a o. substitution-none i b a (λ x y. ⊎-elim (λ l. no-value i b (inl l) x) (λ q. ⊎-elim (λ l. no-value i b (inr l) x) (λ l. no-value i a (inr l) y) q) o))
 
 -- ---- the kinds in their order
@@ -253,11 +239,3 @@ module _ {t : List ℕ} {m : Masks} (R : Ready t m) where
 pub kinds-none : (P : Problem) (s : State) → first 1 (nextOfKind P s) ≡ Nothing
 unfolding first nextOfKind
 kinds-none P s = refl
-
-pub next-open : (P : Problem) (s : State) → noneEmpty P s ≡ true → next P s ≡ first kindBound (nextOfKind P s)
-unfolding next
-next-open P s e = rw (e, next)
-
-pub next-shut : (P : Problem) (s : State) → noneEmpty P s ≡ false → next P s ≡ Nothing
-unfolding next
-next-shut P s e = rw (e, next)

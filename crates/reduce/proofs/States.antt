@@ -1,81 +1,38 @@
 -- States of the problem that a table holds, as masks: what a step leads to, the first state, and the end. Assumes nothing.
 use mathlib.Core.Path.{_≡_, refl, sym, ap, _∙_, subst}
-use mathlib.Core.Bool.{Bool, true, false, not, _&&_, cond}
+use mathlib.Core.Bool.{Bool, true, false, not, _&&_}
 use mathlib.Core.List.{List}
-use mathlib.Core.Logic.{_⊎_, inl, inr, ⊎-elim}
-use Prim.Native.Nat.{ℕ, _+_, _-_, _^_, _≤_, _<_}
-use native.Mathlib.Nat.{lt-irrefl}
+use mathlib.Core.Logic.{_⊎_, inl, inr}
+use Prim.Native.Nat.{ℕ, _-_, _^_, _≤_, _<_}
 use native.Mathlib.Omega.{arith}
 use lib.Dec.{T, eqb, ltb}
-use lib.ListN.{getD}
 use lib.Pow.{pow-pos}
 use borrow.Author.Tests.{lt-ltb, le-ltb}
-use Rattle.bounded.specs.Bounded.{any, lowest}
+use Rattle.bounded.specs.Bounded.{any}
 use Rattle.bounded.specs.Mask.{bit, maskOf}
-use Rattle.bounded.proofs.Truth.{T-ext, T-of, T-not, T-false, T-true, lt-dec, not-iff, eqb-iff, ltb-iff, and-iff}
+use Rattle.bounded.proofs.Truth.{T-ext, T-not, lt-dec, not-iff, eqb-iff}
 use Rattle.bounded.proofs.Bounded.{any-iff}
 use Rattle.bounded.proofs.Mask.{bit-high, bit-none, full-bit, mask-is, zero-bits}
-use Rattle.problem.specs.Problem.{Problem, State, full, noneEmpty, slideSpares}
-use Rattle.problem.specs.Reduce.{holds, lawful, after, endOf}
-use Rattle.problem.specs.Held.{held, heldSize, heldVariables, RowTable, Bounded}
-use Rattle.problem.specs.Masks.{stateOf, masksOf, Proper}
+use Rattle.problem.specs.Problem.{Problem, full, slideSpares}
+use Rattle.problem.specs.Reduce.{holds, after}
+use Rattle.problem.specs.Held.{held, RowTable}
+use Rattle.problem.specs.Masks.{stateOf, masksOf}
 use Rattle.problem.specs.declared.Masks.{Masks}
 use Rattle.problem.specs.declared.Record.{Record}
 use Rattle.problem.specs.declared.Record.the-variants.{Unsupported, Snake, Triangle, Neighbourhood, SnakeSubstitution}
-use Rattle.problem.specs.declared.End.{End}
-use Rattle.problem.specs.declared.End.the-variants.{Impossible, Solved, Rest}
-use Rattle.problem.proofs.Reflect.{Active, Live, Fits, full-fits, unsupported-iff, snake-iff, triangle-iff, neighbourhood-iff, snakeSubstitution-iff}
+use Rattle.problem.proofs.Reflect.{Live, full-fits, unsupported-iff, snake-iff, triangle-iff, neighbourhood-iff, snakeSubstitution-iff}
 use Rattle.problem.proofs.Trace.{after-fits}
-use Rattle.problem.proofs.Bridge.{state-back, masks-proper}
-use Rattle.problem.proofs.HeldTable.{held-few}
-use Rattle.rules.specs.Ready.{Ready, Value}
+use Rattle.rules.specs.Ready.{Ready}
 use Rattle.rules.proofs.Laws.{live-value, active-32}
+use Rattle.rules.proofs.After.{state-held, ready-held}
 use Rattle.reduce.specs.Steps.{Within}
 
--- ---- the masks of a state that fits say the state
-
--- the largest problem that the masks have room for; it allows nothing
-widest : Problem
-widest = record { n = 32; size = λ i. cond (ltb i 32) 16 0; allowed = λ i a j b. false; symmetric = λ i a j b. refl }
-
-widest-bounded : Bounded widest
-unfolding widest
-widest-bounded =
-    record {
-      few = omega arith;
-      some = λ i l. rw (lt-ltb i 32 l) (omega arith);
-      narrow = λ i. ⊎-elim (λ l. rw (lt-ltb i 32 l) (omega arith)) (λ l. rw (le-ltb i 32 l) (omega arith)) (lt-dec i 32);
-      none = λ i l. rw (le-ltb i 32 l);
-      listed = λ i a j b h. absurd h;
-    }
-
 module _ {t : List ℕ} (R : RowTable t) where
-  pub held-narrow : (i : ℕ) → (held t) .size i ≤ 16
-  unfolding held
-  held-narrow i = R .narrow i
-
-  pub state-held : {s : State} → Fits (held t) s → stateOf (masksOf s) ≡ s
-  unfolding widest
-  state-held {s} F =
-      state-back widest widest-bounded
-      record {
-        active-lt = λ i h. small i h;
-        live-active = F .live-active;
-        live-lt = sized;
-      }
-    where
-      small : (i : ℕ) → Active s i → i < 32
-      small i h = omega (arith, F .active-lt i h, held-few t)
-
-      sized : (i a : ℕ) → Live s i a → a < widest .size i
-      sized i a h = rw (lt-ltb i 32 (small i (F .live-active i a h))) (omega (arith, F .live-lt i a h, held-narrow i))
-
-  -- so every state that fits is one that the rule tests may read
-  pub ready-of : {s : State} → Fits (held t) s → Ready t (masksOf s)
-  ready-of {s} F = record { table = R; proper = masks-proper s; fits = subst (Fits (held t)) (sym (state-held F)) F }
-
   pub full-ready : Ready t (masksOf (full (held t)))
-  full-ready = ready-of (full-fits (held t))
+  full-ready = ready-held R (full-fits (held t))
+
+  pub full-says : stateOf (masksOf (full (held t))) ≡ full (held t)
+  full-says = state-held R (full-fits (held t))
 
 -- ---- one step
 
@@ -84,7 +41,7 @@ module _ {t : List ℕ} {m : Masks} (R : Ready t m) where
   after-state r = state-held (R .table) (after-fits (held t) (R .fits) r)
 
   pub after-ready : (r : Record) → Ready t (masksOf (after (held t) (stateOf m) r))
-  after-ready r = ready-of (R .table) (after-fits (held t) (R .fits) r)
+  after-ready r = ready-held (R .table) (after-fits (held t) (R .fits) r)
 
   live-within : (i a : ℕ) → Live (stateOf m) i a → (i < 32) × (a < 16)
   live-within i a h = let v = live-value R i a h in (v .variable, v .value)
@@ -119,18 +76,6 @@ module _ {t : List ℕ} {m : Masks} (R : Ready t m) where
           go true k = tt
           go false k = absurd k
 
-pub end-impossible : (P : Problem) (s : State) → noneEmpty P s ≡ false → endOf P s ≡ Impossible
-unfolding endOf
-end-impossible P s e = rw (e, endOf)
-
-pub end-rest : (P : Problem) (s : State) → noneEmpty P s ≡ true → any (P .n) (s .active) ≡ true → endOf P s ≡ Rest
-unfolding endOf
-end-rest P s e f = rw (e, f, endOf)
-
-pub end-solved : (P : Problem) (s : State) → noneEmpty P s ≡ true → any (P .n) (s .active) ≡ false → endOf P s ≡ Solved
-unfolding endOf
-end-solved P s e f = rw (e, f, endOf)
-
 -- ---- the first state
 
 -- the set of the numbers below z
@@ -153,12 +98,3 @@ full-outside P i l = mask-is 16 0 (full P .live i) (omega arith) (λ c k. bit-no
 pub full-active : (P : Problem) → maskOf 32 (λ c. ltb c (P .n)) ≡ maskOf 32 (full P .active)
 unfolding full
 full-active P = refl
-
--- what a table says of a size
-pub size-entry : (t : List ℕ) (i : ℕ) → i < 32 → (held t) .size i ≡ getD t i 0
-unfolding held heldSize
-size-entry t i l = rw (lt-ltb i 32 l)
-
-pub variables-are : (t : List ℕ) → (held t) .n ≡ lowest 32 (λ i. eqb ((held t) .size i) 0)
-unfolding held heldVariables
-variables-are t = refl

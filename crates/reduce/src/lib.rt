@@ -2,7 +2,7 @@
 // lent buffer. Variables are document 01's items, values its settings.
 ghost use mathlib.Core.Path.{_≡_};
 ghost use mathlib.Core.List.{[]};
-ghost use Prim.Native.Nat.{_≤_, _<_, _^_, _+_, _*_};
+ghost use Prim.Native.Nat.{_≤_, _<_, _+_, _*_};
 ghost use lib.ListN.{length, set};
 ghost use lib.Dec.{ltb};
 ghost use Rattle.bounded.specs.Mask.{maskOf};
@@ -322,20 +322,12 @@ pub fn apply(t: &[u16], m: Masks, r: Record) -> Masks
 
 // ---- the first state
 
-// 2 to the power z.
-fn power(z: usize) -> usize
-    requires { ⌜ z ≤ 32 ⌝ }
-    ensures { λ r. ⌜ r ≡ 2 ^ z ⌝ }
-{
-    1 << z
-}
-
 // The set of the variables below z.
 fn variables_below(z: usize) -> u32
     requires { ⌜ z ≤ 32 ⌝ }
     ensures { λ r. ⌜ r ≡ maskOf 32 (λ c. ltb c z) ⌝ }
 {
-    (power(z) - 1) as u32
+    (bounded::power(z) - 1) as u32
 }
 
 // The set of the values below z.
@@ -343,11 +335,11 @@ fn values_below(z: usize) -> u16
     requires { ⌜ z ≤ 16 ⌝ }
     ensures { λ r. ⌜ r ≡ maskOf 16 (λ c. ltb c z) ⌝ }
 {
-    (power(z) - 1) as u16
+    (bounded::power(z) - 1) as u16
 }
 
 // How many variables the table holds: a size of 0 ends them.
-fn variables(t: &[u16]) -> usize
+pub fn variables(t: &[u16]) -> usize
     requires { ⌜ RowTable (now t) ⌝ }
     ensures { λ r. ⌜ r ≡ (held (now (t .entry))) .n ⌝ }
 {

@@ -1,15 +1,15 @@
 -- Counts over a problem's own bounds are counts over 32 and 16: nothing is beyond. Assumes nothing.
 use mathlib.Core.Path.{_≡_, refl, sym, ap, _∙_}
-use mathlib.Core.Bool.{Bool, true, false}
-use mathlib.Core.Logic.{_⊎_, inl, inr, ⊎-elim}
-use Prim.Native.Nat.{ℕ, zero, suc, _+_, _*_, _≤_, _<_}
+use mathlib.Core.Bool.{Bool}
+use mathlib.Core.Logic.{_⊎_, ⊎-elim}
+use Prim.Native.Nat.{ℕ, zero, suc, _+_, _≤_, _<_}
 use native.Mathlib.Omega.{arith}
 use lib.Dec.{T}
 use Rattle.bounded.specs.Bounded.{one, sumTo, count}
 use Rattle.bounded.proofs.Truth.{T-false, lt-dec}
-use Rattle.bounded.proofs.Bounded.{sum-ext, count-le, count-all}
+use Rattle.bounded.proofs.Bounded.{sum-ext}
 use Rattle.bounded.proofs.Loops.{sum-more}
-use Rattle.problem.specs.Problem.{Problem, State, liveCount, sizeSum}
+use Rattle.problem.specs.Problem.{Problem, State, liveCount}
 use Rattle.problem.specs.Held.{Bounded}
 use Rattle.problem.specs.Masks.{stateOf, masksOf}
 use Rattle.problem.proofs.Reflect.{Fits}
@@ -24,15 +24,6 @@ count-none f = refl
 pub count-more : (f : ℕ → Bool) (n : ℕ) → count (n + 1) f ≡ count n f + one (f n)
 unfolding count
 count-more f n = sum-more (λ k. one (f k)) n
-
-pub count-most : (n : ℕ) (f : ℕ → Bool) → count n f ≤ n
-count-most n f = omega (arith, count-le n f (λ k. true) (λ k l t. tt), count-all n (λ k. true) (λ k l. tt))
-
--- a sum of numbers of at most 16
-pub sum-most : (n : ℕ) (f : ℕ → ℕ) → ((k : ℕ) → f k ≤ 16) → sumTo n f ≤ 16 * n
-unfolding sumTo
-sum-most zero f h = omega arith
-sum-most (suc n) f h = omega (arith, sum-most n f h, h n)
 
 -- ---- a loop over a sum: one turn, and its end
 
@@ -62,10 +53,6 @@ count-beyond n k f l h = sum-beyond n k (λ i. one (f i)) l (λ i m. ap one (T-f
 -- ---- a state that fits
 
 module _ (P : Problem) (B : Bounded P) where
-  pub sizes-most : sizeSum P ≤ 512
-  unfolding sizeSum
-  sizes-most = omega (arith, sum-most (P .n) (P .size) (B .narrow), B .few)
-
   module _ {s : State} (F : Fits P s) where
     pub active-counted : count 32 ((stateOf (masksOf s)) .active) ≡ count (P .n) (s .active)
     active-counted = ap (λ (x : State). count 32 (x .active)) (state-back P B F) ∙ count-beyond (P .n) 32 (s .active) (B .few) (F .active-lt)

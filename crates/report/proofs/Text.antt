@@ -1,21 +1,20 @@
 -- The text from the run's answer: what an answer of the run says of the sheet, and the lines of its numbers. Assumes nothing.
 use mathlib.Core.Path.{_≡_, refl, sym, ap, _∙_}
-use mathlib.Core.Bool.{Bool, true, false}
 use mathlib.Core.List.{List, [], _∷_, _++_}
-use Prim.Native.Nat.{ℕ, _+_, _*_, _≤_, _<_}
+use Prim.Native.Nat.{ℕ, _+_, _≤_, _<_}
 use native.Mathlib.Nat.{zero-add}
 use native.Mathlib.Omega.{arith}
-use lib.Dec.{ltb}
-use lib.ListN.{length, drop}
+use lib.ListN.{length}
 use borrow.Author.Tests.{lt-ltb, le-ltb}
 use Rattle.bounded.specs.Bounded.{count, sumTo}
 use Rattle.problem.specs.Problem.{Problem, State, full, sizeSum, liveCount}
 use Rattle.problem.specs.Reduce.{run, afterTrace, endOf}
 use Rattle.problem.specs.Held.{Bounded}
-use Rattle.problem.specs.Masks.{stateOf, masksOf}
+use Rattle.problem.specs.Masks.{stateOf}
 use Rattle.problem.specs.declared.End.{End}
 use Rattle.problem.specs.declared.Masks.{Masks}
 use Rattle.problem.proofs.Reflect.{full-fits}
+use Rattle.problem.proofs.Count.{sizes-most}
 use Rattle.problem.proofs.Trace.{trace-fits}
 use Rattle.problem.proofs.Run.{run-short}
 use Rattle.sheet.specs.Sheet.{layout, readSheet, sheetNumber, Keeps}
@@ -26,10 +25,10 @@ use Rattle.sheet.proofs.Accepted.{keeps, problem-bounded}
 use Rattle.jobs.specs.Numbers.{reduceNumber}
 use Rattle.jobs.specs.Trace.{traceBytes, fronted}
 use Rattle.jobs.specs.Run.{RunResult, runDone, runJob}
-use Rattle.jobs.specs.Print.{field, sheetWord, endWord, firstLine, stepLines, lastLine, refusedLine, runLines, sheetLines}
+use Rattle.jobs.specs.Print.{field, sheetWord, endWord, stepLines, refusedLine, runLines, sheetLines}
 use Rattle.jobs.specs.declared.Reduced.{Reduced}
 use Rattle.jobs.specs.declared.ReduceRefusal.{ReduceRefusal}
-use Rattle.jobs.specs.declared.ReduceRefusal.the-variants.{Sheet, Buffer}
+use Rattle.jobs.specs.declared.ReduceRefusal.the-variants.{Sheet}
 use Rattle.jobs.specs.declared.ReduceOutcome.the-variants.{Done, Refused}
 use Rattle.jobs.proofs.Worked.{run-sheet-refused, run-accepted}
 use Rattle.trace.specs.Written.{written}
@@ -37,7 +36,7 @@ use Rattle.trace.proofs.Written.{written-front}
 use Rattle.text.proofs.Laws.{Puts, after}
 use Rattle.report.specs.Records.{recordsIn}
 use Rattle.report.specs.Report.{reportRoom, reportText, Ran}
-use Rattle.report.proofs.Counting.{sizes-most, active-counted, values-counted}
+use Rattle.report.proofs.Counting.{active-counted, values-counted}
 use Rattle.report.proofs.Records.{trace-read}
 
 -- ---- a run's lines from its numbers

@@ -31,7 +31,7 @@ fn row(t: &[u16], i: usize, j: usize, a: usize) -> u16
 }
 
 // Value a of i is allowed with value b of j. No two values of one variable are, whatever the row between them says.
-fn pair_allowed(t: &[u16], i: usize, a: usize, j: usize, b: usize) -> bool
+pub fn pair_allowed(t: &[u16], i: usize, a: usize, j: usize, b: usize) -> bool
     requires { ⌜ RowTable (now t) × Value (now t) i a × Value (now t) j b ⌝ }
     ensures { λ r. ⌜ r ≡ (held (now (t .entry))) .allowed i a j b ⌝ }
 {

@@ -1,6 +1,6 @@
 // The sheet: reading it with its refusals, what it allows, and one table of rows filled from it.
 ghost use mathlib.Core.Path.{_≡_};
-ghost use mathlib.Core.Bool.{true, cond, _&&_};
+ghost use mathlib.Core.Bool.{true, _&&_};
 ghost use Prim.Native.Nat.{_+_, _*_, _%_, _^_, _<_, _≤_};
 ghost use lib.Dec.{eqb};
 ghost use lib.ListN.{length};
@@ -91,14 +91,6 @@ fn four(s: &[u8], k: usize) -> usize
     two(s, k) * 65536 + two(s, k + 2)
 }
 
-// 2 to the power z.
-fn power(z: usize) -> usize
-    requires { ⌜ z ≤ 16 ⌝ }
-    ensures { λ r. ⌜ Is (2 ^ z) 65537 r ⌝ }
-{
-    1 << z
-}
-
 // ---- what a later layout changes
 
 // Whether a version is taken.
@@ -146,7 +138,7 @@ fn some_beyond(s: &[u8], w: usize, z: usize, k: usize, p: usize) -> bool
     requires { ⌜ Inside (length (now s)) w z k p ⌝ }
     ensures { λ r. ⌜ r ≡ beyond layout (now (s .entry)) w z k p ⌝ }
 {
-    let lim = power(z);
+    let lim = bounded::power(z);
     let mut left = k;
     let mut at = p;
     while 0 < left {
@@ -164,7 +156,7 @@ fn allows_all(s: &[u8], w: usize, z: usize, k: usize, p: usize) -> bool
     requires { ⌜ Inside (length (now s)) w z k p ⌝ }
     ensures { λ r. ⌜ r ≡ allowsAll layout (now (s .entry)) w z k p ⌝ }
 {
-    let lim = power(z);
+    let lim = bounded::power(z);
     let mut left = k;
     let mut at = p;
     while 0 < left {
@@ -431,14 +423,6 @@ pub fn size_sum(s: &[u8]) -> usize
 
 // ---- the table
 
-// 2^b where t holds, else 0.
-fn weight(t: bool, b: usize) -> usize
-    requires { ⌜ b ≤ 16 ⌝ }
-    ensures { λ r. ⌜ r ≡ cond t (2 ^ b) 0 ⌝ }
-{
-    if t { power(b) } else { 0 }
-}
-
 // The row of a of i towards the lower item j, whose rows start at r: bit b is bit a of j's row b, for each of z settings of j.
 fn turned(s: &[u8], i: usize, a: usize, j: usize, r: usize, z: usize) -> usize
     requires { ⌜ Keeps layout (now s) × ((a < 16) × ((rowsOf layout (now s) j i ≡ At r) × (z ≡ sizeAt (now s) j))) ⌝ }
@@ -447,7 +431,7 @@ fn turned(s: &[u8], i: usize, a: usize, j: usize, r: usize, z: usize) -> usize
     let mut x: usize = 0;
     let mut b: usize = 0;
     while b < z {
-        x += weight(bounded::has16(row_in(s, j, i, r, b), a), b);
+        x += bounded::weight(bounded::has16(row_in(s, j, i, r, b), a), b) as usize;
         b += 1;
     }
     x
@@ -460,7 +444,7 @@ fn row_from(s: &[u8], rows: Rows, i: usize, a: usize, j: usize) -> u16
 {
     let z = byte(s, 8 + j);
     match rows {
-        Rows::Unconstrained => (power(z) - 1) as u16,
+        Rows::Unconstrained => (bounded::power(z) - 1) as u16,
         Rows::At(r) => {
             if i < j {
                 row_in(s, i, j, r, a)

@@ -7,7 +7,8 @@ use Rattle.bounded.proofs.Loops.{lowest-none, lowest-more, lowest-hit, lowest-e
 use Rattle.problem.specs.Problem.{triangleServes}
 use Rattle.problem.specs.Held.{held}
 use Rattle.problem.specs.Masks.{stateOf}
-use Rattle.extend.proofs.First.{size-here, lowest-here}
+use Rattle.problem.proofs.HeldTable.{held-entry, held-narrow}
+use Rattle.extend.proofs.First.{lowest-here}
 use borrow.Author.Needs.{needs}
 use native.Mathlib.Omega.{arith}
 use Rattle.extend.proofs.lowest_triangle.Statement.{statement}
@@ -32,13 +33,13 @@ loop-holds : tie.Need-loop-holds Inv-loop μ-loop
 loop-holds c = (omega arith, lowest-none _)
 
 serves-triangle-requires : tie.Need-serves-triangle-requires Inv-loop μ-loop
-serves-triangle-requires c κs = let a = c .before .before .before .before .args in let z = size-here (a .t .now) (a .i) (c .before .before .before .before .pre .1 .1) in let n = c .before .before .before .before .pre .0 .table .narrow (a .i) in let p = c .before .before .before .before .pre in (p .0, (p .1 .0, (p .1 .1, omega arith)))
+serves-triangle-requires c κs = let a = c .before .before .before .before .args in let z = held-entry (a .t .now) (a .i) (c .before .before .before .before .pre .1 .1) in let n = held-narrow (c .before .before .before .before .pre .0 .table) (a .i) in let p = c .before .before .before .before .pre in (p .0, (p .1 .0, (p .1 .1, omega arith)))
 
 returns : tie.Need-returns Inv-loop μ-loop
-returns c = let a = c .before .before .before .before .before .before .args in let z = size-here (a .t .now) (a .i) (c .before .before .before .before .before .before .pre .1 .1) in let n = c .before .before .before .before .before .before .pre .0 .table .narrow (a .i) in let l = c .before .before .before .loop in record { is = sym (lowest-here _ _ _ _ (c .before .before .before .before .before .before .pre .1 .1) ∙ lowest-hit _ _ (l .u) (c .before .before .loop-test .taken) (l .inv .1) (sym (c .before .serves-triangle .ensures) ∙ c .if1 .taken)); below = omega arith }
+returns c = let a = c .before .before .before .before .before .before .args in let z = held-entry (a .t .now) (a .i) (c .before .before .before .before .before .before .pre .1 .1) in let n = held-narrow (c .before .before .before .before .before .before .pre .0 .table) (a .i) in let l = c .before .before .before .loop in record { is = sym (lowest-here _ _ _ _ (c .before .before .before .before .before .before .pre .1 .1) ∙ lowest-hit _ _ (l .u) (c .before .before .loop-test .taken) (l .inv .1) (sym (c .before .serves-triangle .ensures) ∙ c .if1 .taken)); below = omega arith }
 
 add-u : tie.Need-add-u Inv-loop μ-loop
-add-u c = let a = c .before .before .before .before .before .before .args in let z = size-here (a .t .now) (a .i) (c .before .before .before .before .before .before .pre .1 .1) in let n = c .before .before .before .before .before .before .pre .0 .table .narrow (a .i) in omega arith
+add-u c = let a = c .before .before .before .before .before .before .args in let z = held-entry (a .t .now) (a .i) (c .before .before .before .before .before .before .pre .1 .1) in let n = held-narrow (c .before .before .before .before .before .before .pre .0 .table) (a .i) in omega arith
 
 loop-less : tie.Need-loop-less Inv-loop μ-loop
 loop-less c = search needs
@@ -47,7 +48,7 @@ loop-again : tie.Need-loop-again Inv-loop μ-loop
 loop-again c = (omega arith, lowest-more _ _ (c .before .before .before .loop .inv .1) (sym (c .before .serves-triangle .ensures) ∙ c .if1 .left))
 
 returns-2 : tie.Need-returns-2 Inv-loop μ-loop
-returns-2 c = let a = c .before .before .before .before .args in let z = size-here (a .t .now) (a .i) (c .before .before .before .before .pre .1 .1) in let n = c .before .before .before .before .pre .0 .table .narrow (a .i) in let l = c .before .loop in record { is = sym (lowest-here _ _ _ _ (c .before .before .before .before .pre .1 .1) ∙ lowest-end _ _ (l .u) (omega arith) (omega arith) (l .inv .1)); below = omega arith }
+returns-2 c = let a = c .before .before .before .before .args in let z = held-entry (a .t .now) (a .i) (c .before .before .before .before .pre .1 .1) in let n = held-narrow (c .before .before .before .before .pre .0 .table) (a .i) in let l = c .before .loop in record { is = sym (lowest-here _ _ _ _ (c .before .before .before .before .pre .1 .1) ∙ lowest-end _ _ (l .u) (omega arith) (omega arith) (l .inv .1)); below = omega arith }
 
 pub lowest-triangle-spec : {M : Type 1} → statement M
 lowest-triangle-spec =

@@ -6,7 +6,7 @@ use Rattle.extend.proofs.mended_other.Statement.{statement}
 use Rattle.extend.proofs.mended_other.Tie as tie
 
 pair-allowed-requires : tie.Need-pair-allowed-requires
-pair-allowed-requires c κs = let p = c .before .pre in (p .0 .table, (p .1 .0, p .1 .1 .0))
+pair-allowed-requires c κs = let p = c .before .pre in (p .0 .table, p .1 .0, p .1 .1 .0)
 
 lowest-snake-requires : tie.Need-lowest-snake-requires
 lowest-snake-requires c κs = let p = c .before .before .before .pre in (p .0, (p .1 .0, p .1 .1 .0))

@@ -29,7 +29,7 @@ cast-pair-allowed-2 c = omega (arith, c .shared-slice-known4 .given (c .before .
 
 pair-allowed-requires : tie.Need-pair-allowed-requires
 unfolding stateOf
-pair-allowed-requires c κs = let a = c .before .before .before .before .before .before .before .args in let p = c .before .before .before .before .before .before .before .pre in let g = guard (c .before .before .before .before .has32 .result) (c .before .before .before .has322 .result) (a .i) (a .j) (c .before .before .if1 .taken) in (p .0 .table, (live-value (p .0) (a .i) _ (entry-iff _ (a .i) _ .0 (p .1 .0 .each (a .i) (p .1 .1 .0)) .0 (T-of (sym (c .before .before .before .before .has32 .ensures) ∙ g .0))), live-value (p .0) (a .j) _ (entry-iff _ (a .j) _ .0 (p .1 .0 .each (a .j) (p .1 .1 .1)) .0 (T-of (sym (c .before .before .before .has322 .ensures) ∙ g .1)))))
+pair-allowed-requires c κs = let a = c .before .before .before .before .before .before .before .args in let p = c .before .before .before .before .before .before .before .pre in let g = guard (c .before .before .before .before .has32 .result) (c .before .before .before .has322 .result) (a .i) (a .j) (c .before .before .if1 .taken) in (p .0 .table, live-value (p .0) (a .i) _ (entry-iff _ (a .i) _ .0 (p .1 .0 .each (a .i) (p .1 .1 .0)) .0 (T-of (sym (c .before .before .before .before .has32 .ensures) ∙ g .0))), live-value (p .0) (a .j) _ (entry-iff _ (a .j) _ .0 (p .1 .0 .each (a .j) (p .1 .1 .1)) .0 (T-of (sym (c .before .before .before .has322 .ensures) ∙ g .1))))
 
 returns : tie.Need-returns
 unfolding stateOf

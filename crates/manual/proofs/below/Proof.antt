@@ -14,7 +14,7 @@ returns : tie.Need-returns
 returns c =
     let a = c .before .args in
     let l : a .x < 2 ^ 16 = search needs in
-    ap (λ (y : ℕ). ltb (a .x) y) (c .power .ensures .is) ∙ below-word (a .x) (a .z) l (c .before .pre)
+    ap (λ (y : ℕ). ltb (a .x) y) (c .power .ensures) ∙ below-word (a .x) (a .z) l (c .before .pre)
 
 pub below-spec : {M : Type 1} → statement M
 below-spec = tie.close (tie.spec power-requires returns)

@@ -1,10 +1,10 @@
 -- `manual::domain_left`: the bits so far are the set so far. Assumes nothing.
-use mathlib.Core.Path.{_≡_, sym, ap, _∙_}
-use mathlib.Core.Bool.{Bool, cond}
+use mathlib.Core.Path.{_≡_, _∙_}
+use mathlib.Core.Bool.{Bool}
 use Prim.Native.Nat.{ℕ, _+_, _-_, _^_, _≤_, _<_}
 use lib.Pow.{pow-mono}
 use Rattle.bounded.specs.Mask.{maskOf}
-use Rattle.bounded.proofs.Mask.{mask-none, mask-more, mask-lt}
+use Rattle.bounded.proofs.Mask.{mask-none, mask-next, mask-lt}
 use Rattle.problem.specs.Manual.{prune}
 use Rattle.problem.specs.Held.{held}
 use Rattle.problem.specs.Masks.{stateOf}
@@ -19,10 +19,6 @@ Inv-loop t m i x₀ a₀ x a = (a ≤ 16) × (x ≡ maskOf a (prune (held t) (st
 
 abbrev μ-loop : tie.MeasureT-loop
 μ-loop t m i x₀ a₀ x a = 16 - a
-
--- one bit more
-next : (f : ℕ → Bool) (x a w : ℕ) (b : Bool) → x ≡ maskOf a f → w ≡ cond b (2 ^ a) 0 → b ≡ f a → x + w ≡ maskOf (a + 1) f
-next f x a w b e h g = ap (λ (y : ℕ). y + w) e ∙ ap (λ (y : ℕ). maskOf a f + y) (h ∙ ap (λ (t : Bool). cond t (2 ^ a) 0) g) ∙ sym (mask-more a f)
 
 small : (f : ℕ → Bool) (x a : ℕ) → a < 16 → x ≡ maskOf (a + 1) f → x < 2 ^ 16
 small f x a l e =
@@ -41,7 +37,7 @@ weight-requires c κs = search needs
 add-x : tie.Need-add-x Inv-loop μ-loop
 add-x c =
     let w = c .before .before .before .loop in
-    let e = next _ _ (w .a) _ _ (w .inv .1) (c .weight .ensures) (c .before .stays .ensures) in
+    let e = mask-next _ _ (w .a) _ _ (w .inv .1) (c .weight .ensures) (c .before .stays .ensures) in
     let q = small _ _ (w .a) (omega arith) e in
     search needs
 
@@ -54,7 +50,7 @@ loop-less c = search needs
 loop-again : tie.Need-loop-again Inv-loop μ-loop
 loop-again c =
     let w = c .before .before .before .loop in
-    (omega arith, next _ _ (w .a) _ _ (w .inv .1) (c .weight .ensures) (c .before .stays .ensures))
+    (omega arith, mask-next _ _ (w .a) _ _ (w .inv .1) (c .weight .ensures) (c .before .stays .ensures))
 
 returns : tie.Need-returns Inv-loop μ-loop
 unfolding domainLeft

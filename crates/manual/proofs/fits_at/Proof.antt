@@ -10,7 +10,8 @@ use lib.ListN.{getD}
 use Rattle.bounded.specs.Bounded.{imp, all}
 use Rattle.bounded.specs.Mask.{bit}
 use Rattle.problem.specs.Held.{held}
-use Rattle.manual.proofs.Laws.{size-narrow, fits-active, fits-idle}
+use Rattle.problem.proofs.HeldTable.{held-narrow}
+use Rattle.manual.proofs.Laws.{fits-active, fits-idle}
 use borrow.Author.Needs.{needs}
 use native.Mathlib.Omega.{arith}
 use Rattle.manual.proofs.fits_at.Statement.{statement}
@@ -29,7 +30,7 @@ size-requires : tie.Need-size-requires
 size-requires c κs = search needs
 
 below-requires : tie.Need-below-requires
-below-requires c κs = omega (arith, c .size .ensures, size-narrow (c .before .before .before .before .before .pre .0) (c .before .before .before .before .before .args .i))
+below-requires c κs = omega (arith, c .size .ensures, held-narrow (c .before .before .before .before .before .pre .0) (c .before .before .before .before .before .args .i))
 
 returns : tie.Need-returns
 returns c =

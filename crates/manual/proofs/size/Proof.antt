@@ -1,5 +1,6 @@
 -- `manual::size`. Assumes nothing.
-use Rattle.manual.proofs.Laws.{size-entry}
+use mathlib.Core.Path.{sym}
+use Rattle.problem.proofs.HeldTable.{held-entry}
 use borrow.Author.Needs.{needs}
 use native.Mathlib.Omega.{arith}
 use Rattle.manual.proofs.size.Statement.{statement}
@@ -15,7 +16,7 @@ cast-result : tie.Need-cast-result
 cast-result c = omega (arith, c .shared-slice-known .given (c .before .args .i))
 
 returns : tie.Need-returns
-returns c = size-entry _ _ (c .before .pre .1)
+returns c = sym (held-entry _ _ (c .before .pre .1))
 
 pub size-spec : {M : Type 1} → statement M
 size-spec = tie.close (tie.spec mul-result shared-slice-read-result cast-result returns)

@@ -1,8 +1,9 @@
 -- `reduce::end_of`. Assumes nothing.
-use mathlib.Core.Path.{_≡_, sym, ap, _∙_}
+use mathlib.Core.Path.{sym, ap, _∙_}
 use mathlib.Core.Bool.{not}
 use borrow.Author.Tests.{not-true, not-false, eq-eqb, ne-eqb}
-use Rattle.reduce.proofs.States.{some-active, end-impossible, end-rest, end-solved}
+use Rattle.problem.proofs.Run.{end-impossible, end-rest, end-solved}
+use Rattle.reduce.proofs.States.{some-active}
 use borrow.Author.Needs.{needs}
 use Rattle.reduce.proofs.end_of.Statement.{statement}
 use Rattle.reduce.proofs.end_of.Tie as tie

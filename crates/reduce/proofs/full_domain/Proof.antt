@@ -1,11 +1,11 @@
 -- `reduce::full_domain`. Assumes nothing.
-use Prim.Native.Nat.{ℕ, _≤_, _<_}
-use mathlib.Core.Path.{_≡_, sym, ap, _∙_}
+use Prim.Native.Nat.{ℕ}
+use mathlib.Core.Path.{sym, ap, _∙_}
 use native.Mathlib.Omega.{arith}
 use lib.Dec.{ltb}
 use Rattle.bounded.specs.Mask.{maskOf}
-use Rattle.problem.specs.Held.{held}
-use Rattle.reduce.proofs.States.{held-narrow, full-domain, full-outside, size-entry}
+use Rattle.problem.proofs.HeldTable.{held-narrow, held-entry}
+use Rattle.reduce.proofs.States.{full-domain, full-outside}
 use borrow.Author.Needs.{needs}
 use Rattle.reduce.proofs.full_domain.Statement.{statement}
 use Rattle.reduce.proofs.full_domain.Tie as tie
@@ -17,16 +17,16 @@ shared-slice-read-values-below : tie.Need-shared-slice-read-values-below
 shared-slice-read-values-below c = omega (arith, c .before .before .before .pre .0 .long)
 
 cast-values-below : tie.Need-cast-values-below
-cast-values-below c = let q = c .before .before .before .pre in let a = c .before .before .before .args in omega (arith, held-narrow (q .0) (a .i), size-entry (a .t .now) (a .i) (q .2))
+cast-values-below c = let q = c .before .before .before .pre in let a = c .before .before .before .args in omega (arith, held-narrow (q .0) (a .i), held-entry (a .t .now) (a .i) (q .2))
 
 values-below-requires : tie.Need-values-below-requires
-values-below-requires c κs = let q = c .before .before .before .pre in let a = c .before .before .before .args in omega (arith, held-narrow (q .0) (a .i), size-entry (a .t .now) (a .i) (q .2))
+values-below-requires c κs = let q = c .before .before .before .pre in let a = c .before .before .before .args in omega (arith, held-narrow (q .0) (a .i), held-entry (a .t .now) (a .i) (q .2))
 
 returns : tie.Need-returns
 returns c =
     let q = c .before .before .before .before .pre in
     let i = c .before .before .before .before .args .i in
-    c .values-below .ensures ∙ ap (λ (z : ℕ). maskOf 16 (λ a. ltb a z)) (sym (size-entry _ i (q .2))) ∙ full-domain _ i (omega (arith, q .1, c .before .before .if1 .taken))
+    c .values-below .ensures ∙ ap (λ (z : ℕ). maskOf 16 (λ a. ltb a z)) (sym (held-entry _ i (q .2))) ∙ full-domain _ i (omega (arith, q .1, c .before .before .if1 .taken))
 
 returns-2 : tie.Need-returns-2
 returns-2 c = let q = c .before .before .pre in full-outside _ (c .before .before .args .i) (omega (arith, q .1, c .if1 .left))

@@ -8,7 +8,8 @@ use Rattle.problem.specs.Reduce.{first, nextOfKind}
 use Rattle.problem.specs.Held.{held}
 use Rattle.problem.specs.Masks.{stateOf}
 use Rattle.problem.specs.declared.Next.the-variants.{Nothing}
-use Rattle.reduce.proofs.Search.{nothing-is, first-more, first-hit, first-end, kinds-none, next-open, next-shut}
+use Rattle.problem.proofs.Run.{next-open, next-shut}
+use Rattle.reduce.proofs.Search.{nothing-is, first-more, first-hit, first-end, kinds-none}
 use Rattle.reduce.proofs.next_step.Statement.{statement}
 use Rattle.reduce.proofs.next_step.Tie as tie
 

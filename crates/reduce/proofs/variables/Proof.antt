@@ -1,5 +1,5 @@
 -- `reduce::variables`: a search for the first size that is 0. Assumes nothing.
-use Prim.Native.Nat.{ℕ, _≤_, _-_}
+use Prim.Native.Nat.{_≤_, _-_}
 use mathlib.Core.Path.{_≡_, sym, _∙_}
 use native.Mathlib.Omega.{arith}
 use lib.Dec.{eqb}
@@ -7,7 +7,7 @@ use borrow.Author.Tests.{eq-eqb, ne-eqb}
 use Rattle.bounded.specs.Bounded.{lowest}
 use Rattle.bounded.proofs.Loops.{lowest-none, lowest-more, lowest-hit, lowest-end}
 use Rattle.problem.specs.Held.{held}
-use Rattle.reduce.proofs.States.{size-entry, variables-are}
+use Rattle.problem.proofs.HeldTable.{held-entry, held-lowest}
 use borrow.Author.Needs.{needs}
 use Rattle.reduce.proofs.variables.Statement.{statement}
 use Rattle.reduce.proofs.variables.Tie as tie
@@ -30,7 +30,7 @@ shared-slice-read-if1 c = omega (arith, c .before .before .before .pre .long)
 returns : tie.Need-returns Inv-loop μ-loop
 returns c =
     let l = c .before .before .loop-test .taken in
-    sym (variables-are _ ∙ lowest-hit _ 32 _ l (c .before .before .before .loop .inv .1) (eq-eqb _ 0 (size-entry _ _ l ∙ c .if1 .taken)))
+    sym (held-lowest _ ∙ lowest-hit _ 32 _ l (c .before .before .before .loop .inv .1) (eq-eqb _ 0 (held-entry _ _ l ∙ c .if1 .taken)))
 
 add-i : tie.Need-add-i Inv-loop μ-loop
 add-i c = search needs
@@ -41,10 +41,10 @@ loop-less c = search needs
 loop-again : tie.Need-loop-again Inv-loop μ-loop
 loop-again c =
     let l = c .before .before .loop-test .taken in
-    (omega arith, lowest-more _ _ (c .before .before .before .loop .inv .1) (ne-eqb _ 0 (λ e. c .if1 .left (sym (size-entry (c .before .before .before .before .args .t .now) _ l) ∙ e))))
+    (omega arith, lowest-more _ _ (c .before .before .before .loop .inv .1) (ne-eqb _ 0 (λ e. c .if1 .left (sym (held-entry (c .before .before .before .before .args .t .now) _ l) ∙ e))))
 
 returns-2 : tie.Need-returns-2 Inv-loop μ-loop
-returns-2 c = sym (variables-are _ ∙ lowest-end _ 32 _ (omega arith) (omega arith) (c .before .loop .inv .1))
+returns-2 c = sym (held-lowest _ ∙ lowest-end _ 32 _ (omega arith) (omega arith) (c .before .loop .inv .1))
 
 pub variables-spec : {M : Type 1} → statement M
 variables-spec =

@@ -5,7 +5,8 @@ use native.Mathlib.Omega.{arith}
 use Rattle.bounded.specs.Bounded.{one, count}
 use Rattle.bounded.specs.Mask.{bit}
 use borrow.Author.Needs.{needs}
-use Rattle.report.proofs.Counting.{count-none, count-more, count-most}
+use Rattle.bounded.proofs.Bounded.{count-most}
+use Rattle.report.proofs.Counting.{count-none, count-more}
 use Rattle.report.proofs.count_bits.Statement.{statement}
 use Rattle.report.proofs.count_bits.Tie as tie
 

@@ -43,7 +43,10 @@ sub-result c =
     omega arith
 
 cast-result : tie.Need-cast-result
-cast-result c = search needs
+cast-result c =
+    let f = front (c .before .before .before .before .before) in
+    let h : 2 ^ c .before .before .before .byte .result ≤ 2 ^ 16 = pow-mono {j = 16} (omega arith) in
+    search needs
 
 enum-known-rows : tie.Need-enum-known-rows
 enum-known-rows c = search needs
@@ -67,7 +70,7 @@ returns : tie.Need-returns
 returns c =
     let a = c .before .before .before .before .before .args in
     let p = c .before .before .before .before .before .pre in
-    ap (λ (x : ℕ). x - 1) (c .power .ensures .is ∙ ap (λ (z : ℕ). 2 ^ z) (c .before .before .before .byte .ensures .is))
+    ap (λ (x : ℕ). x - 1) (c .power .ensures ∙ ap (λ (z : ℕ). 2 ^ z) (c .before .before .before .byte .ensures .is))
     ∙ row-free layout (now (a .s)) (p .0) (a .i) (a .a) (a .j) (p .1 .one) (p .1 .other) (p .1 .apart) (sym (p .1 .found) ∙ c .before .enum-told .given .1)
 
 returns-2 : tie.Need-returns-2

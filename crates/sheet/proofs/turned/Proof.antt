@@ -1,11 +1,10 @@
 -- `sheet::turned`: the bits so far are the set so far.
-use mathlib.Core.Path.{_≡_, sym, ap, _∙_}
+use mathlib.Core.Path.{_≡_, ap, _∙_}
 use Prim.Native.Nat.{ℕ, _+_, _-_, _^_, _≤_}
 use denote.Ref.{now}
-use mathlib.Core.Bool.{Bool, cond}
 use lib.Pow.{pow-mono}
 use Rattle.bounded.specs.Mask.{bit, maskOf}
-use Rattle.bounded.proofs.Mask.{mask-none, mask-more, mask-lt}
+use Rattle.bounded.proofs.Mask.{mask-none, mask-next, mask-lt}
 use Rattle.sheet.specs.Sheet.{layout}
 use Rattle.sheet.specs.Relation.{rowIn}
 use Rattle.sheet.proofs.Accepted.{facts, found}
@@ -37,10 +36,8 @@ next : (c : tie.After-weight Inv-loop μ-loop) → let l = c .before .before .be
 next c =
     let l = c .before .before .before .before .loop in
     let a = c .before .before .before .before .before .before .args in
-    let e : c .weight .result ≡ cond (bit (rowIn layout (now (a .s)) (a .i) (a .r) (l .b)) (a .a)) (2 ^ l .b) 0 =
-    c .weight .ensures ∙ ap (λ (t : Bool). cond t (2 ^ l .b) 0) (c .before .has16 .ensures ∙ ap (λ (x : ℕ). bit x (a .a)) (c .before .before .row-in .ensures .is)) in
-    ap (λ (x : ℕ). x + c .weight .result) (l .inv .0) ∙ ap (λ (x : ℕ). maskOf (l .b) (λ (k : ℕ). bit (rowIn layout (now (a .s)) (a .i) (a .r) k) (a .a)) + x) e
-    ∙ sym (mask-more (l .b) (λ (k : ℕ). bit (rowIn layout (now (a .s)) (a .i) (a .r) k) (a .a)))
+    mask-next (λ (k : ℕ). bit (rowIn layout (now (a .s)) (a .i) (a .r) k) (a .a)) (l .x) (l .b) (c .weight .result) _ (l .inv .0) (c .weight .ensures)
+    (c .before .has16 .ensures ∙ ap (λ (x : ℕ). bit x (a .a)) (c .before .before .row-in .ensures .is))
 
 loop-holds : tie.Need-loop-holds Inv-loop μ-loop
 loop-holds c = (mask-none _, omega arith)
@@ -53,6 +50,9 @@ has16-requires c κs = search needs
 
 weight-requires : tie.Need-weight-requires Inv-loop μ-loop
 weight-requires c κs = let f = small (c .before .before .before .before .before) in omega arith
+
+cast-x : tie.Need-cast-x Inv-loop μ-loop
+cast-x c = search needs
 
 add-x : tie.Need-add-x Inv-loop μ-loop
 add-x c =
@@ -88,6 +88,7 @@ turned-spec =
     row-in-requires
     has16-requires
     weight-requires
+    cast-x
     add-x
     add-b
     loop-less

@@ -1,13 +1,13 @@
--- `reduce::power`: the shift loses no bit. Assumes nothing.
-use mathlib.Core.Path.{_≡_, _∙_}
-use Prim.Native.Nat.{_*_, _%_, _^_}
+-- `bounded::power`: the shift loses no bit. Assumes nothing.
+use mathlib.Core.Path.{_∙_}
+use Prim.Native.Nat.{_^_}
 use native.Mathlib.Nat.{one-mul}
 use native.Mathlib.Omega.{arith}
 use lib.Pow.{shl-exact}
 use lib.Dec.{lit<}
 use borrow.Author.Needs.{needs}
-use Rattle.reduce.proofs.power.Statement.{statement}
-use Rattle.reduce.proofs.power.Tie as tie
+use Rattle.bounded.proofs.power.Statement.{statement}
+use Rattle.bounded.proofs.power.Tie as tie
 
 shl-result : tie.Need-shl-result
 shl-result c = search needs
