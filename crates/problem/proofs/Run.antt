@@ -24,7 +24,7 @@ use Rattle.problem.proofs.Trace.{after-fits, trace-fits, step-falls, la
 
 -- ---- searching
 
-never : {r : Record} → Nothing ≡ Step r → ⊥
+pub never : {r : Record} → Nothing ≡ Step r → ⊥
 never e = let z : _≡_ {A = ℕ} 0 1 = cc in omega arith
 
 never-step : {r : Record} → Step r ≡ Nothing → ⊥
@@ -34,7 +34,7 @@ same-step : {r x : Record} → Step r ≡ Step x → r ≡ x
 same-step e = cc
 
 -- what is found is found somewhere, so what holds of every step found holds of it
-first-found : (Q : Record → Type 0) (n : ℕ) (f : ℕ → Next) → ((k : ℕ) (r : Record) → f k ≡ Step r → Q r) → (r : Record) → first n f ≡ Step r → Q r
+pub first-found : (Q : Record → Type 0) (n : ℕ) (f : ℕ → Next) → ((k : ℕ) (r : Record) → f k ≡ Step r → Q r) → (r : Record) → first n f ≡ Step r → Q r
 unfolding first
 first-found Q zero f h r e = absurd (never e)
 first-found Q (suc n) f h r e = go (f zero) refl e (first-found Q n (λ k. f (suc k)) (λ k. h (suc k)) r)
@@ -43,7 +43,7 @@ first-found Q (suc n) f h r e = go (f zero) refl e (first-found Q n (λ k. f (su
     go Nothing p e ih = ih e
     go (Step x) p e ih = h zero r (p ∙ e)
 
-when-found : (Q : Record → Type 0) (b : Bool) (r : Record) → (T b → Q r) → (x : Record) → when b r ≡ Step x → Q x
+pub when-found : (Q : Record → Type 0) (b : Bool) (r : Record) → (T b → Q r) → (x : Record) → when b r ≡ Step x → Q x
 unfolding when
 when-found Q true r h x e = subst Q (same-step e) (h tt)
 when-found Q false r h x e = absurd (never e)
@@ -106,7 +106,7 @@ module _ (P : Problem) (s : State) where
   unfolding nextNeighbourhood holds
   neighbourhood-found = first-found Holds _ _ (λ i. first-found Holds _ _ (λ b. first-found Holds _ _ (λ a. when-found Holds (neighbourhood P s i b a) (Neighbourhood i b a) (λ t. t))))
 
-  neighbourhood-complete : Fits P s → nextNeighbourhood P s ≡ Nothing → (i b a : ℕ) → T (neighbourhood P s i b a) → ⊥
+  pub neighbourhood-complete : Fits P s → nextNeighbourhood P s ≡ Nothing → (i b a : ℕ) → T (neighbourhood P s i b a) → ⊥
   unfolding nextNeighbourhood
   neighbourhood-complete F e i b a h =
       let x = neighbourhood-iff F i b a .0 h in
@@ -126,7 +126,7 @@ module _ (P : Problem) (s : State) where
 
   -- ---- the kinds joined
 
-  kind-found : (k : ℕ) (r : Record) → nextOfKind P s k ≡ Step r → Holds r
+  pub kind-found : (k : ℕ) (r : Record) → nextOfKind P s k ≡ Step r → Holds r
   unfolding nextOfKind
   kind-found zero r e = absurd (never e)
   kind-found (suc zero) r e = unsupported-found r e
