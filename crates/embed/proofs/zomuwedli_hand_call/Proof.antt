@@ -1,0 +1,77 @@
+-- `embed::zomuwedli_hand_call`: the length of the buffer, then what the job answers; its number fits. Assumes nothing.
+use mathlib.Core.Path.{sym, ap, _∙_}
+use native.Mathlib.Omega.{arith}
+use Rattle.embed.specs.Calls.{HandCall}
+use Rattle.embed.proofs.Small.{call-small}
+use Rattle.embed.proofs.Calls.{hand-bad, hand-reads, hand-says}
+use borrow.Author.Needs.{needs}
+use Rattle.embed.proofs.zomuwedli_hand_call.Statement.{statement}
+use Rattle.embed.proofs.zomuwedli_hand_call.Tie as tie
+
+returns : tie.Need-returns
+returns c =
+    let a = c .before .before .before .args in
+    let e = sym (hand-bad (a .sheet .now) (a .state .now) (a .item) (λ l. omega arith)) in
+    (ap (λ (y : HandCall). y .answer) e, ap (λ (y : HandCall). y .state) e)
+
+read-state-requires : tie.Need-read-state-requires
+read-state-requires c κs = search needs
+
+hand-call-requires : tie.Need-hand-call-requires
+hand-call-requires c κs = search needs
+
+enum-known-outcome : tie.Need-enum-known-outcome
+enum-known-outcome c = search needs
+
+manual-number-requires : tie.Need-manual-number-requires
+manual-number-requires c κs = search needs
+
+cast-result : tie.Need-cast-result
+cast-result c = search needs
+
+enum-known-outcome-2 : tie.Need-enum-known-outcome-2
+enum-known-outcome-2 c = search needs
+
+put-state-requires : tie.Need-put-state-requires
+put-state-requires c κs = search needs
+
+mul-result : tie.Need-mul-result
+mul-result c = let l = call-small _ _ _ _ (c .before .before .before .before .before .before .before .before .hand-call .ensures) _ (c .before .before .before .before .before .before .outcome2 .given .1) in omega arith
+
+same-length : tie.Need-same-length
+same-length c = search needs
+
+returns-2 : tie.Need-returns-2
+returns-2 c =
+    let a = c .before .before .before .before .before .before .before .before .before .before .args in
+    let x = hand-reads (a .sheet .now) (a .state .now) (a .item) _ _ (c .before .before .before .before .before .read-state .ensures) (c .before .before .before .before .hand-call .ensures) in
+    let e = hand-says (a .sheet .now) (a .state .now) (a .item) (omega arith) _ x _ (c .before .before .outcome .given .1) in
+    (c .manual-number .ensures ∙ ap (λ (y : HandCall). y .answer) e, ap (λ (y : HandCall). y .state) e)
+
+same-length-2 : tie.Need-same-length-2
+same-length-2 c = search needs
+
+returns-3 : tie.Need-returns-3
+returns-3 c =
+    let a = c .before .before .before .before .before .before .before .before .before .before .before .before .before .before .args in
+    let x = hand-reads (a .sheet .now) (a .state .now) (a .item) _ _ (c .before .before .before .before .before .before .before .before .before .read-state .ensures) (c .before .before .before .before .before .before .before .before .hand-call .ensures) in
+    let e = hand-says (a .sheet .now) (a .state .now) (a .item) (omega arith) _ x _ (c .before .before .before .before .before .before .outcome2 .given .1) in
+    (ap (λ (y : HandCall). y .answer) e, c .before .before .put-state .ensures ∙ ap (λ (y : HandCall). y .state) e)
+
+pub zomuwedli-hand-call-spec : {M : Type 1} → statement M
+zomuwedli-hand-call-spec =
+    tie.close
+    (tie.spec
+    returns
+    read-state-requires
+    hand-call-requires
+    enum-known-outcome
+    manual-number-requires
+    cast-result
+    enum-known-outcome-2
+    put-state-requires
+    mul-result
+    same-length
+    returns-2
+    same-length-2
+    returns-3)

@@ -1,0 +1,56 @@
+-- `embed::zomuwedli_put_back`: what the job answers. Assumes nothing.
+use mathlib.Core.Path.{sym, ap, _∙_}
+use Rattle.embed.specs.Calls.{PutBackCall}
+use Rattle.embed.proofs.Calls.{back-says}
+use borrow.Author.Needs.{needs}
+use Rattle.embed.proofs.zomuwedli_put_back.Statement.{statement}
+use Rattle.embed.proofs.zomuwedli_put_back.Tie as tie
+
+put-back-requires : tie.Need-put-back-requires
+put-back-requires c κs = search needs
+
+enum-known-r : tie.Need-enum-known-r
+enum-known-r c = search needs
+
+extend-number-requires : tie.Need-extend-number-requires
+extend-number-requires c κs = search needs
+
+cast-result : tie.Need-cast-result
+cast-result c = search needs
+
+enum-told : tie.Need-enum-told
+enum-told c = search needs
+
+same-length : tie.Need-same-length
+same-length c = search needs
+
+returns : tie.Need-returns
+returns c =
+    let a = c .before .before .before .before .before .before .before .before .before .before .before .before .args in
+    let x = c .before .before .before .before .before .before .put-back in
+    let e = back-says (a .sheet .now) (a .trace .now) (a .plan .now) (a .result .now) _ _ (x .ensures .0) (x .ensures .1) _ (c .before .before .r .given .1) in
+    (c .extend-number .ensures ∙ ap (λ (y : PutBackCall). y .answer) e, ap (λ (y : PutBackCall). y .result) e)
+
+same-length-2 : tie.Need-same-length-2
+same-length-2 c = search needs
+
+returns-2 : tie.Need-returns-2
+returns-2 c =
+    let a = c .before .before .before .before .before .before .before .before .before .before .args in
+    let x = c .before .before .before .before .put-back in
+    let e = back-says (a .sheet .now) (a .trace .now) (a .plan .now) (a .result .now) _ _ (x .ensures .0) (x .ensures .1) _ (c .enum-told .given .1) in
+    (ap (λ (y : PutBackCall). y .answer) e, ap (λ (y : PutBackCall). y .result) e)
+
+pub zomuwedli-put-back-spec : {M : Type 1} → statement M
+zomuwedli-put-back-spec =
+    tie.close
+    (tie.spec
+    put-back-requires
+    enum-known-r
+    extend-number-requires
+    cast-result
+    enum-told
+    same-length
+    returns
+    same-length-2
+    returns-2)

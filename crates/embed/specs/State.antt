@@ -1,0 +1,41 @@
+-- A state as bytes, as it crosses to C and Rust: the active variables in 4 bytes, then 32 domains in 2 bytes each, big-endian.
+use mathlib.Core.List.{List, [], _∷_, _++_}
+use Prim.Native.Nat.{ℕ, zero, suc, _+_, _*_, _/_, _%_, _^_}
+use Rattle.bounded.specs.Table.{tab}
+use Rattle.problem.specs.declared.Masks.{Masks}
+use Rattle.sheet.specs.Bytes.{numberAt}
+use Rattle.jobs.specs.declared.ManualState.{ManualState}
+
+-- the w bytes of x, the first worth the most; `numberAt` reads them back
+abbrev pub numberBytes : ℕ → ℕ → List ℕ
+numberBytes zero x = []
+numberBytes (suc w) x = x / 256 ^ w % 256 ∷ numberBytes w x
+
+-- the 2 bytes of each number of a list
+unfoldable pub wordsBytes : List ℕ → List ℕ
+wordsBytes [] = []
+wordsBytes (x ∷ l) = numberBytes 2 x ++ wordsBytes l
+
+-- ---- a run's state
+
+-- its bytes: 4 + 2 * 32
+abbrev pub stateLength : ℕ
+stateLength = 68
+
+unfoldable pub masksBytes : Masks → List ℕ
+masksBytes m = numberBytes 4 (m .active) ++ wordsBytes (m .domains)
+
+-- the state that bytes say
+unfoldable pub masksIn : List ℕ → Masks
+masksIn b = record { active = numberAt b 4 0; domains = tab 32 (λ i. numberAt b 2 (4 + 2 * i)) }
+
+-- ---- a hand state: it holds a run's state and nothing else
+
+abbrev pub handStateLength : ℕ
+handStateLength = 68
+
+abbrev pub handBytes : ManualState → List ℕ
+handBytes st = masksBytes (st .masks)
+
+abbrev pub handIn : List ℕ → ManualState
+handIn b = record { masks = masksIn b }
