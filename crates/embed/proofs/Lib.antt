@@ -1,3 +1,6 @@
 pub mod Bytes
 pub mod Small
 pub mod Calls
+pub mod Crossing
+pub mod Answers
+pub mod States
