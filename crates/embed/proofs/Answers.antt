@@ -40,7 +40,7 @@ use Rattle.jobs.specs.declared.Extended.the-variants as back
 use Rattle.jobs.proofs.Worked.{run-sheet-refused, run-buffer-refused, run-accepted}
 use Rattle.extend.proofs.Demands.{put-back-sheet-refused, put-back-plan-length, put-back-result-length, put-back-checked}
 use Rattle.embed.specs.State.{stateLength, handStateLength, handIn}
-use Rattle.embed.specs.Calls.{readNumber, readCall, RunCall, runCall, HandCall, startCall, handCall, PutBackCall, putBackCall}
+use Rattle.embed.specs.Calls.{badState, badHandState, readNumber, readCall, RunCall, runCall, HandCall, startCall, handCall, PutBackCall, putBackCall}
 use Rattle.embed.proofs.Small.{read-small, run-small, call-small}
 use Rattle.embed.proofs.Calls.{run-bad, run-says, start-bad, start-says, hand-bad, hand-says, back-says}
 
@@ -50,38 +50,42 @@ use Rattle.embed.proofs.Calls.{run-bad, run-says, start-bad, start-says
 abbrev pub Refuses : ℕ → Type 0
 Refuses a = (1 ≤ a) × (a < 256)
 
-sheet-refuses : (r : SheetRefusal) → Refuses (sheetNumber r)
-sheet-refuses sheet.TooShort = (omega arith, omega arith)
-sheet-refuses sheet.Version = (omega arith, omega arith)
-sheet-refuses sheet.Length = (omega arith, omega arith)
-sheet-refuses sheet.Variables = (omega arith, omega arith)
-sheet-refuses sheet.Sizes = (omega arith, omega arith)
-sheet-refuses sheet.PairMissing = (omega arith, omega arith)
-sheet-refuses sheet.PairOrder = (omega arith, omega arith)
-sheet-refuses sheet.RowsCut = (omega arith, omega arith)
-sheet-refuses sheet.RowBeyond = (omega arith, omega arith)
-sheet-refuses sheet.BarsNothing = (omega arith, omega arith)
-sheet-refuses sheet.LeftOver = (omega arith, omega arith)
+-- a number of document 01's table; the boundary's own are above them
+abbrev Listed : ℕ → Type 0
+Listed a = (1 ≤ a) × (a ≤ 20)
 
-reduce-refuses : (r : ReduceRefusal) → Refuses (reduceNumber r)
-reduce-refuses (reduce.Sheet r) = sheet-refuses r
-reduce-refuses reduce.Buffer = (omega arith, omega arith)
+sheet-listed : (r : SheetRefusal) → Listed (sheetNumber r)
+sheet-listed sheet.TooShort = (omega arith, omega arith)
+sheet-listed sheet.Version = (omega arith, omega arith)
+sheet-listed sheet.Length = (omega arith, omega arith)
+sheet-listed sheet.Variables = (omega arith, omega arith)
+sheet-listed sheet.Sizes = (omega arith, omega arith)
+sheet-listed sheet.PairMissing = (omega arith, omega arith)
+sheet-listed sheet.PairOrder = (omega arith, omega arith)
+sheet-listed sheet.RowsCut = (omega arith, omega arith)
+sheet-listed sheet.RowBeyond = (omega arith, omega arith)
+sheet-listed sheet.BarsNothing = (omega arith, omega arith)
+sheet-listed sheet.LeftOver = (omega arith, omega arith)
 
-manual-refuses : (r : ManualRefusal) → Refuses (manualNumber r)
-manual-refuses (manual.Sheet r) = sheet-refuses r
-manual-refuses manual.State = (omega arith, omega arith)
-manual-refuses manual.Item = (omega arith, omega arith)
-manual-refuses manual.Emptied = (omega arith, omega arith)
-manual-refuses manual.Rule = (omega arith, omega arith)
+reduce-listed : (r : ReduceRefusal) → Listed (reduceNumber r)
+reduce-listed (reduce.Sheet r) = sheet-listed r
+reduce-listed reduce.Buffer = (omega arith, omega arith)
 
-extend-refuses : (r : ExtendRefusal) → Refuses (extendNumber r)
-extend-refuses (extend.Sheet r) = sheet-refuses r
-extend-refuses extend.PlanLength = (omega arith, omega arith)
-extend-refuses extend.ResultLength = (omega arith, omega arith)
-extend-refuses extend.TraceFront = (omega arith, omega arith)
-extend-refuses extend.Malformed = (omega arith, omega arith)
-extend-refuses extend.Unlawful = (omega arith, omega arith)
-extend-refuses extend.Plan = (omega arith, omega arith)
+manual-listed : (r : ManualRefusal) → Listed (manualNumber r)
+manual-listed (manual.Sheet r) = sheet-listed r
+manual-listed manual.State = (omega arith, omega arith)
+manual-listed manual.Item = (omega arith, omega arith)
+manual-listed manual.Emptied = (omega arith, omega arith)
+manual-listed manual.Rule = (omega arith, omega arith)
+
+extend-listed : (r : ExtendRefusal) → Listed (extendNumber r)
+extend-listed (extend.Sheet r) = sheet-listed r
+extend-listed extend.PlanLength = (omega arith, omega arith)
+extend-listed extend.ResultLength = (omega arith, omega arith)
+extend-listed extend.TraceFront = (omega arith, omega arith)
+extend-listed extend.Malformed = (omega arith, omega arith)
+extend-listed extend.Unlawful = (omega arith, omega arith)
+extend-listed extend.Plan = (omega arith, omega arith)
 
 -- an end's number fits its bits
 end-small : (e : End) → endNumber e < 256
@@ -127,7 +131,7 @@ read-either s = go (readSheet layout s) refl
     go (read.Accepted n m) e = inl (n, m, e)
     go (read.Refused r) e =
         let q : readCall s ≡ sheetNumber r = ap readNumber e in
-        let l = sheet-refuses r in
+        let l = sheet-listed r in
         inr ((omega arith, omega arith), (r, e, q))
 
 -- the remainder is 0 exactly where the sheet is accepted, and otherwise the answer is the refusal's number
@@ -178,7 +182,7 @@ module _ (s t b : List ℕ) where
       by-job l (run.Refused r) o =
           let q = sym (run-says s t b l _ _ refl refl _ o) in
           let n = ap (λ (y : RunCall). y .answer) q in
-          let f = reduce-refuses r in
+          let f = reduce-listed r in
           inr ((omega arith, omega arith), (ap (λ (y : RunCall). y .trace) q ∙ run-job-keeps s t r o, ap (λ (y : RunCall). y .state) q))
 
       go : (length b ≡ stateLength) ⊎ (length b ≢ stateLength) → RunTaken ⊎ (Refuses ((runCall s t b) .answer) × RunKept)
@@ -194,6 +198,17 @@ module _ (s t b : List ℕ) where
   -- refused: both buffers are as they were
   pub run-refused-keeps : (runCall s t b) .answer % 256 ≢ 0 → ((runCall s t b) .trace ≡ t) × ((runCall s t b) .state ≡ b)
   run-refused-keeps = refused-keeps RunTaken RunKept _ run-either run-even
+
+  -- 200 says the buffer's length, and nothing else does
+  pub run-bad-state : ((runCall s t b) .answer ≡ badState) ↔ (length b ≢ stateLength)
+  run-bad-state = (λ a l. go a l ((runJob s t) .answer .outcome) refl, λ d. ap (λ (y : RunCall). y .answer) (run-bad s t b d))
+    where
+      go : (runCall s t b) .answer ≡ badState → length b ≡ stateLength → (o : ReduceOutcome) → (runJob s t) .answer .outcome ≡ o → ⊥
+      go a l (run.Done e k w) o = let z = run-unpacked l e k w o .0 in omega arith
+      go a l (run.Refused r) o =
+          let n = ap (λ (y : RunCall). y .answer) (run-says s t b l _ _ refl refl _ o) in
+          let f = reduce-listed r in
+          omega arith
 
   -- the remainder is 0 exactly where the run is accepted
   pub run-taken : ((runCall s t b) .answer % 256 ≡ 0) ↔ RunTaken
@@ -216,7 +231,7 @@ module _ (s b : List ℕ) where
       by-job l (started.Refused r) o =
           let q = sym (start-says s b l _ refl _ o) in
           let n = ap (λ (y : HandCall). y .answer) q in
-          let f = sheet-refuses r in
+          let f = sheet-listed r in
           inr ((omega arith, omega arith), ap (λ (y : HandCall). y .state) q)
 
       go : (length b ≡ handStateLength) ⊎ (length b ≢ handStateLength) → StartTaken ⊎ (Refuses ((startCall s b) .answer) × StartKept)
@@ -236,6 +251,17 @@ module _ (s b : List ℕ) where
   -- refused: the buffer is as it was
   pub start-refused-keeps : (startCall s b) .answer % 256 ≢ 0 → (startCall s b) .state ≡ b
   start-refused-keeps = refused-keeps StartTaken StartKept _ start-either start-even
+
+  -- 201 says the buffer's length, and nothing else does
+  pub start-bad-state : ((startCall s b) .answer ≡ badHandState) ↔ (length b ≢ handStateLength)
+  start-bad-state = (λ a l. go a l ((startJob s) .outcome) refl, λ d. ap (λ (y : HandCall). y .answer) (start-bad s b d))
+    where
+      go : (startCall s b) .answer ≡ badHandState → length b ≡ handStateLength → (o : StartOutcome) → (startJob s) .outcome ≡ o → ⊥
+      go a l started.Started o = let z = start-zero (l, o) in omega arith
+      go a l (started.Refused r) o =
+          let n = ap (λ (y : HandCall). y .answer) (start-says s b l _ refl _ o) in
+          let f = sheet-listed r in
+          omega arith
 
   -- the remainder is 0 exactly where the start is accepted
   pub start-taken : ((startCall s b) .answer % 256 ≡ 0) ↔ StartTaken
@@ -265,7 +291,7 @@ module _ (s b : List ℕ) (i : ℕ) where
       by-job l (called.Refused r) o =
           let q = sym (hand-says s b i l _ refl _ o) in
           let n = ap (λ (y : HandCall). y .answer) q in
-          let f = manual-refuses r in
+          let f = manual-listed r in
           inr ((omega arith, omega arith), ap (λ (y : HandCall). y .state) q)
 
       go : (length b ≡ handStateLength) ⊎ (length b ≢ handStateLength) → CallTaken ⊎ (Refuses ((handCall s b i) .answer) × CallKept)
@@ -281,6 +307,17 @@ module _ (s b : List ℕ) (i : ℕ) where
   -- refused: the buffer is as it was
   pub call-refused-keeps : (handCall s b i) .answer % 256 ≢ 0 → (handCall s b i) .state ≡ b
   call-refused-keeps = refused-keeps CallTaken CallKept _ call-either call-even
+
+  -- 201 says the buffer's length, and nothing else does
+  pub call-bad-state : ((handCall s b i) .answer ≡ badHandState) ↔ (length b ≢ handStateLength)
+  call-bad-state = (λ a l. go a l ((callJob s (handIn b) i) .outcome) refl, λ d. ap (λ (y : HandCall). y .answer) (hand-bad s b i d))
+    where
+      go : (handCall s b i) .answer ≡ badHandState → length b ≡ handStateLength → (o : CallOutcome) → (callJob s (handIn b) i) .outcome ≡ o → ⊥
+      go a l (called.Eliminated v) o = let z = call-unpacked l v o .0 in omega arith
+      go a l (called.Refused r) o =
+          let n = ap (λ (y : HandCall). y .answer) (hand-says s b i l _ refl _ o) in
+          let f = manual-listed r in
+          omega arith
 
   -- the remainder is 0 exactly where the call is accepted
   pub call-taken : ((handCall s b i) .answer % 256 ≡ 0) ↔ CallTaken
@@ -329,7 +366,7 @@ module _ (s t p b : List ℕ) where
       go (back.Refused r) o =
           let q = sym (back-says s t p b _ _ refl refl _ o) in
           let n = ap (λ (y : PutBackCall). y .answer) q in
-          let f = extend-refuses r in
+          let f = extend-listed r in
           inr ((omega arith, omega arith), ap (λ (y : PutBackCall). y .result) q ∙ put-back-job-keeps s t p b r o)
 
   -- accepted: the answer is 0

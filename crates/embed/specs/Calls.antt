@@ -1,5 +1,5 @@
 -- What each exported function answers, as one number, and what it leaves in the buffers lent to it.
--- A refusal is a number from 1 to 255, and what is answered beside it is a multiple of 256.
+-- A refusal is a number from 1 to 255, and every other answer is a multiple of 256.
 use mathlib.Core.Bool.{true, false}
 use mathlib.Core.List.{List}
 use Prim.Native.Nat.{ℕ, _+_, _*_}
@@ -10,9 +10,9 @@ use Rattle.sheet.specs.Sheet.{layout, readSheet, sheetNumber}
 use Rattle.sheet.specs.declared.SheetRead.{SheetRead}
 use Rattle.sheet.specs.declared.SheetRead.the-variants as read
 use Rattle.jobs.specs.Numbers.{reduceNumber, manualNumber, extendNumber, endNumber}
-use Rattle.jobs.specs.Run.{RunResult, runJob}
+use Rattle.jobs.specs.Run.{runJob}
 use Rattle.jobs.specs.Hand.{startJob, callJob}
-use Rattle.jobs.specs.PutBack.{PutBackResult, putBackJob}
+use Rattle.jobs.specs.PutBack.{putBackJob}
 use Rattle.jobs.specs.declared.ManualState.{ManualState}
 use Rattle.jobs.specs.declared.ReduceOutcome.{ReduceOutcome}
 use Rattle.jobs.specs.declared.ReduceOutcome.the-variants as run
@@ -88,12 +88,12 @@ startCall s b =
     ]
 
 -- from what a hand call answers and its state; the buffer was b, which holds the state that a refused call answers.
--- Bits 0-7 the refusal, bits 8-15 the setting.
+-- Bits 0-7 the refusal, bits 8-15 the value.
 abbrev pub calledCrossed : CallOutcome → ManualState → List ℕ → HandCall
 calledCrossed (called.Refused r) st b = record { answer = manualNumber r; state = b }
 calledCrossed (called.Eliminated v) st b = record { answer = 256 * v; state = handBytes st }
 
--- the sheet s, the buffer b with the state, and the item i: the length of b first, then the job
+-- the sheet s, the buffer b with the state, and the variable i: the length of b first, then the job
 unfoldable pub handCall : (s b : List ℕ) (i : ℕ) → HandCall
 handCall s b i =
     elim (eqb (length b) handStateLength) [

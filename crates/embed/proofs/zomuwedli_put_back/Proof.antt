@@ -1,5 +1,5 @@
 -- `embed::zomuwedli_put_back`: what the job answers. Assumes nothing.
-use mathlib.Core.Path.{sym, ap, _∙_}
+use mathlib.Core.Path.{ap, _∙_}
 use Rattle.embed.specs.Calls.{PutBackCall}
 use Rattle.embed.proofs.Calls.{back-says}
 use borrow.Author.Needs.{needs}
