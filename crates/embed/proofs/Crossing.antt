@@ -59,7 +59,7 @@ module _ (m : Masks) where
   unfolding masksBytes
   state-after n = getD-append-add (numberBytes 4 (m .active)) (wordsBytes (m .domains)) n 0
 
-  state-length : length (m .domains) ≡ 32 → length (masksBytes m) ≡ 68
+  pub state-length : length (m .domains) ≡ 32 → length (masksBytes m) ≡ 68
   unfolding masksBytes
   state-length k = length-append (numberBytes 4 (m .active)) (wordsBytes (m .domains)) ∙ ap (λ (n : ℕ). 4 + n) (length-words (m .domains) ∙ ap (λ (n : ℕ). 2 * n) k)
 

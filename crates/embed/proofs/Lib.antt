@@ -4,3 +4,4 @@ pub mod Calls
 pub mod Crossing
 pub mod Answers
 pub mod States
+pub mod Demands

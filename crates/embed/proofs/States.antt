@@ -73,11 +73,11 @@ pub start-state : (s b : List ℕ) → length b ≡ handStateLength → (startJo
 start-state s b l o = ap (λ (y : HandCall). handIn (y .state)) (sym (start-says s b l _ refl _ o)) ∙ hand-crossed _ (start-proper s o)
 
 -- what a hand call answers in the state st: a state that the struct can hold, or where it is refused st itself
-abbrev Held : ManualState → CallOutcome → ManualState → Type 0
+abbrev pub Held : ManualState → CallOutcome → ManualState → Type 0
 Held st (called.Eliminated v) x = Proper (x .masks)
 Held st (called.Refused r) x = x ≡ st
 
-call-held : (s : List ℕ) (st : ManualState) (i : ℕ) → Held st ((callJob s st i) .outcome) ((callJob s st i) .state)
+pub call-held : (s : List ℕ) (st : ManualState) (i : ℕ) → Held st ((callJob s st i) .outcome) ((callJob s st i) .state)
 call-held s st i = go (readSheet layout s) refl
   where
     by-call : (c : Call) → Held st ((callAnswer (problemOf layout s) st i c) .outcome) ((callAnswer (problemOf layout s) st i c) .state)

@@ -1,7 +1,7 @@
 -- What each exported function answers, as one number, and what it leaves in the buffers lent to it.
 -- A refusal is a number from 1 to 255, and every other answer is a multiple of 256.
 use mathlib.Core.Bool.{true, false}
-use mathlib.Core.List.{List}
+use mathlib.Core.List.{List, [], _∷_}
 use Prim.Native.Nat.{ℕ, _+_, _*_}
 use lib.Dec.{eqb}
 use lib.ListN.{length}
@@ -100,6 +100,11 @@ handCall s b i =
       | false ↦ record { answer = badHandState; state = b }
       | true ↦ calledCrossed ((callJob s (handIn b) i) .outcome) ((callJob s (handIn b) i) .state) b
     ]
+
+-- a list of hand calls: each is lent the buffer that the one before it left, a refused one's included
+unfoldable pub handCalls : (s b : List ℕ) → List ℕ → List ℕ
+handCalls s b [] = b
+handCalls s b (i ∷ l) = handCalls s ((handCall s b i) .state) l
 
 -- ---- putting back
 
