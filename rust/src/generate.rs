@@ -1,0 +1,538 @@
+//! Sheets, states, traces and plans for the comparisons, from a seed: lawful ones, and ones with a fault or several.
+
+use crate::boundary::{State as Masks, MOST_ITEMS, MOST_SETTINGS, STATE_LENGTH};
+use crate::reference::{Problem, State, Step, OUT};
+
+/// A splitmix generator: the same seed gives the same numbers on every machine.
+#[derive(Clone)]
+pub struct Random(u64);
+
+impl Random {
+    pub fn new(seed: u64) -> Random {
+        Random(seed)
+    }
+
+    /// The generator of one case of one part of a comparison, so that a case can be repeated alone.
+    pub fn of_case(seed: u64, part: u64, case: u64) -> Random {
+        let mut mixed = Random(seed ^ part.wrapping_mul(0xd1b5_4a32_d192_ed03));
+        Random(mixed.next() ^ case.wrapping_mul(0xaef1_7502_108e_f2d9))
+    }
+
+    pub fn next(&mut self) -> u64 {
+        self.0 = self.0.wrapping_add(0x9e37_79b9_7f4a_7c15);
+        let mixed = (self.0 ^ self.0 >> 30).wrapping_mul(0xbf58_476d_1ce4_e5b9);
+        let mixed = (mixed ^ mixed >> 27).wrapping_mul(0x94d0_49bb_1331_11eb);
+        mixed ^ mixed >> 31
+    }
+
+    /// A number below the bound, which is not 0.
+    pub fn below(&mut self, bound: usize) -> usize {
+        (self.next() >> 11) as usize % bound
+    }
+
+    /// A number from the first to the last.
+    pub fn from_to(&mut self, first: usize, last: usize) -> usize {
+        first + self.below(last - first + 1)
+    }
+
+    pub fn chance(&mut self, percent: usize) -> bool {
+        self.below(100) < percent
+    }
+
+    pub fn pick<T: Copy>(&mut self, choices: &[T]) -> T {
+        choices[self.below(choices.len())]
+    }
+
+    pub fn byte(&mut self) -> u8 {
+        self.next() as u8
+    }
+
+    pub fn bytes(&mut self, length: usize) -> Vec<u8> {
+        (0..length).map(|_| self.byte()).collect()
+    }
+}
+
+// ---- Sheets -------------------------------------------------------------------------------------------------------------------------
+
+/// One block: its two items, and a row for each setting of the first.
+#[derive(Clone)]
+pub struct Block {
+    pub i: u8,
+    pub j: u8,
+    pub rows: Vec<u16>,
+}
+
+/// A sheet before it is written down. The fields that may disagree with the rest are given only where they do.
+#[derive(Clone)]
+pub struct Draft {
+    pub version: u8,
+    pub length: Option<u32>,
+    pub items: Option<u8>,
+    pub block_count: Option<u16>,
+    pub sizes: Vec<u8>,
+    pub blocks: Vec<Block>,
+    pub left_over: Vec<u8>,
+    pub cut: usize,
+}
+
+impl Draft {
+    /// A sheet with a block for each two items that the relation does not allow everything.
+    pub fn new(sizes: Vec<u8>, mut allowed: impl FnMut(usize, usize, usize, usize) -> bool) -> Draft {
+        let mut blocks = Vec::new();
+        for i in 0..sizes.len() {
+            for j in i + 1..sizes.len() {
+                let size = usize::from(sizes[j]);
+                let rows: Vec<u16> = (0..usize::from(sizes[i])).map(|a| row(size, |&b| allowed(i, a, j, b))).collect();
+                if rows.iter().any(|&allows| allows != row(size, |_| true)) {
+                    blocks.push(Block {
+                        i: i as u8,
+                        j: j as u8,
+                        rows,
+                    });
+                }
+            }
+        }
+        Draft {
+            version: 1,
+            length: None,
+            items: None,
+            block_count: None,
+            sizes,
+            blocks,
+            left_over: Vec::new(),
+            cut: 0,
+        }
+    }
+
+    pub fn bytes(&self) -> Vec<u8> {
+        let mut bytes = vec![self.version, 0, 0, 0, 0, self.items.unwrap_or(self.sizes.len() as u8)];
+        bytes.extend(self.block_count.unwrap_or(self.blocks.len() as u16).to_be_bytes());
+        bytes.extend(&self.sizes);
+        for block in &self.blocks {
+            bytes.extend([block.i, block.j]);
+            bytes.extend(block.rows.iter().flat_map(|row| row.to_be_bytes()));
+        }
+        bytes.extend(&self.left_over);
+        bytes.truncate(bytes.len().saturating_sub(self.cut));
+        let length = self.length.unwrap_or(bytes.len() as u32).to_be_bytes();
+        bytes.iter_mut().skip(1).zip(length).for_each(|(byte, stated)| *byte = stated);
+        bytes
+    }
+}
+
+fn row(size: usize, allowed: impl FnMut(&usize) -> bool) -> u16 {
+    (0..size).filter(allowed).fold(0, |row, b| row | 1 << b)
+}
+
+/// A relation between two values.
+type Relation = fn(usize, usize) -> bool;
+
+const RELATIONS: [Relation; 8] = [
+    |a, b| a == b,
+    |a, b| a != b,
+    |a, b| a < b,
+    |a, b| a <= b,
+    |a, b| a > b,
+    |a, b| (a + b) % 2 == 1,
+    |a, b| a.abs_diff(b) >= 2,
+    |a, b| a.abs_diff(b) <= 1,
+];
+
+/// Which pairs of items have a block.
+#[derive(Clone, Copy)]
+enum Network {
+    Sparse(usize),
+    Clique,
+    Cycle,
+    Tree,
+    Star,
+    Groups(usize),
+}
+
+impl Network {
+    fn random(random: &mut Random) -> Network {
+        match random.below(8) {
+            0 => Network::Clique,
+            1 => Network::Cycle,
+            2 => Network::Tree,
+            3 => Network::Star,
+            4 => Network::Groups(random.from_to(2, 4)),
+            _ => Network::Sparse(random.pick(&[15, 30, 50, 70, 90])),
+        }
+    }
+
+    /// Whether i and j, the lower first, of n items are linked.
+    fn links(self, random: &mut Random, n: usize, i: usize, j: usize) -> bool {
+        match self {
+            Network::Sparse(percent) => random.chance(percent),
+            Network::Clique => true,
+            Network::Cycle => j == i + 1 || (i == 0 && j == n - 1),
+            Network::Tree => i == j / 2,
+            Network::Star => i == 0,
+            Network::Groups(size) => i / size == j / size,
+        }
+    }
+}
+
+/// How many items and how large: mostly small, many middling, some large.
+fn random_sizes(random: &mut Random) -> Vec<u8> {
+    let (n, most) = match random.below(1000) {
+        0..=699 => (random.from_to(1, 5), random.pick(&[2, 3, 4])),
+        700..=899 => (random.from_to(2, 6), random.pick(&[3, 5, 6])),
+        900..=979 => (random.from_to(5, 9), random.pick(&[2, 3, 5, 8])),
+        980..=994 => (random.from_to(1, 3), MOST_SETTINGS),
+        _ => (random.from_to(10, 20), random.pick(&[2, 3, 6])),
+    };
+    let alike = random.chance(40);
+    let size = |random: &mut Random| if alike { most } else { random.from_to(1, most) };
+    (0..n).map(|_| size(random) as u8).collect()
+}
+
+/// A relation for each pair of linked items: one known relation for all, one for each, or pairs barred at random. The values may be
+/// taken together in classes, so that some are alike: this is what the cover, the fold and the slide live on.
+fn fill(random: &mut Random, sizes: Vec<u8>, network: Network) -> Draft {
+    let style = random.below(3);
+    let for_all = random.pick(&RELATIONS);
+    let barred = random.pick(&[5, 15, 30, 50, 70]);
+    let classes = random.pick(&[2, 3, MOST_SETTINGS, MOST_SETTINGS]);
+    let n = sizes.len();
+    let relations: Vec<Vec<bool>> = (0..n * n)
+        .map(|pair| {
+            let (i, j) = (pair / n, pair % n);
+            let linked = i < j && network.links(random, n, i, j);
+            let for_pair = random.pick(&RELATIONS);
+            let mut entry = |a: usize, b: usize| match style {
+                0 => for_all(a, b),
+                1 => for_pair(a, b),
+                _ => !random.chance(barred),
+            };
+            (0..MOST_SETTINGS * MOST_SETTINGS)
+                .map(|entry_of| !linked || entry(entry_of / MOST_SETTINGS, entry_of % MOST_SETTINGS))
+                .collect()
+        })
+        .collect();
+    Draft::new(sizes, |i, a, j, b| relations[i * n + j][a % classes * MOST_SETTINGS + b % classes])
+}
+
+/// A sheet that keeps the layout.
+pub fn random_draft(random: &mut Random) -> Draft {
+    let sizes = random_sizes(random);
+    let network = Network::random(random);
+    fill(random, sizes, network)
+}
+
+/// A sheet of 32 items of 16 settings with a block for each of the 496 pairs, or for some.
+pub fn large_draft(random: &mut Random) -> Draft {
+    let network = if random.chance(60) {
+        Network::Clique
+    } else {
+        Network::random(random)
+    };
+    fill(random, vec![MOST_SETTINGS as u8; MOST_ITEMS], network)
+}
+
+/// A small sheet of a few items, with a plan more often than not.
+pub fn small_draft(random: &mut Random) -> Draft {
+    let n = random.from_to(2, 5);
+    let sizes = (0..n).map(|_| random.from_to(1, 3) as u8).collect();
+    let network = Network::random(random);
+    fill(random, sizes, network)
+}
+
+/// Bytes of a sheet with one fault or several, or with none: whether a fault shows is for the reader to say.
+pub fn damaged_sheet(random: &mut Random) -> Vec<u8> {
+    match random.below(20) {
+        0 => {
+            let length = random.below(40);
+            random.bytes(length)
+        }
+        1 => Vec::new(),
+        _ => {
+            let mut draft = random_draft(random);
+            for _ in 0..random.pick(&[1, 1, 1, 2, 2, 3]) {
+                damage_draft(random, &mut draft);
+            }
+            let mut bytes = draft.bytes();
+            if random.chance(25) {
+                damage_bytes(random, &mut bytes);
+            }
+            bytes
+        }
+    }
+}
+
+/// One fault in a field or a block.
+fn damage_draft(random: &mut Random, draft: &mut Draft) {
+    match random.below(15) {
+        0 => draft.version = random.pick(&[0, 2, 255]),
+        1 => draft.length = Some(random.pick(&[0, 8, 16_904, 16_905, u32::MAX])),
+        2 => draft.length = Some((draft.bytes().len() as u32).wrapping_add(random.pick(&[1, 2, u32::MAX, 1 << 16, 1 << 24]))),
+        3 => draft.items = Some(random.pick(&[0, 33, 255, 32, 1, 2])),
+        4 => {
+            let item = random.below(draft.sizes.len());
+            draft.sizes[item] = random.pick(&[0, 17, 255, 16, 1]);
+        }
+        5 => draft.cut = random.from_to(1, 12),
+        6 => {
+            let length = random.from_to(1, 3);
+            draft.left_over = random.bytes(length);
+        }
+        7 => draft.block_count = Some((draft.blocks.len() as u16).wrapping_add(random.pick(&[1, 2, u16::MAX]))),
+        8 => draft.block_count = Some(random.pick(&[0, 1, 255, 256, u16::MAX])),
+        _ => damage_block(random, draft),
+    }
+}
+
+/// One fault in a block, where there is one.
+fn damage_block(random: &mut Random, draft: &mut Draft) {
+    if draft.blocks.is_empty() {
+        return;
+    }
+    let place = random.below(draft.blocks.len());
+    let other = random.below(draft.blocks.len());
+    let n = draft.sizes.len() as u8;
+    let block = &mut draft.blocks[place];
+    let size = usize::from(*draft.sizes.get(usize::from(block.j)).unwrap_or(&1)).clamp(1, MOST_SETTINGS);
+    match random.below(9) {
+        0 => std::mem::swap(&mut block.i, &mut block.j),
+        1 => block.i = block.j,
+        2 => block.j = n.wrapping_add(random.pick(&[0, 1, 30])),
+        3 => block.rows.iter_mut().for_each(|row| *row = u16::MAX >> (MOST_SETTINGS - size)),
+        4 | 5 => {
+            let line = random.below(block.rows.len());
+            block.rows[line] |= 1 << random.from_to(size.min(MOST_SETTINGS - 1), MOST_SETTINGS - 1);
+        }
+        6 => {
+            let repeated = block.clone();
+            draft.blocks.insert(place, repeated);
+        }
+        7 => draft.blocks.swap(place, other),
+        _ => {
+            block.rows.pop();
+        }
+    }
+}
+
+/// A byte changed, or bytes cut off or put at the end, whatever the sheet states.
+fn damage_bytes(random: &mut Random, bytes: &mut Vec<u8>) {
+    match random.below(4) {
+        0 => bytes.truncate(random.below(bytes.len() + 1)),
+        1 => bytes.push(random.byte()),
+        _ if bytes.is_empty() => {}
+        2 => {
+            let place = random.below(bytes.len());
+            bytes[place] = random.byte();
+        }
+        _ => {
+            let place = random.below(bytes.len());
+            bytes[place] ^= 1 << random.below(8);
+        }
+    }
+}
+
+/// The seven families of sheets of 32 items of 16 settings that the program is timed on.
+pub fn families() -> Vec<(&'static str, Vec<u8>)> {
+    let mut random = Random::new(1);
+    let linked: Vec<bool> = (0..MOST_ITEMS * MOST_ITEMS).map(|_| random.chance(15)).collect();
+    let sheet = |allowed: &mut dyn FnMut(usize, usize, usize, usize) -> bool| {
+        Draft::new(vec![MOST_SETTINGS as u8; MOST_ITEMS], |i, a, j, b| allowed(i, a, j, b)).bytes()
+    };
+    vec![
+        ("no block", sheet(&mut |_, _, _, _| true)),
+        ("every pair unequal", sheet(&mut |_, a, _, b| a != b)),
+        ("every pair a < b", sheet(&mut |_, a, _, b| a < b)),
+        ("every pair of unlike parity", sheet(&mut |_, a, _, b| (a + b) % 2 == 1)),
+        ("|a - b| >= 3 for every pair", sheet(&mut |_, a, _, b| a.abs_diff(b) >= 3)),
+        (
+            "eight groups of four, pairwise unequal",
+            sheet(&mut |i, a, j, b| i / 4 != j / 4 || a != b),
+        ),
+        (
+            "random, 15% of pairs, 30% barred",
+            sheet(&mut |i, _, j, _| !linked[i * MOST_ITEMS + j] || !random.chance(30)),
+        ),
+    ]
+}
+
+// ---- States -------------------------------------------------------------------------------------------------------------------------
+
+/// A state that fits the sheet: some items in, some settings on at each; now and then none.
+pub fn fitting_state(random: &mut Random, problem: &Problem) -> Masks {
+    let (stay, keep) = (random.pick(&[50, 80, 100]), random.pick(&[30, 60, 90, 100]));
+    let may_be_empty = random.chance(30);
+    let mut state = Masks {
+        items: 0,
+        settings: [0; MOST_ITEMS],
+    };
+    for (i, &size) in problem.sizes().iter().enumerate() {
+        if random.chance(stay) {
+            state.items |= 1 << i;
+            state.settings[i] = row(size, |_| random.chance(keep));
+        }
+        if state.items >> i & 1 == 1 && state.settings[i] == 0 && !may_be_empty {
+            state.settings[i] = 1 << random.below(size);
+        }
+    }
+    state
+}
+
+/// A state with one thing that may speak against it: an item beyond the sheet, a setting at an item out, a setting beyond the size.
+pub fn misfitting_state(random: &mut Random, problem: &Problem) -> [u8; STATE_LENGTH] {
+    let mut state = fitting_state(random, problem);
+    let i = random.below(MOST_ITEMS);
+    match random.below(5) {
+        0 => state.items |= 1 << i,
+        1 => state.settings[i] |= 1 << random.below(MOST_SETTINGS),
+        2 => state.items &= !(1 << random.below(problem.sizes().len())),
+        3 => {
+            let item = random.below(problem.sizes().len());
+            let beyond = problem.sizes()[item].min(MOST_SETTINGS - 1);
+            state.settings[item] |= 1 << random.from_to(beyond, MOST_SETTINGS - 1);
+        }
+        _ => {
+            let bytes = random.bytes(STATE_LENGTH);
+            return bytes.try_into().expect("as many bytes as asked for");
+        }
+    }
+    state.to_bytes()
+}
+
+/// An item to name in a hand call: mostly one of the sheet, and now and then a number far off it.
+pub fn named_item(random: &mut Random, problem: &Problem) -> u64 {
+    let n = problem.sizes().len() as u64;
+    match random.below(12) {
+        0 => random.pick(&[n, n + 1, 31, 32, 33, 64, 255, 256, 1 << 32, (1 << 32) + 1, 1 << 63, u64::MAX]),
+        1 => (random.below(n as usize) as u64).wrapping_add(random.pick(&[32, 64, 256, 1 << 16, 1 << 32])),
+        _ => random.below(n as usize) as u64,
+    }
+}
+
+// ---- Traces -------------------------------------------------------------------------------------------------------------------------
+
+/// A lawful trace of random steps of every kind, in no order of kinds, and the state it ends in.
+pub fn lawful_steps(random: &mut Random, problem: &Problem) -> (Vec<Step>, State) {
+    let most = random.pick(&[1, 2, 4, 8, 600]);
+    let liked = random.from_to(1, 5);
+    let mut state = State::full(problem);
+    let mut steps = Vec::new();
+    while steps.len() < most && !state.emptied() {
+        let kinds = [liked, random.from_to(1, 5), random.from_to(1, 5), 1, 2, 3, 4, 5];
+        let Some(step) = kinds.into_iter().find_map(|kind| lawful_step(random, problem, &state, kind)) else {
+            break;
+        };
+        state = problem.perform(&state, step);
+        steps.push(step);
+    }
+    (steps, state)
+}
+
+/// A lawful step of one kind, sought from a random place on among the candidates.
+fn lawful_step(random: &mut Random, problem: &Problem, state: &State, kind: usize) -> Option<Step> {
+    let candidates: Vec<Step> = problem.candidates(state, kind).collect();
+    let from = random.below(candidates.len().max(1));
+    candidates[from..]
+        .iter()
+        .chain(&candidates[..from])
+        .copied()
+        .take(60)
+        .find(|&step| problem.lawful(state, step))
+}
+
+/// The records of a trace, one after the other, and in another order, with one left out or twice, or of another kind.
+pub fn damaged_trace(random: &mut Random, steps: &[Step]) -> Vec<u8> {
+    let mut records: Vec<Vec<u8>> = steps.iter().map(|step| step.record()).collect();
+    if !records.is_empty() {
+        damage_records(random, &mut records);
+    }
+    let mut trace: Vec<u8> = std::iter::once(1).chain(records.into_iter().flatten()).collect();
+    if random.chance(40) {
+        damage_trace_bytes(random, &mut trace);
+    }
+    trace
+}
+
+fn damage_records(random: &mut Random, records: &mut Vec<Vec<u8>>) {
+    let (place, other) = (random.below(records.len()), random.below(records.len()));
+    match random.below(9) {
+        0 => records.swap(place, other),
+        1 => records.reverse(),
+        2 => {
+            records.remove(place);
+        }
+        3 => records.insert(other, records[place].clone()),
+        4 => records[place][1] = random.pick(&[0, 1, 2, 3, 4, 5, 6, 255]),
+        5 => records[place][0] = random.pick(&[0, 1, 2, 3, 4, 5, 255]),
+        6 => {
+            let field = random.from_to(2, records[place].len() - 1);
+            records[place][field] = random.pick(&[0, 1, 2, 3, 15, 16, 31, 32, 33, 255]);
+        }
+        7 => {
+            let (i, third, fourth) = (random.below(4) as u8, random.below(4) as u8, random.below(4) as u8);
+            let kind = random.from_to(1, 5) as u8;
+            let record = if kind == 2 || kind == 3 {
+                vec![3, kind, i, third]
+            } else {
+                vec![4, kind, i, third, fourth]
+            };
+            records.insert(place, record);
+        }
+        _ => {}
+    }
+}
+
+fn damage_trace_bytes(random: &mut Random, trace: &mut Vec<u8>) {
+    let place = random.below(trace.len());
+    match random.below(6) {
+        0 => trace[place] ^= 1 << random.below(8),
+        1 => trace.truncate(place),
+        2 => trace.push(random.pick(&[0, 3, 4, 255])),
+        3 => trace[0] = random.pick(&[0, 2, 255]),
+        4 => trace.extend([3, 2, 0, 0]),
+        _ => {
+            trace.remove(place);
+        }
+    }
+}
+
+// ---- Plans --------------------------------------------------------------------------------------------------------------------------
+
+/// A plan for the items left, sought in a random order of the settings; none where there is none, or where the search takes too long.
+pub fn find_plan(random: &mut Random, problem: &Problem, state: &State) -> Option<Vec<u8>> {
+    let mut plan = vec![OUT; problem.sizes().len()];
+    let mut tries = 3000;
+    place(random, problem, state, 0, &mut plan, &mut tries).then_some(plan)
+}
+
+fn place(random: &mut Random, problem: &Problem, state: &State, at: usize, plan: &mut [u8], tries: &mut usize) -> bool {
+    let Some(&i) = state.active().get(at) else {
+        return true;
+    };
+    let live = state.live(i);
+    let from = random.below(live.len().max(1));
+    for &a in live[from..].iter().chain(&live[..from]) {
+        *tries = tries.saturating_sub(1);
+        plan[i] = a as u8;
+        let agrees = state.active()[..at].iter().all(|&j| problem.allowed(i, a, j, usize::from(plan[j])));
+        if *tries > 0 && agrees && place(random, problem, state, at + 1, plan, tries) {
+            return true;
+        }
+    }
+    plan[i] = OUT;
+    false
+}
+
+/// A plan with one thing that may speak against it.
+pub fn damaged_plan(random: &mut Random, plan: &[u8]) -> Vec<u8> {
+    let mut plan = plan.to_vec();
+    let place = random.below(plan.len());
+    match random.below(5) {
+        0 => plan[place] = OUT,
+        1 => plan[place] = random.below(4) as u8,
+        2 => plan[place] = random.pick(&[0, 15, 16, 17, 32, 254, 255]),
+        3 => plan.push(0),
+        _ => {
+            plan.pop();
+        }
+    }
+    plan
+}

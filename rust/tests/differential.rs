@@ -1,0 +1,524 @@
+//! Compares every job of the proved library with the reference and with the fast implementation: answers, and each lent byte afterwards.
+//!
+//! ZOMUWEDLI_SEED: the seed. ZOMUWEDLI_PART: a divisor of the sizes; above 1 the least counts are printed but not demanded.
+
+use std::collections::BTreeMap;
+use std::fmt::Debug;
+
+use zomuwedli::boundary::{self, End, HandCall, PutBack, Read, Refusal, Run, Start, HAND_STATE_LENGTH, STATE_LENGTH};
+use zomuwedli::fast::Workspace;
+use zomuwedli::generate::{self, Random};
+use zomuwedli::reference::{self, Problem, State, Step, OUT};
+
+const SEED: u64 = 20_260_917;
+
+/// How many cases each part has; a case of sheets compares about six calls, one of the others about as many.
+const SHEETS: u64 = 104_000;
+const LARGE_SHEETS: u64 = 160;
+const HAND_LISTS: u64 = 9_000;
+const TRACES: u64 = 9_000;
+
+/// The least counts.
+const LEAST_SHEETS: u64 = 100_000;
+const LEAST_CALLS: u64 = 20_000;
+const LEAST_OF_EACH: u64 = 100;
+
+const JOBS: [&str; 5] = ["read", "run", "start", "hand call", "put back"];
+const KINDS: [&str; 5] = ["bare", "snake", "fold", "cover", "slide"];
+
+fn main() {
+    let seed = number("ZOMUWEDLI_SEED", SEED);
+    let divisor = number("ZOMUWEDLI_PART", 1).max(1);
+    let mut comparison = Comparison::new(seed);
+    comparison.part("sheets", SHEETS / divisor, sheet_case);
+    comparison.part("large sheets", LARGE_SHEETS / divisor, large_case);
+    comparison.part("hand calls", HAND_LISTS / divisor, hand_case);
+    comparison.part("putting back", TRACES / divisor, trace_case);
+    comparison.part("large sheets put back", LARGE_SHEETS / 4 / divisor, large_trace_case);
+    comparison.counts.print();
+    let missing = comparison.counts.missing();
+    missing
+        .iter()
+        .for_each(|line| println!("{}: {line}", if divisor == 1 { "too few" } else { "not demanded of a part" }));
+    println!("differential: {} calls compared, 0 differences", comparison.counts.calls());
+    if divisor == 1 && !missing.is_empty() {
+        std::process::exit(1);
+    }
+}
+
+fn number(name: &str, default: u64) -> u64 {
+    std::env::var(name).map_or(default, |text| text.parse().unwrap_or_else(|_| panic!("{name} is not a number")))
+}
+
+// ---- Counts -------------------------------------------------------------------------------------------------------------------------
+
+#[derive(Default)]
+struct Counts {
+    sheets: u64,
+    accepted_sheets: u64,
+    /// By job and number, 0 for accepted.
+    answers: BTreeMap<(usize, u8), u64>,
+    ends: BTreeMap<u8, u64>,
+    run_steps: [u64; 6],
+    lent_records: [u64; 6],
+    slides_not_covers: u64,
+    changed_when_undone: u64,
+}
+
+impl Counts {
+    fn calls(&self) -> u64 {
+        self.answers.values().sum()
+    }
+
+    fn of_job(&self, job: usize) -> u64 {
+        self.answers.iter().filter(|(key, _)| key.0 == job).map(|(_, count)| count).sum()
+    }
+
+    fn of_number(&self, number: u8) -> u64 {
+        self.answers.iter().filter(|(key, _)| key.1 == number).map(|(_, count)| count).sum()
+    }
+
+    fn print(&self) {
+        println!("sheets: {}, {} of them accepted", self.sheets, self.accepted_sheets);
+        println!("{:>10} {}", "answer", JOBS.map(|job| format!("{job:>10}")).join(" "));
+        for number in std::iter::once(0).chain(Refusal::ALL.map(Refusal::number)) {
+            let name = if number == 0 { "accepted".to_string() } else { number.to_string() };
+            let count = |job: usize| format!("{:>10}", self.answers.get(&(job, number)).unwrap_or(&0));
+            println!("{name:>10} {}", [0, 1, 2, 3, 4].map(count).join(" "));
+        }
+        println!(
+            "{:>10} {}",
+            "all",
+            [0, 1, 2, 3, 4].map(|job| format!("{:>10}", self.of_job(job))).join(" ")
+        );
+        let ends = [End::Impossible, End::Solved, End::Rest].map(|end| format!("{end:?} {}", self.ends.get(&end.number()).unwrap_or(&0)));
+        println!("ends of runs: {}", ends.join(", "));
+        println!("steps of runs: {}", by_kind(&self.run_steps));
+        println!("records of accepted lent traces: {}", by_kind(&self.lent_records));
+        println!("slides among them that are no covers: {}", self.slides_not_covers);
+        println!(
+            "plans put back in which an item left has another setting than before: {}",
+            self.changed_when_undone
+        );
+    }
+
+    /// What falls short of its least count.
+    fn missing(&self) -> Vec<String> {
+        let jobs = [(3, LEAST_CALLS), (4, LEAST_CALLS)].map(|(job, least)| (JOBS[job].to_string(), self.of_job(job), least));
+        let refusals = Refusal::ALL.map(|refusal| {
+            (
+                format!("refusal {}", refusal.number()),
+                self.of_number(refusal.number()),
+                LEAST_OF_EACH,
+            )
+        });
+        let ends = [0, 1, 2].map(|end| (format!("end {end}"), *self.ends.get(&end).unwrap_or(&0), LEAST_OF_EACH));
+        let steps = [1, 2, 3, 4].map(|kind| (format!("steps of runs of kind {kind}"), self.run_steps[kind], LEAST_OF_EACH));
+        let records = [1, 2, 3, 4, 5].map(|kind| (format!("lent records of kind {kind}"), self.lent_records[kind], LEAST_OF_EACH));
+        let others = [
+            ("sheets".to_string(), self.sheets, LEAST_SHEETS),
+            ("slides that are no covers".to_string(), self.slides_not_covers, LEAST_OF_EACH),
+            (
+                "settings changed when put back".to_string(),
+                self.changed_when_undone,
+                LEAST_OF_EACH,
+            ),
+        ];
+        let all = jobs
+            .into_iter()
+            .chain(refusals)
+            .chain(ends)
+            .chain(steps)
+            .chain(records)
+            .chain(others);
+        all.filter(|(_, count, least)| count < least)
+            .map(|(name, count, least)| format!("{name}: {count}, least {least}"))
+            .collect()
+    }
+}
+
+fn by_kind(counts: &[u64; 6]) -> String {
+    [1, 2, 3, 4, 5]
+        .map(|kind| format!("{} {}", KINDS[kind - 1], counts[kind]))
+        .join(", ")
+}
+
+// ---- One call of each implementation ------------------------------------------------------------------------------------------------
+
+struct Comparison {
+    seed: u64,
+    part: &'static str,
+    case: u64,
+    fast: Workspace,
+    counts: Counts,
+}
+
+/// Bytes on the heap, in a box of exactly their number: memcheck sees every access beyond.
+type Lent = Box<[u8]>;
+
+fn lend(bytes: &[u8]) -> Lent {
+    Box::from(bytes)
+}
+
+/// A buffer whose old bytes differ from place to place.
+fn buffer(length: usize) -> Lent {
+    (0..length).map(|place| (place * 167 + 59) as u8).collect()
+}
+
+fn hexadecimal(bytes: &[u8]) -> String {
+    bytes.iter().map(|byte| format!("{byte:02x}")).collect()
+}
+
+/// The number of an answer, 0 for accepted.
+trait Answer: Copy + PartialEq + Debug {
+    fn number(self) -> u8;
+}
+
+macro_rules! answers {
+    ($($answer:ident),*) => {$(
+        impl Answer for $answer {
+            fn number(self) -> u8 {
+                match self {
+                    $answer::Refused(refusal) => refusal.number(),
+                    _ => 0,
+                }
+            }
+        }
+    )*};
+}
+
+answers!(Read, Run, Start, HandCall, PutBack);
+
+impl Comparison {
+    fn new(seed: u64) -> Comparison {
+        Comparison {
+            seed,
+            part: "",
+            case: 0,
+            fast: Workspace::new(),
+            counts: Counts::default(),
+        }
+    }
+
+    fn part(&mut self, part: &'static str, cases: u64, compare: fn(&mut Comparison, &mut Random)) {
+        self.part = part;
+        let salt = part.bytes().fold(0, |salt, byte| salt * 31 + u64::from(byte));
+        for case in 0..cases {
+            self.case = case;
+            let place = OnPanic(self.seed, part, case);
+            compare(self, &mut Random::of_case(self.seed, salt, case));
+            std::mem::forget(place);
+        }
+    }
+
+    /// Calls the three implementations, each with its own copies of the lent bytes: inputs, and buffers that it may write. All must give
+    /// one answer and leave the same bytes, and a refused call must leave them as they were.
+    fn call<A: Answer>(
+        &mut self,
+        job: usize,
+        inputs: &[&[u8]],
+        buffers: &[&[u8]],
+        note: &str,
+        calls: [&dyn Fn(&mut Workspace, &[Lent], &mut [Lent]) -> A; 3],
+    ) -> (A, Vec<Lent>) {
+        let results = calls.map(|call| {
+            let lent: Vec<Lent> = inputs.iter().map(|bytes| lend(bytes)).collect();
+            let mut written: Vec<Lent> = buffers.iter().map(|bytes| lend(bytes)).collect();
+            let answer = call(&mut self.fast, &lent, &mut written);
+            (answer, lent, written)
+        });
+        let [proved, reference, fast] = &results;
+        let inputs_stay = results
+            .iter()
+            .all(|(_, lent, _)| lent.iter().zip(inputs).all(|(after, before)| **after == **before));
+        let unchanged = results
+            .iter()
+            .all(|(_, _, written)| written.iter().zip(buffers).all(|(after, before)| **after == **before));
+        let alike = proved.0 == reference.0 && proved.2 == reference.2 && fast.0 == reference.0 && fast.2 == reference.2;
+        if !alike || !inputs_stay || (reference.0.number() != 0 && !unchanged) {
+            self.difference(job, inputs, buffers, note);
+            for (name, (answer, lent, written)) in ["proved", "reference", "fast"].into_iter().zip(&results) {
+                println!("{name}: {answer:?}");
+                written.iter().for_each(|bytes| println!("    written {}", hexadecimal(bytes)));
+                lent.iter()
+                    .zip(inputs)
+                    .filter(|(a, b)| ***a != ***b)
+                    .for_each(|(a, _)| println!("    input now {}", hexadecimal(a)));
+            }
+            std::process::exit(1);
+        }
+        *self.counts.answers.entry((job, reference.0.number())).or_default() += 1;
+        let [proved, ..] = results;
+        (proved.0, proved.2)
+    }
+
+    fn difference(&self, job: usize, inputs: &[&[u8]], buffers: &[&[u8]], note: &str) {
+        println!(
+            "difference in {}: seed {}, {}, case {}{note}",
+            JOBS[job], self.seed, self.part, self.case
+        );
+        inputs.iter().for_each(|bytes| println!("    input {}", hexadecimal(bytes)));
+        buffers.iter().for_each(|bytes| println!("    buffer {}", hexadecimal(bytes)));
+    }
+
+    fn read(&mut self, sheet: &[u8]) -> Read {
+        self.counts.sheets += 1;
+        let (answer, _) = self.call(
+            0,
+            &[sheet],
+            &[],
+            "",
+            [
+                &|_, lent, _| boundary::read(&lent[0]),
+                &|_, lent, _| reference::read(&lent[0]),
+                &|fast, lent, _| fast.read(&lent[0]),
+            ],
+        );
+        self.counts.accepted_sheets += u64::from(answer.number() == 0);
+        answer
+    }
+
+    fn run(&mut self, sheet: &[u8], trace_length: usize, state_length: usize) -> (Run, Lent, Lent) {
+        let (answer, written) = self.call(
+            1,
+            &[sheet],
+            &[&buffer(trace_length), &buffer(state_length)],
+            "",
+            [
+                &|_, lent, written| on_two(written, |trace, state| boundary::run(&lent[0], trace, state)),
+                &|_, lent, written| on_two(written, |trace, state| reference::run(&lent[0], trace, state)),
+                &|fast, lent, written| on_two(written, |trace, state| fast.run(&lent[0], trace, state)),
+            ],
+        );
+        let [trace, state] = <[Lent; 2]>::try_from(written).expect("two buffers");
+        (answer, trace, state)
+    }
+
+    fn start(&mut self, sheet: &[u8], state_length: usize) -> (Start, Lent) {
+        let (answer, mut written) = self.call(
+            2,
+            &[sheet],
+            &[&buffer(state_length)],
+            "",
+            [
+                &|_, lent, written| boundary::start(&lent[0], &mut written[0]),
+                &|_, lent, written| reference::start(&lent[0], &mut written[0]),
+                &|fast, lent, written| fast.start(&lent[0], &mut written[0]),
+            ],
+        );
+        (answer, written.remove(0))
+    }
+
+    fn hand_call(&mut self, sheet: &[u8], state: &[u8], item: u64) -> (HandCall, Lent) {
+        let (answer, mut written) = self.call(
+            3,
+            &[sheet],
+            &[state],
+            &format!(", item {item}"),
+            [
+                &|_, lent, written| boundary::hand_call(&lent[0], &mut written[0], item),
+                &|_, lent, written| reference::hand_call(&lent[0], &mut written[0], item),
+                &|fast, lent, written| fast.hand_call(&lent[0], &mut written[0], item),
+            ],
+        );
+        (answer, written.remove(0))
+    }
+
+    fn put_back(&mut self, sheet: &[u8], trace: &[u8], plan: &[u8], result_length: usize) -> (PutBack, Lent) {
+        let (answer, mut written) = self.call(
+            4,
+            &[sheet, trace, plan],
+            &[&buffer(result_length)],
+            "",
+            [
+                &|_, lent, written| boundary::put_back(&lent[0], &lent[1], &lent[2], &mut written[0]),
+                &|_, lent, written| reference::put_back(&lent[0], &lent[1], &lent[2], &mut written[0]),
+                &|fast, lent, written| fast.put_back(&lent[0], &lent[1], &lent[2], &mut written[0]),
+            ],
+        );
+        (answer, written.remove(0))
+    }
+
+    /// Counts what an accepted lent trace holds.
+    fn count_lent(&mut self, problem: &Problem, trace: &[u8], plan: &[u8], result: &[u8]) {
+        let (steps, _) = reference::replay(problem, trace).expect("the trace was accepted");
+        for (before, step) in steps {
+            self.counts.lent_records[step.kind()] += 1;
+            if let Step::SnakeSubstitution { i, b, a } = step {
+                self.counts.slides_not_covers += u64::from(!problem.neighbourhood(&before, i, b, a));
+            }
+        }
+        let moved = plan.iter().zip(result).any(|(&left, &full)| left != OUT && left != full);
+        self.counts.changed_when_undone += u64::from(moved);
+    }
+}
+
+fn on_two<A>(written: &mut [Lent], call: impl FnOnce(&mut [u8], &mut [u8]) -> A) -> A {
+    let [first, second] = written else { panic!("two buffers") };
+    call(first, second)
+}
+
+/// Says where a panic came from; forgotten where there was none.
+struct OnPanic(u64, &'static str, u64);
+
+impl Drop for OnPanic {
+    fn drop(&mut self) {
+        println!("difference: a panic at seed {}, {}, case {}", self.0, self.1, self.2);
+    }
+}
+
+// ---- Cases --------------------------------------------------------------------------------------------------------------------------
+
+/// A length that is wrong by a little or by much.
+fn wrong_length(random: &mut Random, right: usize) -> usize {
+    random.pick(&[0, right - 1, right + 1, right + 7])
+}
+
+fn trace_length(problem: &Problem) -> usize {
+    1 + 5 * problem.sizes().iter().sum::<usize>()
+}
+
+/// Read, run and start on one sheet, three in ten of them with a fault.
+fn sheet_case(comparison: &mut Comparison, random: &mut Random) {
+    let sheet = if random.chance(30) {
+        generate::damaged_sheet(random)
+    } else {
+        generate::random_draft(random).bytes()
+    };
+    every_job(comparison, random, &sheet);
+}
+
+fn large_case(comparison: &mut Comparison, random: &mut Random) {
+    let sheet = generate::large_draft(random).bytes();
+    every_job(comparison, random, &sheet);
+}
+
+fn every_job(comparison: &mut Comparison, random: &mut Random, sheet: &[u8]) {
+    comparison.read(sheet);
+    match reference::read_sheet(sheet) {
+        Ok((problem, _)) => accepted_sheet(comparison, random, sheet, &problem),
+        Err(_) => refused_sheet(comparison, random, sheet),
+    }
+}
+
+/// Trace buffers exact, longer, too short by one and empty; state buffers now and then of a wrong length, which is judged first.
+fn accepted_sheet(comparison: &mut Comparison, random: &mut Random, sheet: &[u8], problem: &Problem) {
+    let exact = trace_length(problem);
+    let (answer, trace, _) = comparison.run(sheet, exact, STATE_LENGTH);
+    if let Run::Done { end, written, .. } = answer {
+        *comparison.counts.ends.entry(end.number()).or_default() += 1;
+        let (steps, _) = reference::replay(problem, &trace[..usize::from(written)]).expect("a run's own trace is lawful");
+        steps.iter().for_each(|(_, step)| comparison.counts.run_steps[step.kind()] += 1);
+    }
+    if random.chance(50) {
+        comparison.run(sheet, exact + random.from_to(1, 40), STATE_LENGTH);
+    }
+    comparison.run(sheet, exact - 1, STATE_LENGTH);
+    comparison.run(sheet, 0, STATE_LENGTH);
+    comparison.start(sheet, HAND_STATE_LENGTH);
+    if random.chance(5) {
+        comparison.run(sheet, random.pick(&[0, exact - 1, exact]), wrong_length(random, STATE_LENGTH));
+        comparison.start(sheet, wrong_length(random, HAND_STATE_LENGTH));
+    }
+}
+
+/// Each job reads its sheet first: whatever else is wrong, the sheet's number is the answer; but the boundary looks at states before.
+fn refused_sheet(comparison: &mut Comparison, random: &mut Random, sheet: &[u8]) {
+    let wrong = random.chance(10);
+    let state_length = if wrong { wrong_length(random, STATE_LENGTH) } else { STATE_LENGTH };
+    comparison.run(sheet, random.pick(&[0, 1, 100, 2561]), state_length);
+    comparison.start(sheet, state_length);
+    let state = random.bytes(state_length);
+    comparison.hand_call(sheet, &state, random.pick(&[0, 1, 32, u64::MAX]));
+    let (trace, plan) = (random.bytes(3), random.bytes(2));
+    comparison.put_back(sheet, random.pick(&[&[1][..], &[], &trace]), &plan, random.pick(&[0, 2, 3]));
+}
+
+/// A list of hand calls from the start state, from a state that fits or from one that does not; each call is given what the one before
+/// answered.
+fn hand_case(comparison: &mut Comparison, random: &mut Random) {
+    let sheet = generate::random_draft(random).bytes();
+    let (problem, _) = reference::read_sheet(&sheet).expect("the sheet keeps the layout");
+    let mut state = match random.below(4) {
+        0 => lend(&generate::misfitting_state(random, &problem)),
+        1 => lend(&generate::fitting_state(random, &problem).to_bytes()),
+        2 => lend(&arc_consistent(&problem, &generate::fitting_state(random, &problem).to_bytes())),
+        _ => comparison.start(&sheet, HAND_STATE_LENGTH).1,
+    };
+    for _ in 0..random.from_to(1, 6) {
+        let item = generate::named_item(random, &problem);
+        state = comparison.hand_call(&sheet, &state, item).1;
+    }
+    if random.chance(10) {
+        let length = wrong_length(random, HAND_STATE_LENGTH);
+        let state = random.bytes(length);
+        comparison.hand_call(&sheet, &state, 0);
+    }
+}
+
+fn arc_consistent(problem: &Problem, state: &[u8]) -> Vec<u8> {
+    problem.arc_consistent(&State::from_bytes(state)).to_bytes()
+}
+
+/// A sheet whose traces and plans are put back: mostly small.
+fn trace_case(comparison: &mut Comparison, random: &mut Random) {
+    let draft = if random.chance(60) {
+        generate::small_draft(random)
+    } else {
+        generate::random_draft(random)
+    };
+    put_back_calls(comparison, random, &draft.bytes());
+}
+
+fn large_trace_case(comparison: &mut Comparison, random: &mut Random) {
+    let sheet = generate::large_draft(random).bytes();
+    put_back_calls(comparison, random, &sheet);
+}
+
+/// The run's own trace, a lawful one, and damaged ones; a plan of what is left where the search finds one, and damaged ones.
+fn put_back_calls(comparison: &mut Comparison, random: &mut Random, sheet: &[u8]) {
+    let (problem, _) = reference::read_sheet(sheet).expect("the sheet keeps the layout");
+    let own = problem.reduce();
+    let lawful = generate::lawful_steps(random, &problem);
+    for (steps, last) in [own, lawful] {
+        let trace = reference::trace_of(&steps);
+        let plan = generate::find_plan(random, &problem, &last);
+        let plan = plan.unwrap_or_else(|| generate_any_plan(random, &problem, &last));
+        put_back_variants(comparison, random, sheet, &problem, &steps, &trace, &plan);
+    }
+}
+
+/// A setting on for each item in, whether or not they may stand together.
+fn generate_any_plan(random: &mut Random, problem: &Problem, state: &State) -> Vec<u8> {
+    let value = |i: usize, random: &mut Random| match state.live(i) {
+        [] => OUT,
+        live => random.pick(live) as u8,
+    };
+    (0..problem.sizes().len()).map(|i| value(i, random)).collect()
+}
+
+fn put_back_variants(
+    comparison: &mut Comparison,
+    random: &mut Random,
+    sheet: &[u8],
+    problem: &Problem,
+    steps: &[Step],
+    trace: &[u8],
+    plan: &[u8],
+) {
+    let n = problem.sizes().len();
+    let damaged_trace = generate::damaged_trace(random, steps);
+    let damaged_plan = generate::damaged_plan(random, plan);
+    let wrong_result = if random.chance(10) { wrong_length(random, n) } else { n };
+    for (trace, plan, length) in [
+        (trace, plan, n),
+        (trace, &damaged_plan[..], n),
+        (&damaged_trace[..], plan, n),
+        (&damaged_trace[..], &damaged_plan[..], wrong_result),
+    ] {
+        let (answer, result) = comparison.put_back(sheet, trace, plan, length);
+        if answer == PutBack::Done {
+            comparison.count_lent(problem, trace, plan, &result);
+        }
+    }
+}
