@@ -151,12 +151,12 @@ enum Network {
 
 impl Network {
     fn random(random: &mut Random) -> Network {
-        match random.below(8) {
-            0 => Network::Clique,
-            1 => Network::Cycle,
-            2 => Network::Tree,
-            3 => Network::Star,
-            4 => Network::Groups(random.from_to(2, 4)),
+        match random.below(10) {
+            0..=2 => Network::Clique,
+            3 => Network::Cycle,
+            4 => Network::Tree,
+            5 => Network::Star,
+            6 => Network::Groups(random.from_to(2, 4)),
             _ => Network::Sparse(random.pick(&[15, 30, 50, 70, 90])),
         }
     }
@@ -177,7 +177,7 @@ impl Network {
 /// How many items and how large: mostly small, many middling, some large.
 fn random_sizes(random: &mut Random) -> Vec<u8> {
     let (n, most) = match random.below(1000) {
-        0..=699 => (random.from_to(1, 5), random.pick(&[2, 3, 4])),
+        0..=699 => (random.pick(&[1, 2, 3, 3, 4, 4, 5, 5, 6]), random.pick(&[2, 3, 3, 4])),
         700..=899 => (random.from_to(2, 6), random.pick(&[3, 5, 6])),
         900..=979 => (random.from_to(5, 9), random.pick(&[2, 3, 5, 8])),
         980..=994 => (random.from_to(1, 3), MOST_SETTINGS),
@@ -193,7 +193,7 @@ fn random_sizes(random: &mut Random) -> Vec<u8> {
 fn fill(random: &mut Random, sizes: Vec<u8>, network: Network) -> Draft {
     let style = random.below(3);
     let for_all = random.pick(&RELATIONS);
-    let barred = random.pick(&[5, 15, 30, 50, 70]);
+    let barred = random.pick(&[5, 20, 35, 45, 55, 70]);
     let classes = random.pick(&[2, 3, MOST_SETTINGS, MOST_SETTINGS]);
     let n = sizes.len();
     let relations: Vec<Vec<bool>> = (0..n * n)
@@ -234,7 +234,8 @@ pub fn large_draft(random: &mut Random) -> Draft {
 /// A small sheet of a few items, with a plan more often than not.
 pub fn small_draft(random: &mut Random) -> Draft {
     let n = random.from_to(2, 5);
-    let sizes = (0..n).map(|_| random.from_to(1, 3) as u8).collect();
+    let least = random.pick(&[1, 2]);
+    let sizes = (0..n).map(|_| random.from_to(least, 3) as u8).collect();
     let network = Network::random(random);
     fill(random, sizes, network)
 }
@@ -298,7 +299,7 @@ fn damage_block(random: &mut Random, draft: &mut Draft) {
         1 => block.i = block.j,
         2 => block.j = n.wrapping_add(random.pick(&[0, 1, 30])),
         3 => block.rows.iter_mut().for_each(|row| *row = u16::MAX >> (MOST_SETTINGS - size)),
-        4 | 5 => {
+        4 | 5 if !block.rows.is_empty() => {
             let line = random.below(block.rows.len());
             block.rows[line] |= 1 << random.from_to(size.min(MOST_SETTINGS - 1), MOST_SETTINGS - 1);
         }
@@ -438,7 +439,7 @@ fn lawful_step(random: &mut Random, problem: &Problem, state: &State, kind: usiz
         .find(|&step| problem.lawful(state, step))
 }
 
-/// The records of a trace, one after the other, and in another order, with one left out or twice, or of another kind.
+/// A trace with a fault in its records or its bytes, or in both: whether it shows is for the reader to say.
 pub fn damaged_trace(random: &mut Random, steps: &[Step]) -> Vec<u8> {
     let mut records: Vec<Vec<u8>> = steps.iter().map(|step| step.record()).collect();
     if !records.is_empty() {

@@ -1,1 +1,258 @@
+//! The bench sheets of document 01, by the wrappers, with their bytes and the expected bytes written out.
 
+use zomuwedli::boundary::{
+    hand_call, put_back, read, run, start, End, HandCall, PutBack, Read, Refusal, Run, Start, State, HAND_STATE_LENGTH, STATE_LENGTH,
+};
+
+const A: [u8; 9] = [1, 0, 0, 0, 9, 1, 0, 0, 2];
+const B: [u8; 16] = [1, 0, 0, 0, 16, 2, 0, 1, 2, 2, 0, 1, 0, 2, 0, 1];
+#[rustfmt::skip]
+const C: [u8; 29] = [
+    1, 0, 0, 0, 29, 3, 0, 3, 2, 2, 2,
+    0, 1, 0, 2, 0, 1,
+    0, 2, 0, 2, 0, 1,
+    1, 2, 0, 2, 0, 1,
+];
+const D: [u8; 14] = [1, 0, 0, 0, 14, 2, 0, 1, 1, 1, 0, 1, 0, 0];
+#[rustfmt::skip]
+const E: [u8; 30] = [
+    1, 0, 0, 0, 30, 4, 0, 3, 2, 2, 2, 2,
+    0, 1, 0, 2, 0, 1,
+    0, 2, 0, 2, 0, 1,
+    0, 3, 0, 2, 0, 1,
+];
+#[rustfmt::skip]
+const F: [u8; 35] = [
+    1, 0, 0, 0, 35, 3, 0, 3, 3, 3, 3,
+    0, 1, 0, 6, 0, 5, 0, 3,
+    0, 2, 0, 6, 0, 5, 0, 3,
+    1, 2, 0, 1, 0, 3, 0, 7,
+];
+#[rustfmt::skip]
+const G: [u8; 36] = [
+    1, 0, 0, 0, 36, 4, 0, 4, 2, 2, 2, 2,
+    0, 1, 0, 2, 0, 1,
+    0, 2, 0, 2, 0, 1,
+    0, 3, 0, 1, 0, 2,
+    1, 2, 0, 2, 0, 1,
+];
+#[rustfmt::skip]
+const H: [u8; 33] = [
+    1, 0, 0, 0, 33, 3, 0, 3, 3, 2, 2,
+    0, 1, 0, 2, 0, 1, 0, 2,
+    0, 2, 0, 2, 0, 1, 0, 2,
+    1, 2, 0, 2, 0, 1,
+];
+
+/// What the old bytes of a buffer are.
+const OLD: u8 = 0xa5;
+
+/// Runs a sheet in a buffer that is three bytes longer than asked for, and answers the end, the last state and the whole buffer.
+fn worked(sheet: &[u8], sum_of_sizes: usize) -> (Run, State, Vec<u8>) {
+    let mut trace = vec![OLD; 1 + 5 * sum_of_sizes + 3];
+    let mut state = [OLD; STATE_LENGTH];
+    let answer = run(sheet, &mut trace, &mut state);
+    (answer, State::from_bytes(&state), trace)
+}
+
+/// The sheet runs to this end with this trace, with the buffer's old bytes after it; answers the last state.
+fn runs(sheet: &[u8], sum_of_sizes: usize, end: End, steps: u16, trace: &[u8]) -> State {
+    let (answer, state, buffer) = worked(sheet, sum_of_sizes);
+    assert_eq!(
+        answer,
+        Run::Done {
+            end,
+            steps,
+            written: trace.len() as u16
+        }
+    );
+    assert_eq!(buffer[..trace.len()], *trace);
+    assert!(buffer[trace.len()..].iter().all(|&byte| byte == OLD));
+    state
+}
+
+fn state(items: u32, settings: &[u16]) -> State {
+    State {
+        items,
+        settings: std::array::from_fn(|i| settings.get(i).copied().unwrap_or(0)),
+    }
+}
+
+fn started(sheet: &[u8]) -> [u8; HAND_STATE_LENGTH] {
+    let mut state = [OLD; HAND_STATE_LENGTH];
+    assert_eq!(start(sheet, &mut state), Start::Started);
+    state
+}
+
+fn hand_refused(sheet: &[u8], item: u64, refusal: Refusal) {
+    let mut state = started(sheet);
+    let given = state;
+    assert_eq!(hand_call(sheet, &mut state, item), HandCall::Refused(refusal));
+    assert_eq!(state, given);
+}
+
+fn refused(sheet: &[u8], number: u8) {
+    let refusal = Refusal::from_number(number).unwrap();
+    let mut state = [OLD; STATE_LENGTH];
+    assert_eq!(read(sheet), Read::Refused(refusal));
+    assert_eq!(start(sheet, &mut state), Start::Refused(refusal));
+    assert_eq!(run(sheet, &mut [OLD; 21], &mut state), Run::Refused(refusal));
+    assert_eq!(state, [OLD; STATE_LENGTH]);
+}
+
+#[test]
+fn a_one_item() {
+    assert_eq!(read(&A), Read::Accepted { items: 1, blocks: 0 });
+    assert_eq!(runs(&A, 2, End::Solved, 1, &[1, 3, 2, 0, 0]), state(0, &[]));
+    assert_eq!(State::from_bytes(&started(&A)), state(1, &[3]));
+}
+
+#[test]
+fn b_two_unequal_items() {
+    assert_eq!(read(&B), Read::Accepted { items: 2, blocks: 1 });
+    runs(&B, 4, End::Solved, 2, &[1, 3, 2, 0, 0, 3, 2, 1, 0]);
+    let mut plan = [OLD; 2];
+    assert_eq!(put_back(&B, &[1, 3, 2, 0, 0, 3, 2, 1, 0], &[255, 255], &mut plan), PutBack::Done);
+    assert_eq!(plan, [0, 1]);
+}
+
+#[test]
+fn b_buffers() {
+    let (mut exact, mut short) = ([OLD; 21], [OLD; 20]);
+    let mut state = [OLD; STATE_LENGTH];
+    assert_eq!(run(&B, &mut short, &mut state), Run::Refused(Refusal::TraceBuffer));
+    assert_eq!((short, state), ([OLD; 20], [OLD; STATE_LENGTH]));
+    assert_eq!(
+        run(&B, &mut exact, &mut state),
+        Run::Done {
+            end: End::Solved,
+            steps: 2,
+            written: 9
+        }
+    );
+}
+
+/// The numbers of the lines `sheet 2 4` and `solved 2 0 0`.
+#[test]
+fn b_printed() {
+    let Read::Accepted { items, .. } = read(&B) else {
+        panic!("accepted")
+    };
+    let sum_of_sizes: u32 = B[8..10].iter().map(|&size| u32::from(size)).sum();
+    assert_eq!((items, sum_of_sizes), (2, 4));
+    let (answer, last, _) = worked(&B, 4);
+    let Run::Done { end, steps, .. } = answer else { panic!("accepted") };
+    assert_eq!((end, steps, last.items_in(), last.settings_on()), (End::Solved, 2, 0, 0));
+}
+
+#[test]
+fn c_three_unequal_items() {
+    let last = runs(&C, 6, End::Rest, 0, &[1]);
+    assert_eq!(last, state(7, &[3, 3, 3]));
+    assert_eq!((last.items_in(), last.settings_on()), (3, 6));
+    assert!(every_plan(3, 2).iter().all(|plan| !is_plan(&C, plan)));
+}
+
+#[test]
+fn d_barred_pair() {
+    assert_eq!(runs(&D, 2, End::Impossible, 1, &[1, 4, 1, 0, 0, 1]), state(3, &[0, 1]));
+    assert_eq!(State::from_bytes(&started(&D)), state(3, &[]));
+    hand_refused(&D, 0, Refusal::ItemEmpty);
+}
+
+#[test]
+fn e_header_and_three() {
+    let trace = [1, 3, 2, 0, 0, 3, 2, 1, 0, 3, 2, 2, 0, 3, 2, 3, 0];
+    runs(&E, 8, End::Solved, 4, &trace);
+    assert_eq!(every_plan(4, 2).iter().filter(|plan| is_plan(&E, plan)).count(), 2);
+    let left = every_plan(3, 2);
+    assert_eq!(left.len(), 8);
+    for plan in left {
+        let mut full = [OLD; 4];
+        assert_eq!(put_back(&E, &trace[..5], &[&[255], &plan[..]].concat(), &mut full), PutBack::Done);
+        assert_eq!(full, [0, 1, 1, 1]);
+    }
+}
+
+#[test]
+fn f_setting_0_does_not_serve() {
+    let trace = [1, 3, 2, 0, 1, 3, 2, 1, 0, 3, 2, 2, 0];
+    runs(&F, 9, End::Solved, 3, &trace);
+    let mut plan = [OLD; 3];
+    assert_eq!(put_back(&F, &trace, &[255; 3], &mut plan), PutBack::Done);
+    assert_eq!(plan, [1, 0, 0]);
+    let other = [1, 3, 2, 0, 0];
+    assert_eq!(
+        put_back(&F, &other, &[255, 0, 0], &mut plan),
+        PutBack::Refused(Refusal::RecordUnlawful)
+    );
+    let mut by_hand = started(&F);
+    assert_eq!(hand_call(&F, &mut by_hand, 0), HandCall::Taken { setting: 1 });
+    assert_eq!(State::from_bytes(&by_hand), state(6, &[0, 7, 7]));
+}
+
+#[test]
+fn g_fold() {
+    assert_eq!(runs(&G, 8, End::Rest, 1, &[1, 3, 3, 3, 0]), state(7, &[3, 3, 3]));
+}
+
+#[test]
+fn h_cover() {
+    assert_eq!(runs(&H, 7, End::Rest, 1, &[1, 4, 4, 0, 0, 2]), state(7, &[6, 3, 3]));
+}
+
+#[test]
+fn i_by_hand() {
+    hand_refused(&C, 0, Refusal::NoSnake);
+    hand_refused(&C, 3, Refusal::ItemNotIn);
+}
+
+#[test]
+fn j_barred_plan() {
+    let mut result = [OLD; 3];
+    assert_eq!(put_back(&C, &[1], &[0, 1, 0], &mut result), PutBack::Refused(Refusal::PlanUnfit));
+    assert_eq!(result, [OLD; 3]);
+}
+
+#[test]
+fn refused_sheets() {
+    refused(&[1, 0, 0, 0, 16, 2, 0, 1, 2, 2, 0, 1, 0, 4, 0, 1], 8);
+    refused(&[1, 0, 0, 0, 16, 2, 0, 1, 2, 2, 0, 1, 0, 3, 0, 3], 9);
+    refused(&[1, 0, 0, 0, 16, 33, 0, 1, 2, 2, 0, 1, 0, 2, 0, 1], 4);
+    refused(&[1, 0, 0, 0, 16, 2, 0, 1, 17, 2, 0, 1, 0, 2, 0, 1], 5);
+    refused(&[1, 0, 0, 0, 16, 2, 0, 1, 2, 17, 0, 1, 0, 2, 0, 1], 5);
+}
+
+#[test]
+fn every_refusal_has_its_number() {
+    let numbers = (0..=255).filter(|&number| Refusal::from_number(number).is_some());
+    assert_eq!(numbers.collect::<Vec<u8>>(), (1..=20).chain([200, 201]).collect::<Vec<u8>>());
+    assert!(Refusal::ALL
+        .iter()
+        .all(|&refusal| Refusal::from_number(refusal.number()) == Some(refusal)));
+}
+
+#[test]
+fn state_lengths() {
+    for length in [0, 67, 69, 136] {
+        let mut wrong = vec![OLD; length];
+        assert_eq!(run(&[], &mut [], &mut wrong), Run::Refused(Refusal::RunStateLength));
+        assert_eq!(start(&[], &mut wrong), Start::Refused(Refusal::HandStateLength));
+        assert_eq!(hand_call(&[], &mut wrong, 0), HandCall::Refused(Refusal::HandStateLength));
+        assert_eq!(wrong, vec![OLD; length]);
+    }
+}
+
+/// All ways to give each of n items one of so many settings.
+fn every_plan(n: u32, settings: usize) -> Vec<Vec<u8>> {
+    let digit = |number: usize, place: u32| (number / settings.pow(place) % settings) as u8;
+    (0..settings.pow(n))
+        .map(|number| (0..n).map(|place| digit(number, place)).collect())
+        .collect()
+}
+
+/// Whether the empty trace takes this plan for the full sheet, as it must exactly where it is one.
+fn is_plan(sheet: &[u8], plan: &[u8]) -> bool {
+    let mut result = vec![OLD; plan.len()];
+    put_back(sheet, &[1], plan, &mut result) == PutBack::Done && result == plan
+}

@@ -1,1 +1,374 @@
-fn main() {}
+//! Demands 2 and 3 by brute force on very small sheets: over all plans, and over all lists of hand calls.
+//!
+//! The wrappers do the jobs; the reference says which rule holds; the plans are counted out here.
+
+use std::collections::BTreeMap;
+
+use zomuwedli::boundary::{self, End, HandCall, PutBack, Refusal, Run, Start, HAND_STATE_LENGTH, STATE_LENGTH};
+use zomuwedli::generate::{self, Draft, Random};
+use zomuwedli::reference::{self, Problem, State, Step, OUT};
+
+const SEED: u64 = 4_711;
+const RANDOM_SHEETS: usize = 1_500;
+const LAWFUL_TRACES: usize = 4;
+
+fn main() {
+    let mut counts = Counts::default();
+    let mut random = Random::new(SEED);
+    let (pairs, triples) = (pair_sheets(), triple_sheets());
+    let others: Vec<Vec<u8>> = (0..RANDOM_SHEETS).map(|_| generate::small_draft(&mut random).bytes()).collect();
+    println!(
+        "sheets: {} of two items up to 3 settings, {} of three items of 2 (all there are), {} random",
+        pairs.len(),
+        triples.len(),
+        others.len()
+    );
+    for sheet in pairs.iter().chain(&triples).chain(&others) {
+        Case::new(sheet).demand_two(&mut random, &mut counts);
+        Case::new(sheet).demand_three(&mut random, &mut counts);
+    }
+    for sheet in pairs.iter().filter(|sheet| sheet[8] <= 2 && sheet[9] <= 2) {
+        Case::new(sheet).every_trace(&mut counts);
+    }
+    counts.print();
+}
+
+/// All sheets of two items of 1 to 3 settings.
+fn pair_sheets() -> Vec<Vec<u8>> {
+    let sizes = (1..=3).flat_map(|first| (1..=3).map(move |second| (first, second)));
+    let relations = sizes.flat_map(|(first, second)| (0..1u32 << (first * second)).map(move |relation| (first, second, relation)));
+    let draft = |(first, second, relation): (usize, usize, u32)| {
+        Draft::new(vec![first as u8, second as u8], |_, a, _, b| relation >> (a * second + b) & 1 == 1)
+    };
+    relations.map(|choice| draft(choice).bytes()).collect()
+}
+
+/// All sheets of three items of 2 settings: 4 bits for each of the pairs 0 1, 0 2 and 1 2.
+fn triple_sheets() -> Vec<Vec<u8>> {
+    let draft = |relation: u32| Draft::new(vec![2; 3], |i, a, j, b| relation >> (4 * (i + j - 1) + 2 * a + b) & 1 == 1);
+    (0..1 << 12).map(|relation| draft(relation).bytes()).collect()
+}
+
+#[derive(Default)]
+struct Counts {
+    runs: u64,
+    steps: u64,
+    lent_traces: u64,
+    all_traces: u64,
+    solvable: u64,
+    unsolvable: u64,
+    plans_put_back: u64,
+    plans_refused: u64,
+    start_states: u64,
+    consistent_states: u64,
+    fitting_states: u64,
+    reached_states: u64,
+    finished_states: u64,
+    hand_calls: u64,
+    orders: u64,
+}
+
+impl Counts {
+    fn print(&self) {
+        println!("runs: {}, steps in them: {}, all lawful", self.runs, self.steps);
+        println!(
+            "other lawful traces: {} random, {} that are all of their sheets",
+            self.lent_traces, self.all_traces
+        );
+        println!(
+            "sheets left: {} with a plan, {} without, each as its full sheet",
+            self.solvable, self.unsolvable
+        );
+        println!(
+            "plans: {} of what is left, put back into a plan of the full sheet; {} that are none, refused",
+            self.plans_put_back, self.plans_refused
+        );
+        println!(
+            "hand calls: {} from {} starts, {} other consistent states and {} that only fit",
+            self.hand_calls, self.start_states, self.consistent_states, self.fitting_states
+        );
+        println!(
+            "states reached by lists: {}, finished: {}; orders of calling: {}",
+            self.reached_states, self.finished_states, self.orders
+        );
+        println!("small: all as demanded");
+    }
+}
+
+/// One sheet, and what is known of it.
+struct Case<'a> {
+    sheet: &'a [u8],
+    problem: Problem,
+    plans: Vec<Vec<u8>>,
+}
+
+/// The states that lists of calls lead to, each with the state that the call for each item of the sheet answers.
+type Reached = BTreeMap<Vec<u8>, Vec<Vec<u8>>>;
+
+/// All ways to give each item in one of its settings on.
+fn assignments(problem: &Problem, state: &State) -> Vec<Vec<u8>> {
+    let mut all = vec![vec![OUT; problem.sizes().len()]];
+    for &i in state.active() {
+        all = all
+            .iter()
+            .flat_map(|plan| state.live(i).iter().map(move |&a| with(plan, i, a as u8)))
+            .collect();
+    }
+    all
+}
+
+fn with(plan: &[u8], i: usize, value: u8) -> Vec<u8> {
+    let mut plan = plan.to_vec();
+    plan[i] = value;
+    plan
+}
+
+/// Each two items that have a setting have an allowed pair.
+fn allowed(problem: &Problem, plan: &[u8]) -> bool {
+    let placed: Vec<(usize, usize)> = plan
+        .iter()
+        .enumerate()
+        .filter(|(_, &a)| a != OUT)
+        .map(|(i, &a)| (i, usize::from(a)))
+        .collect();
+    placed
+        .iter()
+        .all(|&(i, a)| placed.iter().all(|&(j, b)| i == j || problem.allowed(i, a, j, b)))
+}
+
+impl Case<'_> {
+    fn new(sheet: &[u8]) -> Case<'_> {
+        let (problem, _) = reference::read_sheet(sheet).expect("the sheet keeps the layout");
+        let mut plans = assignments(&problem, &State::full(&problem));
+        plans.retain(|plan| allowed(&problem, plan));
+        Case { sheet, problem, plans }
+    }
+
+    fn fault(&self, what: &str, trace: &[u8]) -> ! {
+        panic!("{what}: sheet {:02x?}, trace or state {trace:02x?}", self.sheet)
+    }
+
+    fn demand(&self, holds: bool, what: &str, trace: &[u8]) {
+        if !holds {
+            self.fault(what, trace)
+        }
+    }
+
+    // ---- Demand 2 -------------------------------------------------------------------------------------------------------------------
+
+    fn demand_two(&self, random: &mut Random, counts: &mut Counts) {
+        self.run(counts);
+        for _ in 0..LAWFUL_TRACES {
+            let (steps, last) = generate::lawful_steps(random, &self.problem);
+            counts.lent_traces += 1;
+            self.undone(&reference::trace_of(&steps), &last, counts);
+        }
+    }
+
+    /// Each step of the run is lawful, and at the end no rule holds or some item has no setting left.
+    fn run(&self, counts: &mut Counts) {
+        let most = self.problem.sizes().iter().sum::<usize>();
+        let mut buffer = vec![0; 1 + 5 * most];
+        let mut state = [0; STATE_LENGTH];
+        let Run::Done { end, steps, written } = boundary::run(self.sheet, &mut buffer, &mut state) else {
+            self.fault("the run was refused", &[]);
+        };
+        let trace = &buffer[..usize::from(written)];
+        let Ok((replayed, last)) = reference::replay(&self.problem, trace) else {
+            self.fault("a step is not lawful", trace);
+        };
+        self.demand(
+            replayed.len() == usize::from(steps) && usize::from(steps) <= most,
+            "the number of steps is wrong",
+            trace,
+        );
+        self.demand(
+            last.to_bytes() == state,
+            "the last state is not the one that the steps lead to",
+            trace,
+        );
+        self.demand(last.emptied() == (end == End::Impossible), "the end impossible is wrong", trace);
+        self.demand(last.active().is_empty() == (end == End::Solved), "the end solved is wrong", trace);
+        self.demand(last.emptied() || self.no_rule_holds(&last), "a rule still holds", trace);
+        counts.runs += 1;
+        counts.steps += u64::from(steps);
+        self.undone(trace, &last, counts);
+    }
+
+    fn no_rule_holds(&self, state: &State) -> bool {
+        (1..=5).all(|kind| self.problem.candidates(state, kind).all(|step| !self.problem.lawful(state, step)))
+    }
+
+    /// The sheet left has a plan exactly when the full sheet has one, and each plan of what is left is put back into one of the full sheet.
+    fn undone(&self, trace: &[u8], last: &State, counts: &mut Counts) {
+        let (plans, others): (Vec<_>, Vec<_>) = assignments(&self.problem, last)
+            .into_iter()
+            .partition(|plan| allowed(&self.problem, plan));
+        self.demand(
+            plans.is_empty() == self.plans.is_empty(),
+            "one of the sheets has a plan and the other none",
+            trace,
+        );
+        *if plans.is_empty() {
+            &mut counts.unsolvable
+        } else {
+            &mut counts.solvable
+        } += 1;
+        for plan in &plans {
+            let mut full = vec![0; plan.len()];
+            let answer = boundary::put_back(self.sheet, trace, plan, &mut full);
+            self.demand(answer == PutBack::Done, "a plan of what is left was refused", trace);
+            self.demand(self.plans.contains(&full), "a plan was put back into no plan", trace);
+        }
+        for plan in &others {
+            let mut untouched = vec![77; plan.len()];
+            let answer = boundary::put_back(self.sheet, trace, plan, &mut untouched);
+            self.demand(
+                answer == PutBack::Refused(Refusal::PlanUnfit),
+                "a barred pair was let through",
+                trace,
+            );
+            self.demand(untouched == vec![77; plan.len()], "a refused call wrote", trace);
+        }
+        counts.plans_put_back += plans.len() as u64;
+        counts.plans_refused += others.len() as u64;
+    }
+
+    /// All lawful traces there are, each with all plans of what it leaves.
+    fn every_trace(&self, counts: &mut Counts) {
+        self.traces_from(&State::full(&self.problem), &mut Vec::new(), counts);
+    }
+
+    fn traces_from(&self, state: &State, steps: &mut Vec<Step>, counts: &mut Counts) {
+        counts.all_traces += 1;
+        self.undone(&reference::trace_of(steps), state, counts);
+        if state.emptied() {
+            return;
+        }
+        for step in (1..=5).flat_map(|kind| self.problem.candidates(state, kind)) {
+            if self.problem.lawful(state, step) {
+                steps.push(step);
+                self.traces_from(&self.problem.perform(state, step), steps, counts);
+                steps.pop();
+            }
+        }
+    }
+
+    // ---- Demand 3 -------------------------------------------------------------------------------------------------------------------
+
+    fn demand_three(&self, random: &mut Random, counts: &mut Counts) {
+        let mut start = [0; HAND_STATE_LENGTH];
+        self.demand(
+            boundary::start(self.sheet, &mut start) == Start::Started,
+            "the start was refused",
+            &[],
+        );
+        counts.start_states += 1;
+        self.all_lists(&start, counts);
+        let fitting = generate::fitting_state(random, &self.problem).to_bytes();
+        let consistent = self.problem.arc_consistent(&State::from_bytes(&fitting)).to_bytes();
+        counts.consistent_states += 1;
+        self.all_lists(&consistent, counts);
+        // More than is demanded: the end is the same from every state that fits.
+        counts.fitting_states += 1;
+        self.all_lists(&fitting, counts);
+    }
+
+    /// Where two lists are finished, they end alike; and no list takes out an item that a finished one leaves.
+    fn all_lists(&self, first: &[u8], counts: &mut Counts) {
+        let reached = self.reached(first, counts);
+        let finished: Vec<State> = reached
+            .keys()
+            .map(|state| State::from_bytes(state))
+            .filter(|state| self.finished(state))
+            .collect();
+        self.demand(finished.len() <= 1, "two finished lists end otherwise", first);
+        for left in &finished {
+            let keeps = |state: &Vec<u8>| left.active().iter().all(|&i| State::from_bytes(state).is_active(i));
+            self.demand(reached.keys().all(keeps), "a list takes out what a finished one leaves", first);
+        }
+        let emptied = State::from_bytes(first).emptied();
+        self.demand(emptied || finished.len() == 1, "no list is finished", first);
+        counts.reached_states += reached.len() as u64;
+        counts.finished_states += finished.len() as u64;
+        for order in orders(self.problem.sizes().len()) {
+            let last = called_in_order(&reached, first, &order);
+            self.demand(
+                emptied || finished[0].to_bytes() == last,
+                "an order of calling ends otherwise",
+                first,
+            );
+            counts.orders += 1;
+        }
+    }
+
+    /// "Finished when the snake rule then holds for no item in."
+    fn finished(&self, state: &State) -> bool {
+        self.problem.candidates(state, 2).all(|step| !self.problem.lawful(state, step))
+    }
+
+    /// Every state that some list of calls leads to, with what a call for each item makes of it.
+    fn reached(&self, first: &[u8], counts: &mut Counts) -> Reached {
+        let n = self.problem.sizes().len() as u64;
+        for item in [n, 32, 255, 1 << 32, u64::MAX] {
+            self.demand(
+                self.called(first, item, counts) == first,
+                "a call for an item off the sheet wrote",
+                first,
+            );
+        }
+        let mut reached = Reached::new();
+        let mut open = vec![first.to_vec()];
+        while let Some(state) = open.pop() {
+            if !reached.contains_key(&state) {
+                let next: Vec<Vec<u8>> = (0..n).map(|item| self.called(&state, item, counts)).collect();
+                open.extend(next.iter().cloned());
+                reached.insert(state, next);
+            }
+        }
+        reached
+    }
+
+    /// One call: an accepted one takes out the item named and no other; a refused one answers the state it was given.
+    fn called(&self, state: &[u8], item: u64, counts: &mut Counts) -> Vec<u8> {
+        let mut next = state.to_vec();
+        let answer = boundary::hand_call(self.sheet, &mut next, item);
+        counts.hand_calls += 1;
+        let (before, after) = (State::from_bytes(state), State::from_bytes(&next));
+        match answer {
+            HandCall::Refused(_) => self.demand(next == state, "a refused call wrote", state),
+            HandCall::Taken { .. } => {
+                let left: Vec<usize> = before.active().iter().copied().filter(|&i| i as u64 != item).collect();
+                self.demand(
+                    after.active() == left && left.len() < before.active().len(),
+                    "not the named item only went out",
+                    state,
+                );
+            }
+        }
+        next
+    }
+}
+
+/// The state that calling the items in one order, again and again until none goes out, leads to.
+fn called_in_order(reached: &Reached, first: &[u8], order: &[usize]) -> Vec<u8> {
+    let last = order.iter().fold(first.to_vec(), |state, &item| reached[&state][item].clone());
+    if last == first {
+        last
+    } else {
+        called_in_order(reached, &last, order)
+    }
+}
+
+/// All orders of n items.
+fn orders(n: usize) -> Vec<Vec<usize>> {
+    let mut orders = vec![Vec::new()];
+    for item in 0..n {
+        let place = |order: &Vec<usize>| {
+            let order = order.clone();
+            (0..=order.len()).map(move |place| [&order[..place], &[item], &order[place..]].concat())
+        };
+        orders = orders.iter().flat_map(place).collect();
+    }
+    orders
+}
