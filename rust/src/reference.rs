@@ -266,17 +266,22 @@ impl Problem {
         a != b && state.is_live(i, a) && state.is_live(i, b) && self.substitutes_everywhere(state, i, a, b)
     }
 
-    /// slide: "a and b are different and on at i; for each other item k and each d on at k allowed with b, some e on at k is allowed with a
-    /// and covers d at every item other than k". "The slide rule here includes i among the items where e covers d."
+    /// slide: "a and b are different and on at i; for each other item k and each d on at k allowed with b, some e ..."
     pub fn snake_substitution(&self, state: &State, i: usize, b: usize, a: usize) -> bool {
-        let slides = |k: usize, d: usize| {
+        let follows = |k: usize| {
             state
                 .live(k)
                 .iter()
-                .any(|&e| self.allowed(i, a, k, e) && self.substitutes_everywhere(state, k, e, d))
+                .all(|&d| !self.allowed(i, b, k, d) || self.slides(state, (i, a), (k, d)))
         };
-        let follows = |k: usize| state.live(k).iter().all(|&d| !self.allowed(i, b, k, d) || slides(k, d));
         a != b && state.is_live(i, a) && state.is_live(i, b) && state.others(i).all(follows)
+    }
+
+    /// "Some e on at k is allowed with a and covers d at every item other than k." "The slide rule here includes i among the items where e
+    /// covers d." A setting covers itself, so d is the first to be tried.
+    fn slides(&self, state: &State, (i, a): (usize, usize), (k, d): (usize, usize)) -> bool {
+        let serves = |&e: &usize| self.allowed(i, a, k, e) && self.substitutes_everywhere(state, k, e, d);
+        self.allowed(i, a, k, d) || state.live(k).iter().any(serves)
     }
 }
 
