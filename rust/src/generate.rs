@@ -177,11 +177,12 @@ impl Network {
 /// How many items and how large: mostly small, many middling, some large.
 fn random_sizes(random: &mut Random) -> Vec<u8> {
     let (n, most) = match random.below(1000) {
-        0..=699 => (random.pick(&[1, 2, 3, 3, 4, 4, 5, 5, 6]), random.pick(&[2, 3, 3, 4])),
-        700..=899 => (random.from_to(2, 6), random.pick(&[3, 5, 6])),
-        900..=979 => (random.from_to(5, 9), random.pick(&[2, 3, 5, 8])),
-        980..=994 => (random.from_to(1, 3), MOST_SETTINGS),
-        _ => (random.from_to(10, 20), random.pick(&[2, 3, 6])),
+        0..=649 => (random.pick(&[1, 2, 3, 3, 4, 4, 5, 5, 6]), random.pick(&[2, 3, 3, 4])),
+        650..=849 => (random.from_to(2, 6), random.pick(&[3, 5, 6])),
+        850..=949 => (random.from_to(5, 9), random.pick(&[2, 3, 5, 8])),
+        950..=969 => (random.from_to(1, 6), MOST_SETTINGS),
+        970..=994 => (random.from_to(10, 20), random.pick(&[2, 3, 6])),
+        _ => (random.from_to(15, MOST_ITEMS), random.pick(&[1, 2, 4, MOST_SETTINGS])),
     };
     let alike = random.chance(40);
     let size = |random: &mut Random| if alike { most } else { random.from_to(1, most) };
@@ -412,8 +413,8 @@ pub fn named_item(random: &mut Random, problem: &Problem) -> u64 {
 
 /// A lawful trace of random steps of every kind, in no order of kinds, and the state it ends in.
 pub fn lawful_steps(random: &mut Random, problem: &Problem) -> (Vec<Step>, State) {
-    let most = random.pick(&[1, 2, 4, 8, 600]);
-    let liked = random.from_to(1, 5);
+    let most = random.pick(&[1, 1, 2, 2, 3, 4, 8, 600]);
+    let liked = random.pick(&[1, 2, 2, 3, 4, 5]);
     let mut state = State::full(problem);
     let mut steps = Vec::new();
     while steps.len() < most && !state.emptied() {
@@ -520,6 +521,15 @@ fn place(random: &mut Random, problem: &Problem, state: &State, at: usize, plan:
     }
     plan[i] = OUT;
     false
+}
+
+/// A setting on for each item in, whether or not they may stand together.
+pub fn any_plan(random: &mut Random, problem: &Problem, state: &State) -> Vec<u8> {
+    let value = |i: usize, random: &mut Random| match state.live(i) {
+        [] => OUT,
+        live => random.pick(live) as u8,
+    };
+    (0..problem.sizes().len()).map(|i| value(i, random)).collect()
 }
 
 /// A plan with one thing that may speak against it.

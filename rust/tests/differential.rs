@@ -15,13 +15,16 @@ const SEED: u64 = 20_260_917;
 /// How many cases each part has; a case of sheets compares about six calls, one of the others about as many.
 const SHEETS: u64 = 104_000;
 const LARGE_SHEETS: u64 = 160;
-const HAND_LISTS: u64 = 9_000;
-const TRACES: u64 = 9_000;
+const HAND_LISTS: u64 = 14_000;
+const TRACES: u64 = 12_000;
 
 /// The least counts.
 const LEAST_SHEETS: u64 = 100_000;
 const LEAST_CALLS: u64 = 20_000;
 const LEAST_OF_EACH: u64 = 100;
+const LEAST_FULLEST: u64 = 50;
+
+const LONGEST_SHEET: usize = 16_904;
 
 const JOBS: [&str; 5] = ["read", "run", "start", "hand call", "put back"];
 const KINDS: [&str; 5] = ["bare", "snake", "fold", "cover", "slide"];
@@ -62,7 +65,13 @@ struct Counts {
     run_steps: [u64; 6],
     lent_records: [u64; 6],
     slides_not_covers: u64,
+    /// Steps that took an item out and switched off settings elsewhere: in accepted lent traces, and by hand.
+    lent_partners_lost: u64,
+    hand_partners_lost: u64,
     changed_when_undone: u64,
+    /// Accepted sheets by the number of items, and those of 32 items of 16 settings with 496 blocks.
+    sheets_by_items: BTreeMap<u8, u64>,
+    fullest_sheets: u64,
 }
 
 impl Counts {
@@ -74,12 +83,32 @@ impl Counts {
         self.answers.iter().filter(|(key, _)| key.0 == job).map(|(_, count)| count).sum()
     }
 
+    /// The calls of one job that no fault of the sheet turned away.
+    fn past_the_sheet(&self, job: usize) -> u64 {
+        self.answers
+            .iter()
+            .filter(|(key, _)| key.0 == job && !(1..=9).contains(&key.1))
+            .map(|(_, count)| count)
+            .sum()
+    }
+
     fn of_number(&self, number: u8) -> u64 {
         self.answers.iter().filter(|(key, _)| key.1 == number).map(|(_, count)| count).sum()
     }
 
     fn print(&self) {
         println!("sheets: {}, {} of them accepted", self.sheets, self.accepted_sheets);
+        let of_items = |(first, last)| {
+            format!(
+                "{first} to {last} {}",
+                self.sheets_by_items.range(first..=last).map(|(_, count)| count).sum::<u64>()
+            )
+        };
+        println!(
+            "accepted by items: {}",
+            [(1, 3), (4, 6), (7, 12), (13, 31), (32, 32)].map(of_items).join(", ")
+        );
+        println!("accepted with 32 items of 16 settings and 496 blocks: {}", self.fullest_sheets);
         println!("{:>10} {}", "answer", JOBS.map(|job| format!("{job:>10}")).join(" "));
         for number in std::iter::once(0).chain(Refusal::ALL.map(Refusal::number)) {
             let name = if number == 0 { "accepted".to_string() } else { number.to_string() };
@@ -91,11 +120,23 @@ impl Counts {
             "all",
             [0, 1, 2, 3, 4].map(|job| format!("{:>10}", self.of_job(job))).join(" ")
         );
+        let past = JOBS
+            .iter()
+            .enumerate()
+            .map(|(job, name)| format!("{name} {}", self.past_the_sheet(job)));
+        println!(
+            "calls that no fault of the sheet turned away: {}",
+            past.collect::<Vec<_>>().join(", ")
+        );
         let ends = [End::Impossible, End::Solved, End::Rest].map(|end| format!("{end:?} {}", self.ends.get(&end.number()).unwrap_or(&0)));
         println!("ends of runs: {}", ends.join(", "));
         println!("steps of runs: {}", by_kind(&self.run_steps));
         println!("records of accepted lent traces: {}", by_kind(&self.lent_records));
         println!("slides among them that are no covers: {}", self.slides_not_covers);
+        println!(
+            "items taken out that cost another item a setting: {} in lent traces, {} by hand",
+            self.lent_partners_lost, self.hand_partners_lost
+        );
         println!(
             "plans put back in which an item left has another setting than before: {}",
             self.changed_when_undone
@@ -104,7 +145,7 @@ impl Counts {
 
     /// What falls short of its least count.
     fn missing(&self) -> Vec<String> {
-        let jobs = [(3, LEAST_CALLS), (4, LEAST_CALLS)].map(|(job, least)| (JOBS[job].to_string(), self.of_job(job), least));
+        let jobs = [3, 4].map(|job| (JOBS[job].to_string(), self.past_the_sheet(job), LEAST_CALLS));
         let refusals = Refusal::ALL.map(|refusal| {
             (
                 format!("refusal {}", refusal.number()),
@@ -118,6 +159,13 @@ impl Counts {
         let others = [
             ("sheets".to_string(), self.sheets, LEAST_SHEETS),
             ("slides that are no covers".to_string(), self.slides_not_covers, LEAST_OF_EACH),
+            ("partners lost in lent traces".to_string(), self.lent_partners_lost, LEAST_OF_EACH),
+            ("partners lost by hand".to_string(), self.hand_partners_lost, LEAST_OF_EACH),
+            (
+                "sheets of 32 items of 16 settings, 496 blocks".to_string(),
+                self.fullest_sheets,
+                LEAST_FULLEST,
+            ),
             (
                 "settings changed when put back".to_string(),
                 self.changed_when_undone,
@@ -202,6 +250,7 @@ impl Comparison {
 
     fn part(&mut self, part: &'static str, cases: u64, compare: fn(&mut Comparison, &mut Random)) {
         self.part = part;
+        let began = std::time::Instant::now();
         let salt = part.bytes().fold(0, |salt, byte| salt * 31 + u64::from(byte));
         for case in 0..cases {
             self.case = case;
@@ -209,6 +258,7 @@ impl Comparison {
             compare(self, &mut Random::of_case(self.seed, salt, case));
             std::mem::forget(place);
         }
+        println!("{part}: {cases} cases in {:.1} s", began.elapsed().as_secs_f64());
     }
 
     /// Calls the three implementations, each with its own copies of the lent bytes: inputs, and buffers that it may write. All must give
@@ -274,7 +324,11 @@ impl Comparison {
                 &|fast, lent, _| fast.read(&lent[0]),
             ],
         );
-        self.counts.accepted_sheets += u64::from(answer.number() == 0);
+        if let Read::Accepted { items, blocks } = answer {
+            self.counts.accepted_sheets += 1;
+            *self.counts.sheets_by_items.entry(items).or_default() += 1;
+            self.counts.fullest_sheets += u64::from(blocks == 496 && sheet.len() == LONGEST_SHEET);
+        }
         answer
     }
 
@@ -321,7 +375,11 @@ impl Comparison {
                 &|fast, lent, written| fast.hand_call(&lent[0], &mut written[0], item),
             ],
         );
-        (answer, written.remove(0))
+        let after = written.remove(0);
+        if answer.number() == 0 {
+            self.counts.hand_partners_lost += u64::from(partners_lost(&State::from_bytes(state), &State::from_bytes(&after)));
+        }
+        (answer, after)
     }
 
     fn put_back(&mut self, sheet: &[u8], trace: &[u8], plan: &[u8], result_length: usize) -> (PutBack, Lent) {
@@ -344,6 +402,7 @@ impl Comparison {
         let (steps, _) = reference::replay(problem, trace).expect("the trace was accepted");
         for (before, step) in steps {
             self.counts.lent_records[step.kind()] += 1;
+            self.counts.lent_partners_lost += u64::from(partners_lost(&before, &problem.perform(&before, step)));
             if let Step::SnakeSubstitution { i, b, a } = step {
                 self.counts.slides_not_covers += u64::from(!problem.neighbourhood(&before, i, b, a));
             }
@@ -351,6 +410,12 @@ impl Comparison {
         let moved = plan.iter().zip(result).any(|(&left, &full)| left != OUT && left != full);
         self.counts.changed_when_undone += u64::from(moved);
     }
+}
+
+/// Whether an item went out and another one lost a setting.
+fn partners_lost(before: &State, after: &State) -> bool {
+    let went_out = after.active().len() < before.active().len();
+    went_out && after.active().iter().any(|&i| after.live(i).len() < before.live(i).len())
 }
 
 fn on_two<A>(written: &mut [Lent], call: impl FnOnce(&mut [u8], &mut [u8]) -> A) -> A {
@@ -446,13 +511,24 @@ fn hand_case(comparison: &mut Comparison, random: &mut Random) {
         _ => comparison.start(&sheet, HAND_STATE_LENGTH).1,
     };
     for _ in 0..random.from_to(1, 6) {
-        let item = generate::named_item(random, &problem);
+        let item = named_item(random, &problem, &state);
         state = comparison.hand_call(&sheet, &state, item).1;
     }
     if random.chance(10) {
         let length = wrong_length(random, HAND_STATE_LENGTH);
         let state = random.bytes(length);
         comparison.hand_call(&sheet, &state, 0);
+    }
+}
+
+/// An item that is in, or any number.
+fn named_item(random: &mut Random, problem: &Problem, state: &[u8]) -> u64 {
+    let any = generate::named_item(random, problem);
+    let active = State::from_bytes(state).active().to_vec();
+    if active.is_empty() || random.chance(50) {
+        any
+    } else {
+        random.pick(&active) as u64
     }
 }
 
@@ -475,50 +551,67 @@ fn large_trace_case(comparison: &mut Comparison, random: &mut Random) {
     put_back_calls(comparison, random, &sheet);
 }
 
-/// The run's own trace, a lawful one, and damaged ones; a plan of what is left where the search finds one, and damaged ones.
+/// The run's own trace and lawful ones of random steps, each with plans of what is left.
 fn put_back_calls(comparison: &mut Comparison, random: &mut Random, sheet: &[u8]) {
     let (problem, _) = reference::read_sheet(sheet).expect("the sheet keeps the layout");
-    let own = problem.reduce();
-    let lawful = generate::lawful_steps(random, &problem);
-    for (steps, last) in [own, lawful] {
+    let lawful = [0; 2].map(|_| generate::lawful_steps(random, &problem));
+    for (steps, last) in std::iter::once(problem.reduce()).chain(lawful) {
+        let plan = generate::find_plan(random, &problem, &last).unwrap_or_else(|| generate::any_plan(random, &problem, &last));
+        let again = generate::find_plan(random, &problem, &last).filter(|other| *other != plan);
         let trace = reference::trace_of(&steps);
-        let plan = generate::find_plan(random, &problem, &last);
-        let plan = plan.unwrap_or_else(|| generate_any_plan(random, &problem, &last));
-        put_back_variants(comparison, random, sheet, &problem, &steps, &trace, &plan);
-    }
-}
-
-/// A setting on for each item in, whether or not they may stand together.
-fn generate_any_plan(random: &mut Random, problem: &Problem, state: &State) -> Vec<u8> {
-    let value = |i: usize, random: &mut Random| match state.live(i) {
-        [] => OUT,
-        live => random.pick(live) as u8,
-    };
-    (0..problem.sizes().len()).map(|i| value(i, random)).collect()
-}
-
-fn put_back_variants(
-    comparison: &mut Comparison,
-    random: &mut Random,
-    sheet: &[u8],
-    problem: &Problem,
-    steps: &[Step],
-    trace: &[u8],
-    plan: &[u8],
-) {
-    let n = problem.sizes().len();
-    let damaged_trace = generate::damaged_trace(random, steps);
-    let damaged_plan = generate::damaged_plan(random, plan);
-    let wrong_result = if random.chance(10) { wrong_length(random, n) } else { n };
-    for (trace, plan, length) in [
-        (trace, plan, n),
-        (trace, &damaged_plan[..], n),
-        (&damaged_trace[..], plan, n),
-        (&damaged_trace[..], &damaged_plan[..], wrong_result),
-    ] {
-        let (answer, result) = comparison.put_back(sheet, trace, plan, length);
-        if answer == PutBack::Done {
-            comparison.count_lent(problem, trace, plan, &result);
+        damaged_calls(
+            comparison,
+            random,
+            &Lending {
+                sheet,
+                problem: &problem,
+                trace: &trace,
+                plan: &plan,
+            },
+            &steps,
+        );
+        if let Some(plan) = again {
+            Lending {
+                sheet,
+                problem: &problem,
+                trace: &trace,
+                plan: &plan,
+            }
+            .put_back(comparison, plan.len());
         }
     }
+}
+
+/// What is lent to be put back.
+#[derive(Clone, Copy)]
+struct Lending<'a> {
+    sheet: &'a [u8],
+    problem: &'a Problem,
+    trace: &'a [u8],
+    plan: &'a [u8],
+}
+
+impl Lending<'_> {
+    fn put_back(self, comparison: &mut Comparison, result_length: usize) {
+        let (answer, result) = comparison.put_back(self.sheet, self.trace, self.plan, result_length);
+        if answer == PutBack::Done {
+            comparison.count_lent(self.problem, self.trace, self.plan, &result);
+        }
+    }
+}
+
+/// A trace and a plan as they are, and each damaged, and both; now and then with a result buffer of a wrong length.
+fn damaged_calls(comparison: &mut Comparison, random: &mut Random, lending: &Lending, steps: &[Step]) {
+    let n = lending.problem.sizes().len();
+    let (trace, plan) = (generate::damaged_trace(random, steps), generate::damaged_plan(random, lending.plan));
+    lending.put_back(comparison, n);
+    Lending { plan: &plan, ..*lending }.put_back(comparison, n);
+    Lending { trace: &trace, ..*lending }.put_back(comparison, n);
+    let length = if random.chance(10) { wrong_length(random, n) } else { n };
+    Lending {
+        trace: &trace,
+        plan: &plan,
+        ..*lending
+    }
+    .put_back(comparison, length);
 }
