@@ -5,7 +5,7 @@ set -eu
 cd "$(dirname "$0")"
 
 cargo bench --quiet --bench families --no-run
-program=$(cargo bench --bench families --no-run 2>&1 | sed -n 's/.*(\(.*\))$/\1/p')
+program=$(cargo bench --bench families --no-run 2>&1 | sed -n 's/.*Executable.*(\(.*\))$/\1/p')
 
 # instructions FAMILY IMPLEMENTATION RUNS
 instructions() {

@@ -208,11 +208,14 @@ fn print_start(name: &str, sheet: &[u8]) {
     });
 }
 
+/// Prints the row of one family, by its name and its sheet.
+type PrintRow = fn(&str, &[u8]);
+
 fn print_tables() {
     println!("Times of one call, best of {ROUNDS} rounds in which the implementations take turns. Ratios: the other's time over the");
     println!("proved library's; below 1 is faster than the proved library. Each call reads the sheet, fills its table and does the job;");
     println!("the buffers are cleared before, outside the time. All three gave the same answer and the same bytes before they were timed.");
-    let tables: [(&str, fn(&str, &[u8])); 4] = [
+    let tables: [(&str, PrintRow); 4] = [
         ("run", |name, sheet| print_row(name, &run_call(sheet))),
         ("put back (the run's own trace)", print_put_back),
         ("start", print_start),

@@ -15,10 +15,10 @@ impl Random {
     /// The generator of one case of one part of a comparison, so that a case can be repeated alone.
     pub fn of_case(seed: u64, part: u64, case: u64) -> Random {
         let mut mixed = Random(seed ^ part.wrapping_mul(0xd1b5_4a32_d192_ed03));
-        Random(mixed.next() ^ case.wrapping_mul(0xaef1_7502_108e_f2d9))
+        Random(mixed.word() ^ case.wrapping_mul(0xaef1_7502_108e_f2d9))
     }
 
-    pub fn next(&mut self) -> u64 {
+    pub fn word(&mut self) -> u64 {
         self.0 = self.0.wrapping_add(0x9e37_79b9_7f4a_7c15);
         let mixed = (self.0 ^ self.0 >> 30).wrapping_mul(0xbf58_476d_1ce4_e5b9);
         let mixed = (mixed ^ mixed >> 27).wrapping_mul(0x94d0_49bb_1331_11eb);
@@ -27,7 +27,7 @@ impl Random {
 
     /// A number below the bound, which is not 0.
     pub fn below(&mut self, bound: usize) -> usize {
-        (self.next() >> 11) as usize % bound
+        (self.word() >> 11) as usize % bound
     }
 
     /// A number from the first to the last.
@@ -44,7 +44,7 @@ impl Random {
     }
 
     pub fn byte(&mut self) -> u8 {
-        self.next() as u8
+        self.word() as u8
     }
 
     pub fn bytes(&mut self, length: usize) -> Vec<u8> {
@@ -336,9 +336,8 @@ fn damage_bytes(random: &mut Random, bytes: &mut Vec<u8>) {
 pub fn families() -> Vec<(&'static str, Vec<u8>)> {
     let mut random = Random::new(1);
     let linked: Vec<bool> = (0..MOST_ITEMS * MOST_ITEMS).map(|_| random.chance(15)).collect();
-    let sheet = |allowed: &mut dyn FnMut(usize, usize, usize, usize) -> bool| {
-        Draft::new(vec![MOST_SETTINGS as u8; MOST_ITEMS], |i, a, j, b| allowed(i, a, j, b)).bytes()
-    };
+    let sheet =
+        |allowed: &mut dyn FnMut(usize, usize, usize, usize) -> bool| Draft::new(vec![MOST_SETTINGS as u8; MOST_ITEMS], allowed).bytes();
     vec![
         ("no block", sheet(&mut |_, _, _, _| true)),
         ("every pair unequal", sheet(&mut |_, a, _, b| a != b)),

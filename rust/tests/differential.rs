@@ -237,6 +237,9 @@ macro_rules! answers {
 
 answers!(Read, Run, Start, HandCall, PutBack);
 
+/// A call of one implementation: it is lent inputs, and buffers to write; the workspace is for the fast one.
+type Call<'a, A> = &'a dyn Fn(&mut Workspace, &[Lent], &mut [Lent]) -> A;
+
 impl Comparison {
     fn new(seed: u64) -> Comparison {
         Comparison {
@@ -263,14 +266,7 @@ impl Comparison {
 
     /// Calls the three implementations, each with its own copies of the lent bytes: inputs, and buffers that it may write. All must give
     /// one answer and leave the same bytes, and a refused call must leave them as they were.
-    fn call<A: Answer>(
-        &mut self,
-        job: usize,
-        inputs: &[&[u8]],
-        buffers: &[&[u8]],
-        note: &str,
-        calls: [&dyn Fn(&mut Workspace, &[Lent], &mut [Lent]) -> A; 3],
-    ) -> (A, Vec<Lent>) {
+    fn call<A: Answer>(&mut self, job: usize, inputs: &[&[u8]], buffers: &[&[u8]], note: &str, calls: [Call<A>; 3]) -> (A, Vec<Lent>) {
         let results = calls.map(|call| {
             let lent: Vec<Lent> = inputs.iter().map(|bytes| lend(bytes)).collect();
             let mut written: Vec<Lent> = buffers.iter().map(|bytes| lend(bytes)).collect();

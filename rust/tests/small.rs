@@ -2,7 +2,7 @@
 //!
 //! The wrappers do the jobs; the reference says which rule holds; the plans are counted out here.
 
-use std::collections::BTreeMap;
+use std::collections::btree_map::{BTreeMap, Entry};
 
 use zomuwedli::boundary::{self, End, HandCall, PutBack, Refusal, Run, Start, HAND_STATE_LENGTH, STATE_LENGTH};
 use zomuwedli::generate::{self, Draft, Random};
@@ -320,10 +320,10 @@ impl Case<'_> {
         let mut reached = Reached::new();
         let mut open = vec![first.to_vec()];
         while let Some(state) = open.pop() {
-            if !reached.contains_key(&state) {
-                let next: Vec<Vec<u8>> = (0..n).map(|item| self.called(&state, item, counts)).collect();
+            if let Entry::Vacant(new) = reached.entry(state) {
+                let next: Vec<Vec<u8>> = (0..n).map(|item| self.called(new.key(), item, counts)).collect();
                 open.extend(next.iter().cloned());
-                reached.insert(state, next);
+                new.insert(next);
             }
         }
         reached
