@@ -9,7 +9,8 @@ program=$(cargo bench --bench families --no-run 2>&1 | sed -n 's/.*Executable.*(
 
 # instructions FAMILY IMPLEMENTATION RUNS
 instructions() {
-    valgrind --tool=callgrind --callgrind-out-file=/dev/null "$program" --count "$1" "$2" "$3" 2>&1 | sed -n 's/.*Collected : *\([0-9]*\).*/\1/p'
+    valgrind --tool=callgrind --callgrind-out-file=/dev/null "$program" --count "$1" "$2" "$3" 2>&1 |
+        sed -n 's/.*Collected : *\([0-9]*\).*/\1/p'
 }
 
 # per_run FAMILY IMPLEMENTATION MORE
@@ -21,5 +22,6 @@ per_run() {
 
 printf '%-40s %13s %13s %13s\n' 'instructions per run' proved reference fast
 "$program" --names | while read -r family; do
-    printf '%-40s %13s %13s %13s\n' "$family" "$(per_run "$family" proved 10)" "$(per_run "$family" reference 1)" "$(per_run "$family" fast 10)"
+    printf '%-40s %13s %13s %13s\n' "$family" \
+        "$(per_run "$family" proved 10)" "$(per_run "$family" reference 1)" "$(per_run "$family" fast 10)"
 done

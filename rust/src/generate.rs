@@ -54,6 +54,9 @@ impl Random {
 
 // ---- Sheets -------------------------------------------------------------------------------------------------------------------------
 
+/// More bytes than a 16-bit number counts.
+const MANY: usize = 66_000;
+
 /// One block: its two items, and a row for each setting of the first.
 #[derive(Clone)]
 pub struct Block {
@@ -241,7 +244,7 @@ pub fn small_draft(random: &mut Random) -> Draft {
     fill(random, sizes, network)
 }
 
-/// Bytes of a sheet with one fault or several, or with none: whether a fault shows is for the reader to say.
+/// Bytes that may not be a sheet at all, or are a sheet with faults.
 pub fn damaged_sheet(random: &mut Random) -> Vec<u8> {
     match random.below(20) {
         0 => {
@@ -250,17 +253,22 @@ pub fn damaged_sheet(random: &mut Random) -> Vec<u8> {
         }
         1 => Vec::new(),
         _ => {
-            let mut draft = random_draft(random);
-            for _ in 0..random.pick(&[1, 1, 1, 2, 2, 3]) {
-                damage_draft(random, &mut draft);
-            }
-            let mut bytes = draft.bytes();
-            if random.chance(25) {
-                damage_bytes(random, &mut bytes);
-            }
-            bytes
+            let draft = random_draft(random);
+            damaged(random, draft)
         }
     }
+}
+
+/// Bytes of a sheet with one fault or several, or with none: whether a fault shows is for the reader to say.
+pub fn damaged(random: &mut Random, mut draft: Draft) -> Vec<u8> {
+    for _ in 0..random.pick(&[1, 1, 1, 2, 2, 3]) {
+        damage_draft(random, &mut draft);
+    }
+    let mut bytes = draft.bytes();
+    if random.chance(25) {
+        damage_bytes(random, &mut bytes);
+    }
+    bytes
 }
 
 /// One fault in a field or a block.
@@ -276,7 +284,7 @@ fn damage_draft(random: &mut Random, draft: &mut Draft) {
         }
         5 => draft.cut = random.from_to(1, 12),
         6 => {
-            let length = random.from_to(1, 3);
+            let length = if random.chance(5) { MANY } else { random.from_to(1, 3) };
             draft.left_over = random.bytes(length);
         }
         7 => draft.block_count = Some((draft.blocks.len() as u16).wrapping_add(random.pick(&[1, 2, u16::MAX]))),
@@ -489,6 +497,7 @@ fn damage_trace_bytes(random: &mut Random, trace: &mut Vec<u8>) {
         2 => trace.push(random.pick(&[0, 3, 4, 255])),
         3 => trace[0] = random.pick(&[0, 2, 255]),
         4 => trace.extend([3, 2, 0, 0]),
+        _ if random.chance(5) => trace.extend(random.bytes(MANY)),
         _ => {
             trace.remove(place);
         }

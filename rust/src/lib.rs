@@ -18,8 +18,8 @@
 //! assert_eq!(plan, [0, 1]);
 //! ```
 //!
-//! [`boundary`] wraps the five functions of the proved library. [`reference`] and [`fast`] are two further implementations, written apart
-//! from it and from each other, one for clarity and one for speed: the tests compare all three. [`generate`] makes what they compare on.
+//! [`boundary`] wraps the five functions of the proved library. [`reference`] and [`fast`] are two further implementations, one for clarity
+//! and one for speed, that share no code with it or with each other: the tests compare all three. [`generate`] makes what they compare on.
 
 pub mod boundary;
 pub mod fast;

@@ -1,5 +1,5 @@
 //! The five jobs written from document 01 alone, for clarity: lists of items and settings, one function for each rule, and the sentence
-//! of the document over it. Nothing here is shared with the proved library but the enums of the answers.
+//! of the document over it. Nothing here is shared with the other implementations but the enums and the lengths of the boundary.
 //!
 //! Document 01's words and ours: item, setting = variable, value; in, on = active, live; partner = support; plan = solution;
 //! covers = substitutes; bare, snake, fold, cover, slide = unsupported, snake, triangle, neighbourhood, snake substitution.

@@ -14,7 +14,7 @@ const SEED: u64 = 20_260_917;
 
 /// How many cases each part has; a case of sheets compares about six calls, one of the others about as many.
 const SHEETS: u64 = 104_000;
-const LARGE_SHEETS: u64 = 160;
+const LARGE_SHEETS: u64 = 200;
 const HAND_LISTS: u64 = 14_000;
 const TRACES: u64 = 12_000;
 
@@ -23,6 +23,7 @@ const LEAST_SHEETS: u64 = 100_000;
 const LEAST_CALLS: u64 = 20_000;
 const LEAST_OF_EACH: u64 = 100;
 const LEAST_FULLEST: u64 = 50;
+const LEAST_LONG: u64 = 10;
 
 const LONGEST_SHEET: usize = 16_904;
 
@@ -63,6 +64,8 @@ struct Counts {
     answers: BTreeMap<(usize, u8), u64>,
     ends: BTreeMap<u8, u64>,
     run_steps: [u64; 6],
+    /// Runs whose number of steps is more than a byte holds.
+    long_runs: u64,
     lent_records: [u64; 6],
     slides_not_covers: u64,
     /// Steps that took an item out and switched off settings elsewhere: in accepted lent traces, and by hand.
@@ -130,7 +133,11 @@ impl Counts {
         );
         let ends = [End::Impossible, End::Solved, End::Rest].map(|end| format!("{end:?} {}", self.ends.get(&end.number()).unwrap_or(&0)));
         println!("ends of runs: {}", ends.join(", "));
-        println!("steps of runs: {}", by_kind(&self.run_steps));
+        println!(
+            "steps of runs: {}; runs of more than 255: {}",
+            by_kind(&self.run_steps),
+            self.long_runs
+        );
         println!("records of accepted lent traces: {}", by_kind(&self.lent_records));
         println!("slides among them that are no covers: {}", self.slides_not_covers);
         println!(
@@ -158,6 +165,7 @@ impl Counts {
         let records = [1, 2, 3, 4, 5].map(|kind| (format!("lent records of kind {kind}"), self.lent_records[kind], LEAST_OF_EACH));
         let others = [
             ("sheets".to_string(), self.sheets, LEAST_SHEETS),
+            ("runs of more than 255 steps".to_string(), self.long_runs, LEAST_LONG),
             ("slides that are no covers".to_string(), self.slides_not_covers, LEAST_OF_EACH),
             ("partners lost in lent traces".to_string(), self.lent_partners_lost, LEAST_OF_EACH),
             ("partners lost by hand".to_string(), self.hand_partners_lost, LEAST_OF_EACH),
@@ -449,9 +457,19 @@ fn sheet_case(comparison: &mut Comparison, random: &mut Random) {
     every_job(comparison, random, &sheet);
 }
 
+/// The same on a large sheet, one in ten with a fault, and a list of hand calls from the start.
 fn large_case(comparison: &mut Comparison, random: &mut Random) {
-    let sheet = generate::large_draft(random).bytes();
+    let draft = generate::large_draft(random);
+    let sheet = if random.chance(10) {
+        generate::damaged(random, draft)
+    } else {
+        draft.bytes()
+    };
     every_job(comparison, random, &sheet);
+    if let Ok((problem, _)) = reference::read_sheet(&sheet) {
+        let start = comparison.start(&sheet, HAND_STATE_LENGTH).1;
+        hand_list(comparison, random, &sheet, &problem, start);
+    }
 }
 
 fn every_job(comparison: &mut Comparison, random: &mut Random, sheet: &[u8]) {
@@ -469,6 +487,7 @@ fn accepted_sheet(comparison: &mut Comparison, random: &mut Random, sheet: &[u8]
     if let Run::Done { end, written, .. } = answer {
         *comparison.counts.ends.entry(end.number()).or_default() += 1;
         let (steps, _) = reference::replay(problem, &trace[..usize::from(written)]).expect("a run's own trace is lawful");
+        comparison.counts.long_runs += u64::from(steps.len() > 255);
         steps.iter().for_each(|(_, step)| comparison.counts.run_steps[step.kind()] += 1);
     }
     if random.chance(50) {
@@ -495,25 +514,29 @@ fn refused_sheet(comparison: &mut Comparison, random: &mut Random, sheet: &[u8])
     comparison.put_back(sheet, random.pick(&[&[1][..], &[], &trace]), &plan, random.pick(&[0, 2, 3]));
 }
 
-/// A list of hand calls from the start state, from a state that fits or from one that does not; each call is given what the one before
-/// answered.
+/// A list of hand calls from the start state, from a state that fits or from one that does not; each later call is given the state that
+/// the one before it answered.
 fn hand_case(comparison: &mut Comparison, random: &mut Random) {
     let sheet = generate::random_draft(random).bytes();
     let (problem, _) = reference::read_sheet(&sheet).expect("the sheet keeps the layout");
-    let mut state = match random.below(4) {
+    let state = match random.below(4) {
         0 => lend(&generate::misfitting_state(random, &problem)),
         1 => lend(&generate::fitting_state(random, &problem).to_bytes()),
         2 => lend(&arc_consistent(&problem, &generate::fitting_state(random, &problem).to_bytes())),
         _ => comparison.start(&sheet, HAND_STATE_LENGTH).1,
     };
-    for _ in 0..random.from_to(1, 6) {
-        let item = named_item(random, &problem, &state);
-        state = comparison.hand_call(&sheet, &state, item).1;
-    }
+    hand_list(comparison, random, &sheet, &problem, state);
     if random.chance(10) {
         let length = wrong_length(random, HAND_STATE_LENGTH);
         let state = random.bytes(length);
         comparison.hand_call(&sheet, &state, 0);
+    }
+}
+
+fn hand_list(comparison: &mut Comparison, random: &mut Random, sheet: &[u8], problem: &Problem, mut state: Lent) {
+    for _ in 0..random.from_to(1, 6) {
+        let item = named_item(random, problem, &state);
+        state = comparison.hand_call(sheet, &state, item).1;
     }
 }
 
