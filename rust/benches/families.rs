@@ -75,11 +75,7 @@ struct Buffers {
 
 impl Buffers {
     fn new() -> Buffers {
-        Buffers {
-            trace: vec![0; TRACE_LENGTH],
-            state: vec![0; STATE_LENGTH],
-            result: vec![0; MOST_ITEMS],
-        }
+        Buffers { trace: vec![0; TRACE_LENGTH], state: vec![0; STATE_LENGTH], result: vec![0; MOST_ITEMS] }
     }
 
     fn clear(&mut self) {
@@ -149,11 +145,7 @@ fn print_row(name: &str, call: Call) {
         answer => format!("{answer:?}"),
     };
     let [proved, reference, fast] = best(call).map(|time| time.as_nanos() as f64 / 1000.0);
-    println!(
-        "{name:<40} {proved:>11.1} {:>11.3} {:>11.3}  {answer}",
-        reference / proved,
-        fast / proved
-    );
+    println!("{name:<40} {proved:>11.1} {:>11.3} {:>11.3}  {answer}", reference / proved, fast / proved);
 }
 
 fn run_call(sheet: &[u8]) -> impl Fn(&mut Implementation, &mut Buffers) -> Answer + '_ {
@@ -165,12 +157,7 @@ fn hand_list(sheet: &[u8]) -> impl Fn(&mut Implementation, &mut Buffers) -> Answ
     let start = started(sheet);
     move |implementation, buffers| {
         buffers.state.copy_from_slice(&start);
-        let call = |item: &usize| {
-            matches!(
-                implementation.hand_call(sheet, &mut buffers.state, *item as u64),
-                HandCall::Taken { .. }
-            )
-        };
+        let call = |item: &usize| matches!(implementation.hand_call(sheet, &mut buffers.state, *item as u64), HandCall::Taken { .. });
         Answer::TakenOut((0..MOST_ITEMS).filter(call).count())
     }
 }
@@ -197,15 +184,11 @@ fn trace_and_plan(sheet: &[u8]) -> (Vec<u8>, Vec<u8>) {
 
 fn print_put_back(name: &str, sheet: &[u8]) {
     let (trace, plan) = trace_and_plan(sheet);
-    print_row(name, &|implementation, buffers| {
-        Answer::PutBack(implementation.put_back(sheet, &trace, &plan, &mut buffers.result))
-    });
+    print_row(name, &|implementation, buffers| Answer::PutBack(implementation.put_back(sheet, &trace, &plan, &mut buffers.result)));
 }
 
 fn print_start(name: &str, sheet: &[u8]) {
-    print_row(name, &|implementation, buffers| {
-        Answer::Start(implementation.start(sheet, &mut buffers.state))
-    });
+    print_row(name, &|implementation, buffers| Answer::Start(implementation.start(sheet, &mut buffers.state)));
 }
 
 /// Prints the row of one family, by its name and its sheet.
@@ -219,9 +202,7 @@ fn print_tables() {
         ("run", |name, sheet| print_row(name, &run_call(sheet))),
         ("put back (the run's own trace)", print_put_back),
         ("start", print_start),
-        ("a hand call for each item from the start", |name, sheet| {
-            print_row(name, &hand_list(sheet))
-        }),
+        ("a hand call for each item from the start", |name, sheet| print_row(name, &hand_list(sheet))),
     ];
     for (job, print) in tables {
         println!("\n{job:<40} {:>11} {:>11} {:>11}  answer", "proved us", "ref/proved", "fast/proved");
@@ -232,10 +213,7 @@ fn print_tables() {
 /// Runs one implementation on one family so many times.
 fn count(family: &str, implementation: &str, repetitions: usize) {
     let families = generate::families();
-    let (_, sheet) = families
-        .iter()
-        .find(|(name, _)| *name == family)
-        .unwrap_or_else(|| panic!("no family {family}"));
+    let (_, sheet) = families.iter().find(|(name, _)| *name == family).unwrap_or_else(|| panic!("no family {family}"));
     let (mut implementation, mut buffers) = (Implementation::named(implementation), Buffers::new());
     for _ in 0..repetitions {
         black_box(implementation.run(black_box(sheet), &mut buffers.trace, &mut buffers.state));

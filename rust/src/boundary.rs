@@ -123,9 +123,7 @@ impl End {
 
     /// The end with this number, if there is one.
     pub fn from_number(number: u8) -> Option<End> {
-        [End::Impossible, End::Solved, End::Rest]
-            .into_iter()
-            .find(|end| end.number() == number)
+        [End::Impossible, End::Solved, End::Rest].into_iter().find(|end| end.number() == number)
     }
 }
 
@@ -196,10 +194,7 @@ impl State {
 
     /// How many settings are on at the items in.
     pub fn settings_on(&self) -> u32 {
-        (0..MOST_ITEMS)
-            .filter(|&i| self.items >> i & 1 == 1)
-            .map(|i| self.settings[i].count_ones())
-            .sum()
+        (0..MOST_ITEMS).filter(|&i| self.items >> i & 1 == 1).map(|i| self.settings[i].count_ones()).sum()
     }
 }
 
@@ -233,26 +228,14 @@ pub fn read(sheet: &[u8]) -> Read {
     let answer = unsafe { zomuwedli_read(sheet.as_ptr(), sheet.len()) };
     match refusal(answer) {
         Some(refused) => Read::Refused(refused),
-        None => Read::Accepted {
-            items: field(answer, 8, 8) as u8,
-            blocks: field(last_field(answer, 32), 16, 16) as u16,
-        },
+        None => Read::Accepted { items: field(answer, 8, 8) as u8, blocks: field(last_field(answer, 32), 16, 16) as u16 },
     }
 }
 
 /// Runs a sheet to its end: the trace goes to the front of `trace`, the last state to `state`.
 pub fn run(sheet: &[u8], trace: &mut [u8], state: &mut [u8]) -> Run {
     // SAFETY: each pointer and length are of one live slice; the two that are written are lent as mutable, and no two overlap.
-    let answer = unsafe {
-        zomuwedli_run(
-            sheet.as_ptr(),
-            sheet.len(),
-            trace.as_mut_ptr(),
-            trace.len(),
-            state.as_mut_ptr(),
-            state.len(),
-        )
-    };
+    let answer = unsafe { zomuwedli_run(sheet.as_ptr(), sheet.len(), trace.as_mut_ptr(), trace.len(), state.as_mut_ptr(), state.len()) };
     match refusal(answer) {
         Some(refused) => Run::Refused(refused),
         None => Run::Done {
@@ -279,9 +262,7 @@ pub fn hand_call(sheet: &[u8], state: &mut [u8], item: u64) -> HandCall {
     let answer = unsafe { zomuwedli_hand_call(sheet.as_ptr(), sheet.len(), state.as_mut_ptr(), state.len(), item) };
     match refusal(answer) {
         Some(refused) => HandCall::Refused(refused),
-        None => HandCall::Taken {
-            setting: field(last_field(answer, 16), 8, 8) as u8,
-        },
+        None => HandCall::Taken { setting: field(last_field(answer, 16), 8, 8) as u8 },
     }
 }
 
@@ -310,11 +291,7 @@ pub fn put_back(sheet: &[u8], trace: &[u8], plan: &[u8], result: &mut [u8]) -> P
 fn refusal(answer: u64) -> Option<Refusal> {
     match field(answer, 0, 8) as u8 {
         0 => None,
-        number => Some(
-            Refusal::from_number(number)
-                .filter(|_| answer >> 8 == 0)
-                .unwrap_or_else(|| stray(answer)),
-        ),
+        number => Some(Refusal::from_number(number).filter(|_| answer >> 8 == 0).unwrap_or_else(|| stray(answer))),
     }
 }
 

@@ -150,10 +150,7 @@ impl Table {
 
     fn full_state(&self) -> State {
         let settings = std::array::from_fn(|i| if i < self.count { below(self.sizes[i]) } else { 0 });
-        State {
-            items: u32::MAX >> (MOST_ITEMS - self.count),
-            settings,
-        }
+        State { items: u32::MAX >> (MOST_ITEMS - self.count), settings }
     }
 
     fn trace_length(&self) -> usize {
@@ -190,23 +187,17 @@ impl Table {
     /// rows at i itself are full, so neither is ever one where it fails.
     fn next_gap(&self, state: &State, i: usize, b: usize, a: usize, from: usize, apart: usize) -> usize {
         let (rows_b, rows_a) = (&self.rows[i][b], &self.rows[i][a]);
-        (from..self.count)
-            .find(|&l| rows_b[l] & !rows_a[l] & state.settings[l] != 0 && l != apart)
-            .unwrap_or(NONE)
+        (from..self.count).find(|&l| rows_b[l] & !rows_a[l] & state.settings[l] != 0 && l != apart).unwrap_or(NONE)
     }
 
     /// The lowest variable, i and j left out, at which u, a value of i, fails to cover v, a value of j.
     fn fold_gap(&self, state: &State, (i, u): (usize, usize), (j, v): (usize, usize)) -> usize {
-        (0..self.count)
-            .find(|&l| self.fails_at(state, (i, u), (j, v), l) && l != i && l != j)
-            .unwrap_or(NONE)
+        (0..self.count).find(|&l| self.fails_at(state, (i, u), (j, v), l) && l != i && l != j).unwrap_or(NONE)
     }
 
     /// The values at j that lose their last support when i goes out.
     fn lost(&self, state: &State, i: usize, j: usize) -> u16 {
-        values(state.settings[j])
-            .filter(|&c| self.supports(state, j, c, i) == 0)
-            .fold(0, |lost, c| lost | 1 << c)
+        values(state.settings[j]).filter(|&c| self.supports(state, j, c, i) == 0).fold(0, |lost, c| lost | 1 << c)
     }
 
     /// The lowest w' that the snake rule allows for w at j.
@@ -278,32 +269,11 @@ impl Step {
             return Err(Refusal::RecordShape);
         }
         match (length, kind) {
-            (4, 1) => Ok((
-                Step::Unsupported {
-                    i: field(2),
-                    b: field(3),
-                    k: field(4),
-                },
-                5,
-            )),
+            (4, 1) => Ok((Step::Unsupported { i: field(2), b: field(3), k: field(4) }, 5)),
             (3, 2) => Ok((Step::Snake { i: field(2), v: field(3) }, 4)),
             (3, 3) => Ok((Step::Triangle { i: field(2), j: field(3) }, 4)),
-            (4, 4) => Ok((
-                Step::Neighbourhood {
-                    i: field(2),
-                    b: field(3),
-                    a: field(4),
-                },
-                5,
-            )),
-            (4, 5) => Ok((
-                Step::SnakeSubstitution {
-                    i: field(2),
-                    b: field(3),
-                    a: field(4),
-                },
-                5,
-            )),
+            (4, 4) => Ok((Step::Neighbourhood { i: field(2), b: field(3), a: field(4) }, 5)),
+            (4, 5) => Ok((Step::SnakeSubstitution { i: field(2), b: field(3), a: field(4) }, 5)),
             _ => Err(Refusal::RecordShape),
         }
     }
@@ -320,11 +290,7 @@ struct Failed<const WIDTH: usize> {
 
 impl<const WIDTH: usize> Failed<WIDTH> {
     fn new() -> Self {
-        Failed {
-            rests_on: [[0; WIDTH]; MOST_ITEMS],
-            waits: [0; MOST_ITEMS],
-            changed: 0,
-        }
+        Failed { rests_on: [[0; WIDTH]; MOST_ITEMS], waits: [0; MOST_ITEMS], changed: 0 }
     }
 
     fn clear(&mut self) {
@@ -344,10 +310,7 @@ impl<const WIDTH: usize> Failed<WIDTH> {
             return;
         }
         for i in members(active) {
-            let woken = self.rests_on[i]
-                .iter()
-                .enumerate()
-                .fold(0, |set, (third, on)| set | u32::from(on & changed != 0) << third);
+            let woken = self.rests_on[i].iter().enumerate().fold(0, |set, (third, on)| set | u32::from(on & changed != 0) << third);
             self.waits[i] &= !woken;
         }
     }
@@ -377,10 +340,7 @@ struct Reduction {
 impl Reduction {
     fn new() -> Reduction {
         Reduction {
-            state: State {
-                items: 0,
-                settings: [0; MOST_ITEMS],
-            },
+            state: State { items: 0, settings: [0; MOST_ITEMS] },
             emptied: false,
             unsupported: [0; MOST_ITEMS],
             marks: [[[0; MOST_SETTINGS]; MOST_SETTINGS]; MOST_ITEMS],
@@ -599,19 +559,13 @@ impl Default for Workspace {
 
 impl Workspace {
     pub fn new() -> Workspace {
-        Workspace {
-            table: Box::new(Table::new()),
-            reduction: Box::new(Reduction::new()),
-        }
+        Workspace { table: Box::new(Table::new()), reduction: Box::new(Reduction::new()) }
     }
 
     /// Reads a sheet.
     pub fn read(&mut self, sheet: &[u8]) -> Read {
         match self.table.fill(sheet) {
-            Ok(()) => Read::Accepted {
-                items: self.table.count as u8,
-                blocks: self.table.blocks as u16,
-            },
+            Ok(()) => Read::Accepted { items: self.table.count as u8, blocks: self.table.blocks as u16 },
             Err(refused) => Read::Refused(refused),
         }
     }
@@ -639,11 +593,7 @@ impl Workspace {
             steps += 1;
         }
         state.copy_from_slice(&self.reduction.state.to_bytes());
-        Ok(Run::Done {
-            end: self.reduction.end(),
-            steps,
-            written: written as u16,
-        })
+        Ok(Run::Done { end: self.reduction.end(), steps, written: written as u16 })
     }
 
     /// Starts taking out by hand.
@@ -682,9 +632,7 @@ impl Workspace {
             return Err(Refusal::ItemEmpty);
         }
         let live = self.reduction.state.settings[i];
-        let v = values(live)
-            .find(|&v| self.reduction.snake_fails(&self.table, i, v).is_none())
-            .ok_or(Refusal::NoSnake)?;
+        let v = values(live).find(|&v| self.reduction.snake_fails(&self.table, i, v).is_none()).ok_or(Refusal::NoSnake)?;
         self.reduction.take_out(&self.table, i);
         state.copy_from_slice(&self.reduction.state.to_bytes());
         Ok(HandCall::Taken { setting: v as u8 })

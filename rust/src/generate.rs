@@ -87,24 +87,11 @@ impl Draft {
                 let size = usize::from(sizes[j]);
                 let rows: Vec<u16> = (0..usize::from(sizes[i])).map(|a| row(size, |&b| allowed(i, a, j, b))).collect();
                 if rows.iter().any(|&allows| allows != row(size, |_| true)) {
-                    blocks.push(Block {
-                        i: i as u8,
-                        j: j as u8,
-                        rows,
-                    });
+                    blocks.push(Block { i: i as u8, j: j as u8, rows });
                 }
             }
         }
-        Draft {
-            version: 1,
-            length: None,
-            items: None,
-            block_count: None,
-            sizes,
-            blocks,
-            left_over: Vec::new(),
-            cut: 0,
-        }
+        Draft { version: 1, length: None, items: None, block_count: None, sizes, blocks, left_over: Vec::new(), cut: 0 }
     }
 
     pub fn bytes(&self) -> Vec<u8> {
@@ -227,11 +214,7 @@ pub fn random_draft(random: &mut Random) -> Draft {
 
 /// A sheet of 32 items of 16 settings with a block for each of the 496 pairs, or for some.
 pub fn large_draft(random: &mut Random) -> Draft {
-    let network = if random.chance(60) {
-        Network::Clique
-    } else {
-        Network::random(random)
-    };
+    let network = if random.chance(60) { Network::Clique } else { Network::random(random) };
     fill(random, vec![MOST_SETTINGS as u8; MOST_ITEMS], network)
 }
 
@@ -352,14 +335,8 @@ pub fn families() -> Vec<(&'static str, Vec<u8>)> {
         ("every pair a < b", sheet(&mut |_, a, _, b| a < b)),
         ("every pair of unlike parity", sheet(&mut |_, a, _, b| (a + b) % 2 == 1)),
         ("|a - b| >= 3 for every pair", sheet(&mut |_, a, _, b| a.abs_diff(b) >= 3)),
-        (
-            "eight groups of four, pairwise unequal",
-            sheet(&mut |i, a, j, b| i / 4 != j / 4 || a != b),
-        ),
-        (
-            "random, 15% of pairs, 30% barred",
-            sheet(&mut |i, _, j, _| !linked[i * MOST_ITEMS + j] || !random.chance(30)),
-        ),
+        ("eight groups of four, pairwise unequal", sheet(&mut |i, a, j, b| i / 4 != j / 4 || a != b)),
+        ("random, 15% of pairs, 30% barred", sheet(&mut |i, _, j, _| !linked[i * MOST_ITEMS + j] || !random.chance(30))),
     ]
 }
 
@@ -369,10 +346,7 @@ pub fn families() -> Vec<(&'static str, Vec<u8>)> {
 pub fn fitting_state(random: &mut Random, problem: &Problem) -> Masks {
     let (stay, keep) = (random.pick(&[50, 80, 100]), random.pick(&[30, 60, 90, 100]));
     let may_be_empty = random.chance(30);
-    let mut state = Masks {
-        items: 0,
-        settings: [0; MOST_ITEMS],
-    };
+    let mut state = Masks { items: 0, settings: [0; MOST_ITEMS] };
     for (i, &size) in problem.sizes().iter().enumerate() {
         if random.chance(stay) {
             state.items |= 1 << i;
@@ -439,12 +413,7 @@ pub fn lawful_steps(random: &mut Random, problem: &Problem) -> (Vec<Step>, State
 fn lawful_step(random: &mut Random, problem: &Problem, state: &State, kind: usize) -> Option<Step> {
     let candidates: Vec<Step> = problem.candidates(state, kind).collect();
     let from = random.below(candidates.len().max(1));
-    candidates[from..]
-        .iter()
-        .chain(&candidates[..from])
-        .copied()
-        .take(60)
-        .find(|&step| problem.lawful(state, step))
+    candidates[from..].iter().chain(&candidates[..from]).copied().take(60).find(|&step| problem.lawful(state, step))
 }
 
 /// A trace with a fault in its records or its bytes, or in both: whether it shows is for the reader to say.
@@ -478,11 +447,7 @@ fn damage_records(random: &mut Random, records: &mut Vec<Vec<u8>>) {
         7 => {
             let (i, third, fourth) = (random.below(4) as u8, random.below(4) as u8, random.below(4) as u8);
             let kind = random.from_to(1, 5) as u8;
-            let record = if kind == 2 || kind == 3 {
-                vec![3, kind, i, third]
-            } else {
-                vec![4, kind, i, third, fourth]
-            };
+            let record = if kind == 2 || kind == 3 { vec![3, kind, i, third] } else { vec![4, kind, i, third, fourth] };
             records.insert(place, record);
         }
         _ => {}

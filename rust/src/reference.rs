@@ -20,10 +20,7 @@ impl Problem {
     /// "A pair with no block allows everything."
     fn without_blocks(sizes: Vec<usize>) -> Problem {
         let settings = sizes.len() * MOST_SETTINGS;
-        Problem {
-            sizes,
-            table: vec![true; settings * settings],
-        }
+        Problem { sizes, table: vec![true; settings * settings] }
     }
 
     fn entry(&self, i: usize, a: usize, j: usize, b: usize) -> usize {
@@ -137,10 +134,7 @@ impl State {
     /// "At first all items are in and all settings on."
     pub fn full(problem: &Problem) -> State {
         let live = (0..MOST_ITEMS).map(|i| (0..problem.sizes.get(i).copied().unwrap_or(0)).collect());
-        State {
-            active: (0..problem.sizes.len()).collect(),
-            live: live.collect(),
-        }
+        State { active: (0..problem.sizes.len()).collect(), live: live.collect() }
     }
 
     /// Items in: 4 bytes, bit i for item i. Then settings on: 2 bytes for each of 32 items, bit c for setting c.
@@ -149,19 +143,14 @@ impl State {
         let members = |set: u32, most: usize| (0..most).filter(|c| set >> c & 1 == 1).collect::<Vec<_>>();
         State {
             active: members(number(&bytes[..4]), MOST_ITEMS),
-            live: bytes[4..STATE_LENGTH]
-                .chunks(2)
-                .map(|set| members(number(set), MOST_SETTINGS))
-                .collect(),
+            live: bytes[4..STATE_LENGTH].chunks(2).map(|set| members(number(set), MOST_SETTINGS)).collect(),
         }
     }
 
     pub fn to_bytes(&self) -> Vec<u8> {
         let set = |members: &[usize]| members.iter().map(|&c| 1u32 << c).sum::<u32>();
         let mut bytes = set(&self.active).to_be_bytes().to_vec();
-        self.live
-            .iter()
-            .for_each(|live| bytes.extend_from_slice(&set(live).to_be_bytes()[2..]));
+        self.live.iter().for_each(|live| bytes.extend_from_slice(&set(live).to_be_bytes()[2..]));
         bytes
     }
 
@@ -209,11 +198,7 @@ impl Problem {
 
     /// a covers b "at every item other than" the two named.
     fn substitutes_apart(&self, state: &State, a: (usize, usize), b: (usize, usize), apart: [usize; 2]) -> bool {
-        state
-            .active()
-            .iter()
-            .filter(|l| !apart.contains(l))
-            .all(|&l| self.substitutes(state, a, b, l))
+        state.active().iter().filter(|l| !apart.contains(l)).all(|&l| self.substitutes(state, a, b, l))
     }
 
     /// Value a of variable i covers b there at every other variable.
@@ -233,12 +218,8 @@ impl Problem {
 
     /// snake: "v is on at i; for every other item j and every setting w on at j barred with v, some w' ..."
     pub fn snake(&self, state: &State, i: usize, v: usize) -> bool {
-        let served = |j: usize| {
-            state
-                .live(j)
-                .iter()
-                .all(|&w| self.allowed(i, v, j, w) || self.replacement(state, (i, v), (j, w)).is_some())
-        };
+        let served =
+            |j: usize| state.live(j).iter().all(|&w| self.allowed(i, v, j, w) || self.replacement(state, (i, v), (j, w)).is_some());
         state.is_live(i, v) && state.others(i).all(served)
     }
 
@@ -268,12 +249,7 @@ impl Problem {
 
     /// slide: "a and b are different and on at i; for each other item k and each d on at k allowed with b, some e ..."
     pub fn snake_substitution(&self, state: &State, i: usize, b: usize, a: usize) -> bool {
-        let follows = |k: usize| {
-            state
-                .live(k)
-                .iter()
-                .all(|&d| !self.allowed(i, b, k, d) || self.slides(state, (i, a), (k, d)))
-        };
+        let follows = |k: usize| state.live(k).iter().all(|&d| !self.allowed(i, b, k, d) || self.slides(state, (i, a), (k, d)));
         a != b && state.is_live(i, a) && state.is_live(i, b) && state.others(i).all(follows)
     }
 
@@ -326,32 +302,11 @@ impl Step {
     pub fn read(bytes: &[u8]) -> Result<(Step, &[u8]), Refusal> {
         let field = |byte: u8| usize::from(byte);
         match *bytes {
-            [4, 1, i, b, k, ref rest @ ..] => Ok((
-                Step::Unsupported {
-                    i: field(i),
-                    b: field(b),
-                    k: field(k),
-                },
-                rest,
-            )),
+            [4, 1, i, b, k, ref rest @ ..] => Ok((Step::Unsupported { i: field(i), b: field(b), k: field(k) }, rest)),
             [3, 2, i, v, ref rest @ ..] => Ok((Step::Snake { i: field(i), v: field(v) }, rest)),
             [3, 3, i, j, ref rest @ ..] => Ok((Step::Triangle { i: field(i), j: field(j) }, rest)),
-            [4, 4, i, b, a, ref rest @ ..] => Ok((
-                Step::Neighbourhood {
-                    i: field(i),
-                    b: field(b),
-                    a: field(a),
-                },
-                rest,
-            )),
-            [4, 5, i, b, a, ref rest @ ..] => Ok((
-                Step::SnakeSubstitution {
-                    i: field(i),
-                    b: field(b),
-                    a: field(a),
-                },
-                rest,
-            )),
+            [4, 4, i, b, a, ref rest @ ..] => Ok((Step::Neighbourhood { i: field(i), b: field(b), a: field(a) }, rest)),
+            [4, 5, i, b, a, ref rest @ ..] => Ok((Step::SnakeSubstitution { i: field(i), b: field(b), a: field(a) }, rest)),
             _ => Err(Refusal::RecordShape),
         }
     }
@@ -398,12 +353,7 @@ impl Problem {
         match kind {
             1 => Box::new(values().flat_map(|(i, b)| state.others(i).map(move |k| Step::Unsupported { i, b, k }))),
             2 => Box::new(values().map(|(i, v)| Step::Snake { i, v })),
-            3 => Box::new(
-                state
-                    .active()
-                    .iter()
-                    .flat_map(|&i| state.others(i).map(move |j| Step::Triangle { i, j })),
-            ),
+            3 => Box::new(state.active().iter().flat_map(|&i| state.others(i).map(move |j| Step::Triangle { i, j }))),
             4 => Box::new(pairs().map(|(i, b, a)| Step::Neighbourhood { i, b, a })),
             _ => Box::new(pairs().map(|(i, b, a)| Step::SnakeSubstitution { i, b, a })),
         }
@@ -414,9 +364,7 @@ impl Problem {
         if state.emptied() {
             return None;
         }
-        (1..=5)
-            .flat_map(|kind| self.candidates(state, kind))
-            .find(|&step| self.lawful(state, step))
+        (1..=5).flat_map(|kind| self.candidates(state, kind)).find(|&step| self.lawful(state, step))
     }
 
     /// All steps of the run, and the last state.
@@ -434,10 +382,7 @@ impl Problem {
     pub fn arc_consistent(&self, state: &State) -> State {
         let supported = |i: usize, a: usize| state.others(i).all(|j| self.has_support(state, i, a, j));
         let keep = |i: usize| state.live(i).iter().copied().filter(|&a| supported(i, a)).collect();
-        let kept = State {
-            active: state.active.clone(),
-            live: (0..MOST_ITEMS).map(keep).collect(),
-        };
+        let kept = State { active: state.active.clone(), live: (0..MOST_ITEMS).map(keep).collect() };
         if kept == *state {
             kept
         } else {
@@ -474,11 +419,7 @@ impl Problem {
         let value = |i: usize| usize::from(plan[i]);
         let out = |i: usize| !state.is_active(i) && plan[i] == OUT;
         let all_live = (0..plan.len()).all(|i| out(i) || state.is_live(i, value(i)));
-        all_live
-            && state
-                .active()
-                .iter()
-                .all(|&i| state.others(i).all(|j| self.allowed(i, value(i), j, value(j))))
+        all_live && state.active().iter().all(|&i| state.others(i).all(|j| self.allowed(i, value(i), j, value(j))))
     }
 }
 
@@ -487,10 +428,7 @@ impl Problem {
 /// Reads a sheet.
 pub fn read(sheet: &[u8]) -> Read {
     match read_sheet(sheet) {
-        Ok((problem, blocks)) => Read::Accepted {
-            items: problem.sizes.len() as u8,
-            blocks: blocks as u16,
-        },
+        Ok((problem, blocks)) => Read::Accepted { items: problem.sizes.len() as u8, blocks: blocks as u16 },
         Err(refused) => Read::Refused(refused),
     }
 }
@@ -512,11 +450,7 @@ fn try_run(sheet: &[u8], trace: &mut [u8], state: &mut [u8]) -> Result<Run, Refu
     let written = trace_of(&steps);
     trace[..written.len()].copy_from_slice(&written);
     state.copy_from_slice(&last.to_bytes());
-    Ok(Run::Done {
-        end: end(&last),
-        steps: steps.len() as u16,
-        written: written.len() as u16,
-    })
+    Ok(Run::Done { end: end(&last), steps: steps.len() as u16, written: written.len() as u16 })
 }
 
 /// "The trace is byte 0, version 1, then one record a step."
@@ -567,12 +501,7 @@ fn try_hand_call(sheet: &[u8], state: &mut [u8], item: u64) -> Result<HandCall, 
     if before.emptied() {
         return Err(Refusal::ItemEmpty);
     }
-    let v = before
-        .live(i)
-        .iter()
-        .copied()
-        .find(|&v| problem.snake(&before, i, v))
-        .ok_or(Refusal::NoSnake)?;
+    let v = before.live(i).iter().copied().find(|&v| problem.snake(&before, i, v)).ok_or(Refusal::NoSnake)?;
     state.copy_from_slice(&problem.perform(&before, Step::Snake { i, v }).to_bytes());
     Ok(HandCall::Taken { setting: v as u8 })
 }

@@ -58,24 +58,14 @@ fn worked(sheet: &[u8], sum_of_sizes: usize) -> (Run, State, Vec<u8>) {
 /// The sheet runs to this end with this trace, with the buffer's old bytes after it; answers the last state.
 fn runs(sheet: &[u8], sum_of_sizes: usize, end: End, steps: u16, trace: &[u8]) -> State {
     let (answer, state, buffer) = worked(sheet, sum_of_sizes);
-    assert_eq!(
-        answer,
-        Run::Done {
-            end,
-            steps,
-            written: trace.len() as u16
-        }
-    );
+    assert_eq!(answer, Run::Done { end, steps, written: trace.len() as u16 });
     assert_eq!(buffer[..trace.len()], *trace);
     assert!(buffer[trace.len()..].iter().all(|&byte| byte == OLD));
     state
 }
 
 fn state(items: u32, settings: &[u16]) -> State {
-    State {
-        items,
-        settings: std::array::from_fn(|i| settings.get(i).copied().unwrap_or(0)),
-    }
+    State { items, settings: std::array::from_fn(|i| settings.get(i).copied().unwrap_or(0)) }
 }
 
 fn started(sheet: &[u8]) -> [u8; HAND_STATE_LENGTH] {
@@ -122,22 +112,13 @@ fn b_buffers() {
     let mut state = [OLD; STATE_LENGTH];
     assert_eq!(run(&B, &mut short, &mut state), Run::Refused(Refusal::TraceBuffer));
     assert_eq!((short, state), ([OLD; 20], [OLD; STATE_LENGTH]));
-    assert_eq!(
-        run(&B, &mut exact, &mut state),
-        Run::Done {
-            end: End::Solved,
-            steps: 2,
-            written: 9
-        }
-    );
+    assert_eq!(run(&B, &mut exact, &mut state), Run::Done { end: End::Solved, steps: 2, written: 9 });
 }
 
 /// The numbers of the lines `sheet 2 4` and `solved 2 0 0`.
 #[test]
 fn b_printed() {
-    let Read::Accepted { items, .. } = read(&B) else {
-        panic!("accepted")
-    };
+    let Read::Accepted { items, .. } = read(&B) else { panic!("accepted") };
     let sum_of_sizes: u32 = B[8..10].iter().map(|&size| u32::from(size)).sum();
     assert_eq!((items, sum_of_sizes), (2, 4));
     let (answer, last, _) = worked(&B, 4);
@@ -182,10 +163,7 @@ fn f_setting_0_does_not_serve() {
     assert_eq!(put_back(&F, &trace, &[255; 3], &mut plan), PutBack::Done);
     assert_eq!(plan, [1, 0, 0]);
     let other = [1, 3, 2, 0, 0];
-    assert_eq!(
-        put_back(&F, &other, &[255, 0, 0], &mut plan),
-        PutBack::Refused(Refusal::RecordUnlawful)
-    );
+    assert_eq!(put_back(&F, &other, &[255, 0, 0], &mut plan), PutBack::Refused(Refusal::RecordUnlawful));
     let mut by_hand = started(&F);
     assert_eq!(hand_call(&F, &mut by_hand, 0), HandCall::Taken { setting: 1 });
     assert_eq!(State::from_bytes(&by_hand), state(6, &[0, 7, 7]));
@@ -227,9 +205,7 @@ fn refused_sheets() {
 fn every_refusal_has_its_number() {
     let numbers = (0..=255).filter(|&number| Refusal::from_number(number).is_some());
     assert_eq!(numbers.collect::<Vec<u8>>(), (1..=20).chain([200, 201]).collect::<Vec<u8>>());
-    assert!(Refusal::ALL
-        .iter()
-        .all(|&refusal| Refusal::from_number(refusal.number()) == Some(refusal)));
+    assert!(Refusal::ALL.iter().all(|&refusal| Refusal::from_number(refusal.number()) == Some(refusal)));
 }
 
 #[test]
@@ -246,9 +222,7 @@ fn state_lengths() {
 /// All ways to give each of n items one of so many settings.
 fn every_plan(n: u32, settings: usize) -> Vec<Vec<u8>> {
     let digit = |number: usize, place: u32| (number / settings.pow(place) % settings) as u8;
-    (0..settings.pow(n))
-        .map(|number| (0..n).map(|place| digit(number, place)).collect())
-        .collect()
+    (0..settings.pow(n)).map(|number| (0..n).map(|place| digit(number, place)).collect()).collect()
 }
 
 /// Whether the empty trace takes this plan for the full sheet, as it must exactly where it is one.

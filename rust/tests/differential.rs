@@ -41,9 +41,7 @@ fn main() {
     comparison.part("large sheets put back", LARGE_SHEETS / 4 / divisor, large_trace_case);
     comparison.counts.print();
     let missing = comparison.counts.missing();
-    missing
-        .iter()
-        .for_each(|line| println!("{}: {line}", if divisor == 1 { "too few" } else { "not demanded of a part" }));
+    missing.iter().for_each(|line| println!("{}: {line}", if divisor == 1 { "too few" } else { "not demanded of a part" }));
     println!("differential: {} calls compared, 0 differences", comparison.counts.calls());
     if divisor == 1 && !missing.is_empty() {
         std::process::exit(1);
@@ -88,11 +86,7 @@ impl Counts {
 
     /// The calls of one job that no fault of the sheet turned away.
     fn past_the_sheet(&self, job: usize) -> u64 {
-        self.answers
-            .iter()
-            .filter(|(key, _)| key.0 == job && !(1..=9).contains(&key.1))
-            .map(|(_, count)| count)
-            .sum()
+        self.answers.iter().filter(|(key, _)| key.0 == job && !(1..=9).contains(&key.1)).map(|(_, count)| count).sum()
     }
 
     fn of_number(&self, number: u8) -> u64 {
@@ -101,16 +95,9 @@ impl Counts {
 
     fn print(&self) {
         println!("sheets: {}, {} of them accepted", self.sheets, self.accepted_sheets);
-        let of_items = |(first, last)| {
-            format!(
-                "{first} to {last} {}",
-                self.sheets_by_items.range(first..=last).map(|(_, count)| count).sum::<u64>()
-            )
-        };
-        println!(
-            "accepted by items: {}",
-            [(1, 3), (4, 6), (7, 12), (13, 31), (32, 32)].map(of_items).join(", ")
-        );
+        let of_items =
+            |(first, last)| format!("{first} to {last} {}", self.sheets_by_items.range(first..=last).map(|(_, count)| count).sum::<u64>());
+        println!("accepted by items: {}", [(1, 3), (4, 6), (7, 12), (13, 31), (32, 32)].map(of_items).join(", "));
         println!("accepted with 32 items of 16 settings and 496 blocks: {}", self.fullest_sheets);
         println!("{:>10} {}", "answer", JOBS.map(|job| format!("{job:>10}")).join(" "));
         for number in std::iter::once(0).chain(Refusal::ALL.map(Refusal::number)) {
@@ -118,48 +105,26 @@ impl Counts {
             let count = |job: usize| format!("{:>10}", self.answers.get(&(job, number)).unwrap_or(&0));
             println!("{name:>10} {}", [0, 1, 2, 3, 4].map(count).join(" "));
         }
-        println!(
-            "{:>10} {}",
-            "all",
-            [0, 1, 2, 3, 4].map(|job| format!("{:>10}", self.of_job(job))).join(" ")
-        );
-        let past = JOBS
-            .iter()
-            .enumerate()
-            .map(|(job, name)| format!("{name} {}", self.past_the_sheet(job)));
-        println!(
-            "calls that no fault of the sheet turned away: {}",
-            past.collect::<Vec<_>>().join(", ")
-        );
+        println!("{:>10} {}", "all", [0, 1, 2, 3, 4].map(|job| format!("{:>10}", self.of_job(job))).join(" "));
+        let past = JOBS.iter().enumerate().map(|(job, name)| format!("{name} {}", self.past_the_sheet(job)));
+        println!("calls that no fault of the sheet turned away: {}", past.collect::<Vec<_>>().join(", "));
         let ends = [End::Impossible, End::Solved, End::Rest].map(|end| format!("{end:?} {}", self.ends.get(&end.number()).unwrap_or(&0)));
         println!("ends of runs: {}", ends.join(", "));
-        println!(
-            "steps of runs: {}; runs of more than 255: {}",
-            by_kind(&self.run_steps),
-            self.long_runs
-        );
+        println!("steps of runs: {}; runs of more than 255: {}", by_kind(&self.run_steps), self.long_runs);
         println!("records of accepted lent traces: {}", by_kind(&self.lent_records));
         println!("slides among them that are no covers: {}", self.slides_not_covers);
         println!(
             "items taken out that cost another item a setting: {} in lent traces, {} by hand",
             self.lent_partners_lost, self.hand_partners_lost
         );
-        println!(
-            "plans put back in which an item left has another setting than before: {}",
-            self.changed_when_undone
-        );
+        println!("plans put back in which an item left has another setting than before: {}", self.changed_when_undone);
     }
 
     /// What falls short of its least count.
     fn missing(&self) -> Vec<String> {
         let jobs = [3, 4].map(|job| (JOBS[job].to_string(), self.past_the_sheet(job), LEAST_CALLS));
-        let refusals = Refusal::ALL.map(|refusal| {
-            (
-                format!("refusal {}", refusal.number()),
-                self.of_number(refusal.number()),
-                LEAST_OF_EACH,
-            )
-        });
+        let refusals =
+            Refusal::ALL.map(|refusal| (format!("refusal {}", refusal.number()), self.of_number(refusal.number()), LEAST_OF_EACH));
         let ends = [0, 1, 2].map(|end| (format!("end {end}"), *self.ends.get(&end).unwrap_or(&0), LEAST_OF_EACH));
         let steps = [1, 2, 3, 4].map(|kind| (format!("steps of runs of kind {kind}"), self.run_steps[kind], LEAST_OF_EACH));
         let records = [1, 2, 3, 4, 5].map(|kind| (format!("lent records of kind {kind}"), self.lent_records[kind], LEAST_OF_EACH));
@@ -169,34 +134,16 @@ impl Counts {
             ("slides that are no covers".to_string(), self.slides_not_covers, LEAST_OF_EACH),
             ("partners lost in lent traces".to_string(), self.lent_partners_lost, LEAST_OF_EACH),
             ("partners lost by hand".to_string(), self.hand_partners_lost, LEAST_OF_EACH),
-            (
-                "sheets of 32 items of 16 settings, 496 blocks".to_string(),
-                self.fullest_sheets,
-                LEAST_FULLEST,
-            ),
-            (
-                "settings changed when put back".to_string(),
-                self.changed_when_undone,
-                LEAST_OF_EACH,
-            ),
+            ("sheets of 32 items of 16 settings, 496 blocks".to_string(), self.fullest_sheets, LEAST_FULLEST),
+            ("settings changed when put back".to_string(), self.changed_when_undone, LEAST_OF_EACH),
         ];
-        let all = jobs
-            .into_iter()
-            .chain(refusals)
-            .chain(ends)
-            .chain(steps)
-            .chain(records)
-            .chain(others);
-        all.filter(|(_, count, least)| count < least)
-            .map(|(name, count, least)| format!("{name}: {count}, least {least}"))
-            .collect()
+        let all = jobs.into_iter().chain(refusals).chain(ends).chain(steps).chain(records).chain(others);
+        all.filter(|(_, count, least)| count < least).map(|(name, count, least)| format!("{name}: {count}, least {least}")).collect()
     }
 }
 
 fn by_kind(counts: &[u64; 6]) -> String {
-    [1, 2, 3, 4, 5]
-        .map(|kind| format!("{} {}", KINDS[kind - 1], counts[kind]))
-        .join(", ")
+    [1, 2, 3, 4, 5].map(|kind| format!("{} {}", KINDS[kind - 1], counts[kind])).join(", ")
 }
 
 // ---- One call of each implementation ------------------------------------------------------------------------------------------------
@@ -250,13 +197,7 @@ type Call<'a, A> = &'a dyn Fn(&mut Workspace, &[Lent], &mut [Lent]) -> A;
 
 impl Comparison {
     fn new(seed: u64) -> Comparison {
-        Comparison {
-            seed,
-            part: "",
-            case: 0,
-            fast: Workspace::new(),
-            counts: Counts::default(),
-        }
+        Comparison { seed, part: "", case: 0, fast: Workspace::new(), counts: Counts::default() }
     }
 
     fn part(&mut self, part: &'static str, cases: u64, compare: fn(&mut Comparison, &mut Random)) {
@@ -282,22 +223,15 @@ impl Comparison {
             (answer, lent, written)
         });
         let [proved, reference, fast] = &results;
-        let inputs_stay = results
-            .iter()
-            .all(|(_, lent, _)| lent.iter().zip(inputs).all(|(after, before)| **after == **before));
-        let unchanged = results
-            .iter()
-            .all(|(_, _, written)| written.iter().zip(buffers).all(|(after, before)| **after == **before));
+        let inputs_stay = results.iter().all(|(_, lent, _)| lent.iter().zip(inputs).all(|(after, before)| **after == **before));
+        let unchanged = results.iter().all(|(_, _, written)| written.iter().zip(buffers).all(|(after, before)| **after == **before));
         let alike = proved.0 == reference.0 && proved.2 == reference.2 && fast.0 == reference.0 && fast.2 == reference.2;
         if !alike || !inputs_stay || (reference.0.number() != 0 && !unchanged) {
             self.difference(job, inputs, buffers, note);
             for (name, (answer, lent, written)) in ["proved", "reference", "fast"].into_iter().zip(&results) {
                 println!("{name}: {answer:?}");
                 written.iter().for_each(|bytes| println!("    written {}", hexadecimal(bytes)));
-                lent.iter()
-                    .zip(inputs)
-                    .filter(|(a, b)| ***a != ***b)
-                    .for_each(|(a, _)| println!("    input now {}", hexadecimal(a)));
+                lent.iter().zip(inputs).filter(|(a, b)| ***a != ***b).for_each(|(a, _)| println!("    input now {}", hexadecimal(a)));
             }
             std::process::exit(1);
         }
@@ -307,10 +241,7 @@ impl Comparison {
     }
 
     fn difference(&self, job: usize, inputs: &[&[u8]], buffers: &[&[u8]], note: &str) {
-        println!(
-            "difference in {}: seed {}, {}, case {}{note}",
-            JOBS[job], self.seed, self.part, self.case
-        );
+        println!("difference in {}: seed {}, {}, case {}{note}", JOBS[job], self.seed, self.part, self.case);
         inputs.iter().for_each(|bytes| println!("    input {}", hexadecimal(bytes)));
         buffers.iter().for_each(|bytes| println!("    buffer {}", hexadecimal(bytes)));
     }
@@ -322,11 +253,7 @@ impl Comparison {
             &[sheet],
             &[],
             "",
-            [
-                &|_, lent, _| boundary::read(&lent[0]),
-                &|_, lent, _| reference::read(&lent[0]),
-                &|fast, lent, _| fast.read(&lent[0]),
-            ],
+            [&|_, lent, _| boundary::read(&lent[0]), &|_, lent, _| reference::read(&lent[0]), &|fast, lent, _| fast.read(&lent[0])],
         );
         if let Read::Accepted { items, blocks } = answer {
             self.counts.accepted_sheets += 1;
@@ -449,22 +376,14 @@ fn trace_length(problem: &Problem) -> usize {
 
 /// Read, run and start on one sheet, three in ten of them with a fault.
 fn sheet_case(comparison: &mut Comparison, random: &mut Random) {
-    let sheet = if random.chance(30) {
-        generate::damaged_sheet(random)
-    } else {
-        generate::random_draft(random).bytes()
-    };
+    let sheet = if random.chance(30) { generate::damaged_sheet(random) } else { generate::random_draft(random).bytes() };
     every_job(comparison, random, &sheet);
 }
 
 /// The same on a large sheet, one in ten with a fault, and a list of hand calls from the start.
 fn large_case(comparison: &mut Comparison, random: &mut Random) {
     let draft = generate::large_draft(random);
-    let sheet = if random.chance(10) {
-        generate::damaged(random, draft)
-    } else {
-        draft.bytes()
-    };
+    let sheet = if random.chance(10) { generate::damaged(random, draft) } else { draft.bytes() };
     every_job(comparison, random, &sheet);
     if let Ok((problem, _)) = reference::read_sheet(&sheet) {
         let start = comparison.start(&sheet, HAND_STATE_LENGTH).1;
@@ -557,11 +476,7 @@ fn arc_consistent(problem: &Problem, state: &[u8]) -> Vec<u8> {
 
 /// A sheet whose traces and plans are put back: mostly small.
 fn trace_case(comparison: &mut Comparison, random: &mut Random) {
-    let draft = if random.chance(60) {
-        generate::small_draft(random)
-    } else {
-        generate::random_draft(random)
-    };
+    let draft = if random.chance(60) { generate::small_draft(random) } else { generate::random_draft(random) };
     put_back_calls(comparison, random, &draft.bytes());
 }
 
@@ -578,25 +493,9 @@ fn put_back_calls(comparison: &mut Comparison, random: &mut Random, sheet: &[u8]
         let plan = generate::find_plan(random, &problem, &last).unwrap_or_else(|| generate::any_plan(random, &problem, &last));
         let again = generate::find_plan(random, &problem, &last).filter(|other| *other != plan);
         let trace = reference::trace_of(&steps);
-        damaged_calls(
-            comparison,
-            random,
-            &Lending {
-                sheet,
-                problem: &problem,
-                trace: &trace,
-                plan: &plan,
-            },
-            &steps,
-        );
+        damaged_calls(comparison, random, &Lending { sheet, problem: &problem, trace: &trace, plan: &plan }, &steps);
         if let Some(plan) = again {
-            Lending {
-                sheet,
-                problem: &problem,
-                trace: &trace,
-                plan: &plan,
-            }
-            .put_back(comparison, plan.len());
+            Lending { sheet, problem: &problem, trace: &trace, plan: &plan }.put_back(comparison, plan.len());
         }
     }
 }
@@ -627,10 +526,5 @@ fn damaged_calls(comparison: &mut Comparison, random: &mut Random, lending: &Len
     Lending { plan: &plan, ..*lending }.put_back(comparison, n);
     Lending { trace: &trace, ..*lending }.put_back(comparison, n);
     let length = if random.chance(10) { wrong_length(random, n) } else { n };
-    Lending {
-        trace: &trace,
-        plan: &plan,
-        ..*lending
-    }
-    .put_back(comparison, length);
+    Lending { trace: &trace, plan: &plan, ..*lending }.put_back(comparison, length);
 }

@@ -71,14 +71,8 @@ struct Counts {
 impl Counts {
     fn print(&self) {
         println!("runs: {}, steps in them: {}, all lawful", self.runs, self.steps);
-        println!(
-            "other lawful traces: {} random, {} that are all of their sheets",
-            self.lent_traces, self.all_traces
-        );
-        println!(
-            "sheets left: {} with a plan, {} without, each as its full sheet",
-            self.solvable, self.unsolvable
-        );
+        println!("other lawful traces: {} random, {} that are all of their sheets", self.lent_traces, self.all_traces);
+        println!("sheets left: {} with a plan, {} without, each as its full sheet", self.solvable, self.unsolvable);
         println!(
             "plans: {} of what is left, put back into a plan of the full sheet; {} that are none, refused",
             self.plans_put_back, self.plans_refused
@@ -109,10 +103,7 @@ type Reached = BTreeMap<Vec<u8>, Vec<Vec<u8>>>;
 fn assignments(problem: &Problem, state: &State) -> Vec<Vec<u8>> {
     let mut all = vec![vec![OUT; problem.sizes().len()]];
     for &i in state.active() {
-        all = all
-            .iter()
-            .flat_map(|plan| state.live(i).iter().map(move |&a| with(plan, i, a as u8)))
-            .collect();
+        all = all.iter().flat_map(|plan| state.live(i).iter().map(move |&a| with(plan, i, a as u8))).collect();
     }
     all
 }
@@ -125,15 +116,8 @@ fn with(plan: &[u8], i: usize, value: u8) -> Vec<u8> {
 
 /// Each two items that have a setting have an allowed pair.
 fn allowed(problem: &Problem, plan: &[u8]) -> bool {
-    let placed: Vec<(usize, usize)> = plan
-        .iter()
-        .enumerate()
-        .filter(|(_, &a)| a != OUT)
-        .map(|(i, &a)| (i, usize::from(a)))
-        .collect();
-    placed
-        .iter()
-        .all(|&(i, a)| placed.iter().all(|&(j, b)| i == j || problem.allowed(i, a, j, b)))
+    let placed: Vec<(usize, usize)> = plan.iter().enumerate().filter(|(_, &a)| a != OUT).map(|(i, &a)| (i, usize::from(a))).collect();
+    placed.iter().all(|&(i, a)| placed.iter().all(|&(j, b)| i == j || problem.allowed(i, a, j, b)))
 }
 
 impl Case<'_> {
@@ -177,16 +161,8 @@ impl Case<'_> {
         let Ok((replayed, last)) = reference::replay(&self.problem, trace) else {
             self.fault("a step is not lawful", trace);
         };
-        self.demand(
-            replayed.len() == usize::from(steps) && usize::from(steps) <= most,
-            "the number of steps is wrong",
-            trace,
-        );
-        self.demand(
-            last.to_bytes() == state,
-            "the last state is not the one that the steps lead to",
-            trace,
-        );
+        self.demand(replayed.len() == usize::from(steps) && usize::from(steps) <= most, "the number of steps is wrong", trace);
+        self.demand(last.to_bytes() == state, "the last state is not the one that the steps lead to", trace);
         self.demand(last.emptied() == (end == End::Impossible), "the end impossible is wrong", trace);
         self.demand(last.active().is_empty() == (end == End::Solved), "the end solved is wrong", trace);
         self.demand(last.emptied() || self.no_rule_holds(&last), "a rule still holds", trace);
@@ -201,19 +177,9 @@ impl Case<'_> {
 
     /// The sheet left has a plan exactly when the full sheet has one, and each plan of what is left is put back into one of the full sheet.
     fn undone(&self, trace: &[u8], last: &State, counts: &mut Counts) {
-        let (plans, others): (Vec<_>, Vec<_>) = assignments(&self.problem, last)
-            .into_iter()
-            .partition(|plan| allowed(&self.problem, plan));
-        self.demand(
-            plans.is_empty() == self.plans.is_empty(),
-            "one of the sheets has a plan and the other none",
-            trace,
-        );
-        *if plans.is_empty() {
-            &mut counts.unsolvable
-        } else {
-            &mut counts.solvable
-        } += 1;
+        let (plans, others): (Vec<_>, Vec<_>) = assignments(&self.problem, last).into_iter().partition(|plan| allowed(&self.problem, plan));
+        self.demand(plans.is_empty() == self.plans.is_empty(), "one of the sheets has a plan and the other none", trace);
+        *if plans.is_empty() { &mut counts.unsolvable } else { &mut counts.solvable } += 1;
         for plan in &plans {
             let mut full = vec![0; plan.len()];
             let answer = boundary::put_back(self.sheet, trace, plan, &mut full);
@@ -223,11 +189,7 @@ impl Case<'_> {
         for plan in &others {
             let mut untouched = vec![77; plan.len()];
             let answer = boundary::put_back(self.sheet, trace, plan, &mut untouched);
-            self.demand(
-                answer == PutBack::Refused(Refusal::PlanUnfit),
-                "a barred pair was let through",
-                trace,
-            );
+            self.demand(answer == PutBack::Refused(Refusal::PlanUnfit), "a barred pair was let through", trace);
             self.demand(untouched == vec![77; plan.len()], "a refused call wrote", trace);
         }
         counts.plans_put_back += plans.len() as u64;
@@ -258,11 +220,7 @@ impl Case<'_> {
 
     fn demand_three(&self, random: &mut Random, counts: &mut Counts) {
         let mut start = [0; HAND_STATE_LENGTH];
-        self.demand(
-            boundary::start(self.sheet, &mut start) == Start::Started,
-            "the start was refused",
-            &[],
-        );
+        self.demand(boundary::start(self.sheet, &mut start) == Start::Started, "the start was refused", &[]);
         counts.start_states += 1;
         self.all_lists(&start, counts);
         let fitting = generate::fitting_state(random, &self.problem).to_bytes();
@@ -277,11 +235,7 @@ impl Case<'_> {
     /// Where two lists are finished, they end alike; and no list takes out an item that a finished one leaves.
     fn all_lists(&self, first: &[u8], counts: &mut Counts) {
         let reached = self.reached(first, counts);
-        let finished: Vec<State> = reached
-            .keys()
-            .map(|state| State::from_bytes(state))
-            .filter(|state| self.finished(state))
-            .collect();
+        let finished: Vec<State> = reached.keys().map(|state| State::from_bytes(state)).filter(|state| self.finished(state)).collect();
         self.demand(finished.len() <= 1, "two finished lists end otherwise", first);
         for left in &finished {
             let keeps = |state: &Vec<u8>| left.active().iter().all(|&i| State::from_bytes(state).is_active(i));
@@ -293,11 +247,7 @@ impl Case<'_> {
         counts.finished_states += finished.len() as u64;
         for order in orders(self.problem.sizes().len()) {
             let last = called_in_order(&reached, first, &order);
-            self.demand(
-                emptied || finished[0].to_bytes() == last,
-                "an order of calling ends otherwise",
-                first,
-            );
+            self.demand(emptied || finished[0].to_bytes() == last, "an order of calling ends otherwise", first);
             counts.orders += 1;
         }
     }
@@ -311,11 +261,7 @@ impl Case<'_> {
     fn reached(&self, first: &[u8], counts: &mut Counts) -> Reached {
         let n = self.problem.sizes().len() as u64;
         for item in [n, 32, 255, 1 << 32, u64::MAX] {
-            self.demand(
-                self.called(first, item, counts) == first,
-                "a call for an item off the sheet wrote",
-                first,
-            );
+            self.demand(self.called(first, item, counts) == first, "a call for an item off the sheet wrote", first);
         }
         let mut reached = Reached::new();
         let mut open = vec![first.to_vec()];
@@ -339,11 +285,7 @@ impl Case<'_> {
             HandCall::Refused(_) => self.demand(next == state, "a refused call wrote", state),
             HandCall::Taken { .. } => {
                 let left: Vec<usize> = before.active().iter().copied().filter(|&i| i as u64 != item).collect();
-                self.demand(
-                    after.active() == left && left.len() < before.active().len(),
-                    "not the named item only went out",
-                    state,
-                );
+                self.demand(after.active() == left && left.len() < before.active().len(), "not the named item only went out", state);
             }
         }
         next
