@@ -3,6 +3,11 @@
 use crate::boundary::{State as Masks, MOST_ITEMS, MOST_SETTINGS, STATE_LENGTH};
 use crate::reference::{Problem, State, Step, OUT};
 
+/// A number that the environment gives, as a seed or a part of the sizes.
+pub fn from_environment(name: &str, default: u64) -> u64 {
+    std::env::var(name).map_or(default, |text| text.parse().unwrap_or_else(|_| panic!("{name} is not a number")))
+}
+
 /// A splitmix generator: the same seed gives the same numbers on every machine.
 #[derive(Clone)]
 pub struct Random(u64);

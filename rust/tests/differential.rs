@@ -31,8 +31,8 @@ const JOBS: [&str; 5] = ["read", "run", "start", "hand call", "put back"];
 const KINDS: [&str; 5] = ["bare", "snake", "fold", "cover", "slide"];
 
 fn main() {
-    let seed = number("ZOMUWEDLI_SEED", SEED);
-    let divisor = number("ZOMUWEDLI_PART", 1).max(1);
+    let seed = generate::from_environment("ZOMUWEDLI_SEED", SEED);
+    let divisor = generate::from_environment("ZOMUWEDLI_PART", 1).max(1);
     let mut comparison = Comparison::new(seed);
     comparison.part("sheets", SHEETS / divisor, sheet_case);
     comparison.part("large sheets", LARGE_SHEETS / divisor, large_case);
@@ -46,10 +46,6 @@ fn main() {
     if divisor == 1 && !missing.is_empty() {
         std::process::exit(1);
     }
-}
-
-fn number(name: &str, default: u64) -> u64 {
-    std::env::var(name).map_or(default, |text| text.parse().unwrap_or_else(|_| panic!("{name} is not a number")))
 }
 
 // ---- Counts -------------------------------------------------------------------------------------------------------------------------
