@@ -34,10 +34,10 @@ fn main() {
     let seed = generate::from_environment("ZOMUWEDLI_SEED", SEED);
     let divisor = generate::from_environment("ZOMUWEDLI_PART", 1).max(1);
     let mut comparison = Comparison::new(seed);
-    comparison.part("sheets", SHEETS / divisor, sheet_case);
-    comparison.part("large sheets", LARGE_SHEETS / divisor, large_case);
     comparison.part("hand calls", HAND_LISTS / divisor, hand_case);
     comparison.part("putting back", TRACES / divisor, trace_case);
+    comparison.part("sheets", SHEETS / divisor, sheet_case);
+    comparison.part("large sheets", LARGE_SHEETS / divisor, large_case);
     comparison.part("large sheets put back", LARGE_SHEETS / 4 / divisor, large_trace_case);
     comparison.counts.print();
     let missing = comparison.counts.missing();
