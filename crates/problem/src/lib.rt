@@ -1,7 +1,6 @@
-// The types that the definitions of specs/ share with the code, and two small functions over them.
+// The types that the definitions of specs/ share with the code, and the state that holds nothing.
 ghost use mathlib.Core.Path.{_≡_};
 ghost use Rattle.problem.specs.Masks.{emptyMasks};
-ghost use Rattle.problem.specs.Reduce.{kindOf};
 
 // A state as masks: the variables that are active, and the values in the domain of each.
 pub struct Masks {
@@ -47,18 +46,5 @@ pub fn empty_masks() -> Masks
     Masks {
         active: 0,
         domains: [0u16; 32],
-    }
-}
-
-// The kind of a record.
-pub fn kind_of(r: Record) -> u8
-    ensures { λ k. ⌜ k ≡ kindOf r ⌝ }
-{
-    match r {
-        Record::Unsupported(_, _, _) => 1,
-        Record::Snake(_, _) => 2,
-        Record::Triangle(_, _) => 3,
-        Record::Neighbourhood(_, _, _) => 4,
-        Record::SnakeSubstitution(_, _, _) => 5,
     }
 }

@@ -326,7 +326,7 @@ fn next_block(s: &[u8], p: usize) -> usize
 }
 
 // Where the rows of the block of i and j start.
-pub fn rows_of(s: &[u8], i: usize, j: usize) -> Rows
+fn rows_of(s: &[u8], i: usize, j: usize) -> Rows
     requires { ⌜ Keeps layout (now s) ⌝ }
     ensures { λ r. ⌜ r ≡ rowsOf layout (now (s .entry)) i j ⌝ }
 {

@@ -36,7 +36,7 @@ fn put_bytes(out: &mut [u8], at: usize, w: &[u8]) -> usize
 // ---- numbers
 
 // A number in decimal digits: those before the last one, if any, and the last one.
-pub fn put_decimal(out: &mut [u8], at: usize, x: usize) -> usize
+fn put_decimal(out: &mut [u8], at: usize, x: usize) -> usize
     requires { ⌜ (x < 100000) × (at + 5 ≤ length (now out)) ⌝ }
     ensures text { λ r. ⌜ (now (out .exit) ≡ written (now (out .entry)) at (decimal x)) × (r ≡ at + length (decimal x)) ⌝ }
     ensures within { λ r. ⌜ r ≤ at + 5 ⌝ }
@@ -49,7 +49,7 @@ pub fn put_decimal(out: &mut [u8], at: usize, x: usize) -> usize
 }
 
 // A space and a number.
-pub fn put_field(out: &mut [u8], at: usize, x: usize) -> usize
+fn put_field(out: &mut [u8], at: usize, x: usize) -> usize
     requires { ⌜ (x < 100000) × (at + 6 ≤ length (now out)) ⌝ }
     ensures text { λ r. ⌜ (now (out .exit) ≡ written (now (out .entry)) at (field x)) × (r ≡ at + length (field x)) ⌝ }
     ensures within { λ r. ⌜ r ≤ at + 6 ⌝ }
