@@ -6,20 +6,20 @@ use Prim.Native.Nat.{ℕ, zero, suc, _+_, _≤_, _<_}
 use native.Mathlib.Nat.{le-refl, le-of-suc-le-suc, not-suc-le-zero}
 use native.Mathlib.Omega.{arith}
 use lib.Dec.{T}
-use Rattle.bounded.specs.Bounded.{all, any, lowest, sumTo, one, count}
+use Rattle.bounded.specs.Bounded.{allBelow, anyBelow, lowest, sumTo, oneIf, countBelow}
 use Rattle.bounded.proofs.Truth.{T-true, T-of, T-dec, at-or-below, eq-dec, lt-dec}
 
 -- ---- all and any
 
-all-suc : (n : ℕ) (f : ℕ → Bool) → T (all (suc n) f) ↔ (T (f n) × T (all n f))
-unfolding all
+all-suc : (n : ℕ) (f : ℕ → Bool) → T (allBelow (suc n) f) ↔ (T (f n) × T (allBelow n f))
+unfolding allBelow
 all-suc n f = go (f n)
   where
-    go : (b : Bool) → T (elim b as (λ x. Bool) [ true ↦ all n f | false ↦ false ]) ↔ (T b × T (all n f))
+    go : (b : Bool) → T (elim b as (λ x. Bool) [ true ↦ allBelow n f | false ↦ false ]) ↔ (T b × T (allBelow n f))
     go true = (λ t. (tt, t), λ p. p .1)
     go false = (λ t. absurd t, λ p. p .0)
 
-all-to : (n : ℕ) (f : ℕ → Bool) → T (all n f) → (k : ℕ) → k < n → T (f k)
+all-to : (n : ℕ) (f : ℕ → Bool) → T (allBelow n f) → (k : ℕ) → k < n → T (f k)
 all-to zero f t k h = absurd (not-suc-le-zero h)
 all-to (suc n) f t k h = go (at-or-below h) (all-to n f (all-suc n f .0 t .1) k)
   where
@@ -27,49 +27,49 @@ all-to (suc n) f t k h = go (at-or-below h) (all-to n f (all-suc n f .0 t .1) k)
     go (inl e) ih = rw e (all-suc n f .0 t .0)
     go (inr l) ih = ih l
 
-all-of : (n : ℕ) (f : ℕ → Bool) → ((k : ℕ) → k < n → T (f k)) → T (all n f)
-unfolding all
+all-of : (n : ℕ) (f : ℕ → Bool) → ((k : ℕ) → k < n → T (f k)) → T (allBelow n f)
+unfolding allBelow
 all-of zero f h = tt
 all-of (suc n) f h = all-suc n f .1 (h n (omega arith), all-of n f (λ k l. h k (omega arith)))
 
-pub all-iff : (n : ℕ) (f : ℕ → Bool) → T (all n f) ↔ ((k : ℕ) → k < n → T (f k))
+pub all-iff : (n : ℕ) (f : ℕ → Bool) → T (allBelow n f) ↔ ((k : ℕ) → k < n → T (f k))
 all-iff n f = (all-to n f, all-of n f)
 
-any-suc : (n : ℕ) (f : ℕ → Bool) → T (any (suc n) f) ↔ (T (f n) ⊎ T (any n f))
-unfolding any
+any-suc : (n : ℕ) (f : ℕ → Bool) → T (anyBelow (suc n) f) ↔ (T (f n) ⊎ T (anyBelow n f))
+unfolding anyBelow
 any-suc n f = go (f n)
   where
-    go : (b : Bool) → T (elim b as (λ x. Bool) [ true ↦ true | false ↦ any n f ]) ↔ (T b ⊎ T (any n f))
+    go : (b : Bool) → T (elim b as (λ x. Bool) [ true ↦ true | false ↦ anyBelow n f ]) ↔ (T b ⊎ T (anyBelow n f))
     go true = (λ t. inl tt, λ p. tt)
     go false = (λ t. inr t, λ p. elim p [ inl a ↦ absurd a | inr b ↦ b ])
 
-any-to : (n : ℕ) (f : ℕ → Bool) → T (any n f) → (k : ℕ) × (k < n) × T (f k)
-unfolding any
+any-to : (n : ℕ) (f : ℕ → Bool) → T (anyBelow n f) → (k : ℕ) × (k < n) × T (f k)
+unfolding anyBelow
 any-to zero f t = absurd t
 any-to (suc n) f t = go (any-suc n f .0 t) (any-to n f)
   where
-    go : T (f n) ⊎ T (any n f) → (T (any n f) → (k : ℕ) × (k < n) × T (f k)) → (k : ℕ) × (k < suc n) × T (f k)
+    go : T (f n) ⊎ T (anyBelow n f) → (T (anyBelow n f) → (k : ℕ) × (k < n) × T (f k)) → (k : ℕ) × (k < suc n) × T (f k)
     go (inl a) ih = (n, omega arith, a)
     go (inr b) ih = (ih b .0, omega (arith, ih b .1), ih b .2)
 
-any-of : (n : ℕ) (f : ℕ → Bool) → ((k : ℕ) × (k < n) × T (f k)) → T (any n f)
+any-of : (n : ℕ) (f : ℕ → Bool) → ((k : ℕ) × (k < n) × T (f k)) → T (anyBelow n f)
 any-of zero f h = absurd (not-suc-le-zero (h .1))
 any-of (suc n) f h = go (at-or-below (h .1)) (any-of n f)
   where
-    go : (h .0 ≡ n) ⊎ (h .0 < n) → (((k : ℕ) × (k < n) × T (f k)) → T (any n f)) → T (any (suc n) f)
+    go : (h .0 ≡ n) ⊎ (h .0 < n) → (((k : ℕ) × (k < n) × T (f k)) → T (anyBelow n f)) → T (anyBelow (suc n) f)
     go (inl e) ih = any-suc n f .1 (inl (rw e at (h .2)))
     go (inr l) ih = any-suc n f .1 (inr (ih (h .0, l, h .2)))
 
-pub any-iff : (n : ℕ) (f : ℕ → Bool) → T (any n f) ↔ ((k : ℕ) × (k < n) × T (f k))
+pub any-iff : (n : ℕ) (f : ℕ → Bool) → T (anyBelow n f) ↔ ((k : ℕ) × (k < n) × T (f k))
 any-iff n f = (any-to n f, any-of n f)
 
 -- all pass, or one that fails is found
-pub all-or : (n : ℕ) (f : ℕ → Bool) → T (all n f) ⊎ ((k : ℕ) × (k < n) × (T (f k) → ⊥))
-unfolding all
+pub all-or : (n : ℕ) (f : ℕ → Bool) → T (allBelow n f) ⊎ ((k : ℕ) × (k < n) × (T (f k) → ⊥))
+unfolding allBelow
 all-or zero f = inl tt
 all-or (suc n) f = go (T-dec (f n)) (all-or n f)
   where
-    go : T (f n) ⊎ (T (f n) → ⊥) → T (all n f) ⊎ ((k : ℕ) × (k < n) × (T (f k) → ⊥)) → T (all (suc n) f) ⊎ ((k : ℕ) × (k < suc n) × (T (f k) → ⊥))
+    go : T (f n) ⊎ (T (f n) → ⊥) → T (allBelow n f) ⊎ ((k : ℕ) × (k < n) × (T (f k) → ⊥)) → T (allBelow (suc n) f) ⊎ ((k : ℕ) × (k < suc n) × (T (f k) → ⊥))
     go (inr d) r = inr (n, omega arith, d)
     go (inl t) (inl a) = inl (all-suc n f .1 (t, a))
     go (inl t) (inr x) = inr (x .0, omega (arith, x .1), x .2)
@@ -157,35 +157,35 @@ unfolding sumTo
 sum-ext zero f g h = refl
 sum-ext (suc n) f g h = omega (arith, sum-ext n f g (λ k l. h k (omega arith)), h n (omega arith))
 
-one-le : (a b : Bool) → (T a → T b) → one a ≤ one b
+one-le : (a b : Bool) → (T a → T b) → oneIf a ≤ oneIf b
 one-le true true f = omega arith
 one-le true false f = absurd (f tt)
 one-le false true f = omega arith
 one-le false false f = omega arith
 
-one-lt : (a b : Bool) → (T a → ⊥) → T b → one a < one b
+one-lt : (a b : Bool) → (T a → ⊥) → T b → oneIf a < oneIf b
 one-lt true b f t = absurd (f tt)
 one-lt false true f t = omega arith
 one-lt false false f t = absurd t
 
-pub count-le : (n : ℕ) (f g : ℕ → Bool) → ((k : ℕ) → k < n → T (f k) → T (g k)) → count n f ≤ count n g
-unfolding count
+pub count-le : (n : ℕ) (f g : ℕ → Bool) → ((k : ℕ) → k < n → T (f k) → T (g k)) → countBelow n f ≤ countBelow n g
+unfolding countBelow
 count-le n f g h = sum-le n _ _ (λ k l. one-le (f k) (g k) (h k l))
 
-pub count-lt : (n : ℕ) (f g : ℕ → Bool) → ((k : ℕ) → k < n → T (f k) → T (g k)) → (m : ℕ) → m < n → (T (f m) → ⊥) → T (g m) → count n f < count n g
-unfolding count
+pub count-lt : (n : ℕ) (f g : ℕ → Bool) → ((k : ℕ) → k < n → T (f k) → T (g k)) → (m : ℕ) → m < n → (T (f m) → ⊥) → T (g m) → countBelow n f < countBelow n g
+unfolding countBelow
 count-lt n f g h m l x t = sum-lt n _ _ (λ k l. one-le (f k) (g k) (h k l)) m l (one-lt (f m) (g m) x t)
 
 -- a test that all pass counts them all
-pub count-all : (n : ℕ) (f : ℕ → Bool) → ((k : ℕ) → k < n → T (f k)) → count n f ≡ n
-unfolding count sumTo
+pub count-all : (n : ℕ) (f : ℕ → Bool) → ((k : ℕ) → k < n → T (f k)) → countBelow n f ≡ n
+unfolding countBelow sumTo
 count-all zero f h = refl
 count-all (suc n) f h =
-    let e : one (f n) ≡ 1 = ap one (T-true (f n) (h n (omega arith))) in
-    let i : sumTo n (λ k. one (f k)) ≡ n = count-all n f (λ k l. h k (omega arith)) in
+    let e : oneIf (f n) ≡ 1 = ap oneIf (T-true (f n) (h n (omega arith))) in
+    let i : sumTo n (λ k. oneIf (f k)) ≡ n = count-all n f (λ k l. h k (omega arith)) in
     omega arith
 
-pub count-most : (n : ℕ) (f : ℕ → Bool) → count n f ≤ n
-unfolding count sumTo
+pub count-most : (n : ℕ) (f : ℕ → Bool) → countBelow n f ≤ n
+unfolding countBelow sumTo
 count-most zero f = le-refl 0
-count-most (suc n) f = let e : one (f n) ≤ 1 = one-le (f n) true (λ t. tt) in let i : sumTo n (λ k. one (f k)) ≤ n = count-most n f in omega arith
+count-most (suc n) f = let e : oneIf (f n) ≤ 1 = one-le (f n) true (λ t. tt) in let i : sumTo n (λ k. oneIf (f k)) ≤ n = count-most n f in omega arith

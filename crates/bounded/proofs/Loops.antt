@@ -7,61 +7,61 @@ use Prim.Native.Nat.{ℕ, _+_, _≤_, _<_}
 use native.Mathlib.Numerals.{add-one}
 use native.Mathlib.Omega.{arith}
 use lib.Dec.{T}
-use Rattle.bounded.specs.Bounded.{all, any, lowest, sumTo}
+use Rattle.bounded.specs.Bounded.{allBelow, anyBelow, lowest, sumTo}
 use Rattle.bounded.proofs.Truth.{T-true, T-false, T-of, T-not, T-ext, or-iff, at-or-below}
 use Rattle.bounded.proofs.Bounded.{all-iff, any-iff, lowest-unique, lowest-least}
 
 -- ---- all
 
-pub all-none : (f : ℕ → Bool) → all 0 f ≡ true
-unfolding all
+pub all-none : (f : ℕ → Bool) → allBelow 0 f ≡ true
+unfolding allBelow
 all-none f = refl
 
-pub all-intro : (f : ℕ → Bool) (n : ℕ) → ((k : ℕ) → k < n → f k ≡ true) → all n f ≡ true
-all-intro f n h = T-true (all n f) (all-iff n f .1 (λ k l. T-of (h k l)))
+pub all-intro : (f : ℕ → Bool) (n : ℕ) → ((k : ℕ) → k < n → f k ≡ true) → allBelow n f ≡ true
+all-intro f n h = T-true (allBelow n f) (all-iff n f .1 (λ k l. T-of (h k l)))
 
-pub all-each : (f : ℕ → Bool) (n : ℕ) → all n f ≡ true → (k : ℕ) → k < n → f k ≡ true
+pub all-each : (f : ℕ → Bool) (n : ℕ) → allBelow n f ≡ true → (k : ℕ) → k < n → f k ≡ true
 all-each f n e k l = T-true (f k) (all-iff n f .0 (T-of e) k l)
 
-pub all-more : (f : ℕ → Bool) (n : ℕ) → all n f ≡ true → f n ≡ true → all (n + 1) f ≡ true
+pub all-more : (f : ℕ → Bool) (n : ℕ) → allBelow n f ≡ true → f n ≡ true → allBelow (n + 1) f ≡ true
 all-more f n p q = all-intro f (n + 1) (λ k l. ⊎-elim (λ e. ap f e ∙ q) (λ m. all-each f n p k m) (at-or-below (rw add-one at l)))
 
 -- one that fails
-pub all-fail : (f : ℕ → Bool) (n k : ℕ) → k < n → f k ≡ false → all n f ≡ false
-all-fail f n k l e = T-false (all n f) (λ t. T-not e (all-iff n f .0 t k l))
+pub all-fail : (f : ℕ → Bool) (n k : ℕ) → k < n → f k ≡ false → allBelow n f ≡ false
+all-fail f n k l e = T-false (allBelow n f) (λ t. T-not e (all-iff n f .0 t k l))
 
 -- a loop's end: i has come to n
-pub all-end : (f : ℕ → Bool) (n i : ℕ) → n ≤ i → all i f ≡ true → all n f ≡ true
+pub all-end : (f : ℕ → Bool) (n i : ℕ) → n ≤ i → allBelow i f ≡ true → allBelow n f ≡ true
 all-end f n i l e = all-intro f n (λ k m. all-each f i e k (omega arith))
 
 -- ---- any
 
-pub any-none : (f : ℕ → Bool) → any 0 f ≡ false
-unfolding any
+pub any-none : (f : ℕ → Bool) → anyBelow 0 f ≡ false
+unfolding anyBelow
 any-none f = refl
 
-pub any-intro : (f : ℕ → Bool) (n : ℕ) → ((k : ℕ) → k < n → f k ≡ false) → any n f ≡ false
-any-intro f n h = T-false (any n f) (λ t. let x = any-iff n f .0 t in T-not (h (x .0) (x .1)) (x .2))
+pub any-intro : (f : ℕ → Bool) (n : ℕ) → ((k : ℕ) → k < n → f k ≡ false) → anyBelow n f ≡ false
+any-intro f n h = T-false (anyBelow n f) (λ t. let x = any-iff n f .0 t in T-not (h (x .0) (x .1)) (x .2))
 
-pub any-each : (f : ℕ → Bool) (n : ℕ) → any n f ≡ false → (k : ℕ) → k < n → f k ≡ false
+pub any-each : (f : ℕ → Bool) (n : ℕ) → anyBelow n f ≡ false → (k : ℕ) → k < n → f k ≡ false
 any-each f n e k l = T-false (f k) (λ t. T-not e (any-iff n f .1 (k, l, t)))
 
-pub any-more : (f : ℕ → Bool) (n : ℕ) → any n f ≡ false → f n ≡ false → any (n + 1) f ≡ false
+pub any-more : (f : ℕ → Bool) (n : ℕ) → anyBelow n f ≡ false → f n ≡ false → anyBelow (n + 1) f ≡ false
 any-more f n p q = any-intro f (n + 1) (λ k l. ⊎-elim (λ e. ap f e ∙ q) (λ m. any-each f n p k m) (at-or-below (rw add-one at l)))
 
 -- one that holds
-pub any-hit : (f : ℕ → Bool) (n k : ℕ) → k < n → f k ≡ true → any n f ≡ true
-any-hit f n k l e = T-true (any n f) (any-iff n f .1 (k, l, T-of e))
+pub any-hit : (f : ℕ → Bool) (n k : ℕ) → k < n → f k ≡ true → anyBelow n f ≡ true
+any-hit f n k l e = T-true (anyBelow n f) (any-iff n f .1 (k, l, T-of e))
 
-pub any-end : (f : ℕ → Bool) (n i : ℕ) → n ≤ i → any i f ≡ false → any n f ≡ false
+pub any-end : (f : ℕ → Bool) (n i : ℕ) → n ≤ i → anyBelow i f ≡ false → anyBelow n f ≡ false
 any-end f n i l e = any-intro f n (λ k m. any-each f i e k (omega arith))
 
 -- one more, whatever it is
-pub any-next : (f : ℕ → Bool) (n : ℕ) → any (n + 1) f ≡ (any n f || f n)
+pub any-next : (f : ℕ → Bool) (n : ℕ) → anyBelow (n + 1) f ≡ (anyBelow n f || f n)
 any-next f n =
     T-ext (
-      λ t. let x = any-iff (n + 1) f .0 t in or-iff (any n f) (f n) .1 (⊎-elim (λ e. inr (subst (λ (k : ℕ). T (f k)) e (x .2))) (λ m. inl (any-iff n f .1 (x .0, m, x .2))) (at-or-below {k = x .0} {n = n} (omega (arith, x .1)))),
-      λ t. ⊎-elim (λ u. let x = any-iff n f .0 u in any-iff (n + 1) f .1 (x .0, omega (arith, x .1), x .2)) (λ u. any-iff (n + 1) f .1 (n, omega arith, u)) (or-iff (any n f) (f n) .0 t),
+      λ t. let x = any-iff (n + 1) f .0 t in or-iff (anyBelow n f) (f n) .1 (⊎-elim (λ e. inr (subst (λ (k : ℕ). T (f k)) e (x .2))) (λ m. inl (any-iff n f .1 (x .0, m, x .2))) (at-or-below {k = x .0} {n = n} (omega (arith, x .1)))),
+      λ t. ⊎-elim (λ u. let x = any-iff n f .0 u in any-iff (n + 1) f .1 (x .0, omega (arith, x .1), x .2)) (λ u. any-iff (n + 1) f .1 (n, omega arith, u)) (or-iff (anyBelow n f) (f n) .0 t),
     )
 
 -- ---- lowest

@@ -10,7 +10,7 @@ use lib.Dec.{T, eqb}
 use lib.Bits.{bitAnd, and-step, and-shr, and-le-l, bitOr, or-step, or-shr}
 use lib.Pow.{shr-shr, pow-add, pow-pos, high}
 use borrow.Author.Tests.{eq-eqb, ne-eqb, eqb-true, eqb-false}
-use Rattle.bounded.specs.Bounded.{all, any, imp}
+use Rattle.bounded.specs.Bounded.{allBelow, anyBelow, imp}
 use Rattle.bounded.specs.Mask.{bit, maskOf, without}
 use Rattle.bounded.proofs.Truth.{T-ext, T-of, and-iff, imp-iff, eqb-iff, split, clash, at-or-below, lt-dec}
 use Rattle.bounded.proofs.Bounded.{all-iff}
@@ -176,25 +176,25 @@ beq-true false true e = e
 beq-true false false e = refl
 
 -- one computed test of all places, for each of the two sizes of set
-others : (n : ℕ) → all n (λ b. all n (λ c. Bool·beq (bit (2 ^ n - 1 - 2 ^ b) c) (not (eqb c b)))) ≡ true → (b c : ℕ) → b < n → c < n → bit (2 ^ n - 1 - 2 ^ b) c ≡ not (eqb c b)
+others : (n : ℕ) → allBelow n (λ b. allBelow n (λ c. Bool·beq (bit (2 ^ n - 1 - 2 ^ b) c) (not (eqb c b)))) ≡ true → (b c : ℕ) → b < n → c < n → bit (2 ^ n - 1 - 2 ^ b) c ≡ not (eqb c b)
 others n e b c l m =
-    beq-true _ _ (all-each (λ c. Bool·beq (bit (2 ^ n - 1 - 2 ^ b) c) (not (eqb c b))) n (all-each (λ b. all n (λ c. Bool·beq (bit (2 ^ n - 1 - 2 ^ b) c) (not (eqb c b)))) n e b l) c m)
+    beq-true _ _ (all-each (λ c. Bool·beq (bit (2 ^ n - 1 - 2 ^ b) c) (not (eqb c b))) n (all-each (λ b. allBelow n (λ c. Bool·beq (bit (2 ^ n - 1 - 2 ^ b) c) (not (eqb c b)))) n e b l) c m)
 
 bit-without : (n : ℕ) → ((b c : ℕ) → b < n → c < n → bit (2 ^ n - 1 - 2 ^ b) c ≡ not (eqb c b)) → (x b c : ℕ) → b < n → c < n → bit (without n x b) c ≡ (bit x c && not (eqb c b))
 bit-without n h x b c l m = bit-and x (2 ^ n - 1 - 2 ^ b) c ∙ ap (λ (t : Bool). bit x c && t) (h b c l m)
 
 pub bit-without16 : (x b c : ℕ) → b < 16 → c < 16 → bit (without 16 x b) c ≡ (bit x c && not (eqb c b))
-unfolding all
+unfolding allBelow
 bit-without16 = bit-without 16 (others 16 refl)
 
 pub bit-without32 : (x b c : ℕ) → b < 32 → c < 32 → bit (without 32 x b) c ≡ (bit x c && not (eqb c b))
-unfolding all
+unfolding allBelow
 bit-without32 = bit-without 32 (others 32 refl)
 
 -- ---- whole words
 
 -- x is within y, as one comparison
-pub within : (n x y : ℕ) → x < 2 ^ n → eqb (bitAnd x y) x ≡ all n (λ c. imp (bit x c) (bit y c))
+pub within : (n x y : ℕ) → x < 2 ^ n → eqb (bitAnd x y) x ≡ allBelow n (λ c. imp (bit x c) (bit y c))
 within n x y h =
     T-ext (
       λ t. all-iff n _ .1 (λ c l. imp-iff (bit x c) (bit y c) .1 (λ u. and-iff (bit x c) (bit y c) .0 (subst T (bit-and x y c) (subst (λ (z : ℕ). T (bit z c)) (sym (eqb-iff (bitAnd x y) x .0 t)) u)) .1)),
@@ -202,9 +202,9 @@ within n x y h =
     )
 
 -- a set that is 0 has no member
-pub zero-bits : (n x : ℕ) → x < 2 ^ n → eqb x 0 ≡ not (any n (bit x))
+pub zero-bits : (n x : ℕ) → x < 2 ^ n → eqb x 0 ≡ not (anyBelow n (bit x))
 zero-bits n x l =
     ⊎-elim
-    (λ t. ne-eqb x 0 (λ e. clash t (ap (λ (m : ℕ). any n (bit m)) e ∙ any-intro (bit 0) n (λ k h. bit-none k))) ∙ ap not (sym t))
+    (λ t. ne-eqb x 0 (λ e. clash t (ap (λ (m : ℕ). anyBelow n (bit m)) e ∙ any-intro (bit 0) n (λ k h. bit-none k))) ∙ ap not (sym t))
     (λ t. eq-eqb x 0 (mask-ext n x 0 l (pow-pos n) (λ c k. any-each (bit x) n t c k ∙ sym (bit-none c))) ∙ ap not (sym t))
-    (split (any n (bit x)))
+    (split (anyBelow n (bit x)))

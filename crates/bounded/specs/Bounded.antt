@@ -7,14 +7,14 @@ abbrev pub imp : Bool → Bool → Bool
 imp p q = not p || q
 
 -- f holds at each number below n
-unfoldable pub all : ℕ → (ℕ → Bool) → Bool
-all zero f = true
-all (suc n) f = elim (f n) [ true ↦ all n f | false ↦ false ]
+unfoldable pub allBelow : ℕ → (ℕ → Bool) → Bool
+allBelow zero f = true
+allBelow (suc n) f = elim (f n) [ true ↦ allBelow n f | false ↦ false ]
 
 -- f holds at some number below n
-unfoldable pub any : ℕ → (ℕ → Bool) → Bool
-any zero f = false
-any (suc n) f = elim (f n) [ true ↦ true | false ↦ any n f ]
+unfoldable pub anyBelow : ℕ → (ℕ → Bool) → Bool
+anyBelow zero f = false
+anyBelow (suc n) f = elim (f n) [ true ↦ true | false ↦ anyBelow n f ]
 
 -- the lowest number below n at which f holds, or n where there is none
 unfoldable pub lowest : ℕ → (ℕ → Bool) → ℕ
@@ -27,10 +27,10 @@ sumTo zero f = zero
 sumTo (suc n) f = sumTo n f + f n
 
 -- 1 for true, 0 for false
-abbrev pub one : Bool → ℕ
-one true = 1
-one false = 0
+abbrev pub oneIf : Bool → ℕ
+oneIf true = 1
+oneIf false = 0
 
 -- how many numbers below n pass f
-unfoldable pub count : ℕ → (ℕ → Bool) → ℕ
-count n f = sumTo n (λ k. one (f k))
+unfoldable pub countBelow : ℕ → (ℕ → Bool) → ℕ
+countBelow n f = sumTo n (λ k. oneIf (f k))

@@ -50,7 +50,7 @@ use Rattle.embed.proofs.Calls.{run-bad, run-says, start-bad, start-says
 abbrev pub Refuses : ℕ → Type 0
 Refuses a = (1 ≤ a) × (a < 256)
 
--- a number of document 01's table; the boundary's own are above them
+-- a number of the format's table; the boundary's own are above them
 abbrev Listed : ℕ → Type 0
 Listed a = (1 ≤ a) × (a ≤ 20)
 

@@ -197,7 +197,7 @@ traceLeft x = take (x .answer / 4294967296 % 65536) (x .trace)
 abbrev pub sheetLeft : RunCall → State
 sheetLeft x = stateOf (masksIn (x .state))
 
--- what a run is lent: "Every sheet that keeps the layout, [..], lent with a trace as long as document 01 asks", and a buffer for its state
+-- what a run is lent: "Every sheet that keeps the layout, [..], lent with a trace as long as the format asks", and a buffer for its state
 abbrev pub Asked : (s t b : List ℕ) → Type 0
 Asked s t b = Keeps layout s × (1 + 5 * sizeSum (problemOf layout s) ≤ length t) × (length b ≡ stateLength)
 

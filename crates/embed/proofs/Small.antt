@@ -9,7 +9,7 @@ use lib.Dec.{ltb}
 use lib.ListN.{length}
 use Rattle.bounded.proofs.Truth.{T-of, lt-dec}
 use Rattle.bounded.proofs.Bounded.{any-iff, lowest-is}
-use Rattle.problem.specs.Problem.{Problem, State, full, sizeSum, fits, noneEmpty, anyLive, lowestLive, snake}
+use Rattle.problem.specs.Problem.{Problem, State, full, sizeSum, stateFits, noneEmpty, anyLive, lowestLive, snake}
 use Rattle.problem.specs.Reduce.{run}
 use Rattle.problem.specs.Manual.{call}
 use Rattle.problem.specs.Held.{Bounded}
@@ -89,9 +89,9 @@ module _ (s b : List ℕ) (x : Reduced) (a : x ≡ (runJob s b) .answer) (e : En
 -- the lowest value for which the rule holds is one of the variable's
 value-small : (P : Problem) → Bounded P → (s : State) (i v : ℕ) → call P s i ≡ outcome.Eliminated v → v < 16
 unfolding anyLive lowestLive
-value-small P B s i v e = go-fits (fits P s) refl
+value-small P B s i v e = go-fits (stateFits P s) refl
   where
-    go-snake : fits P s ≡ true → (ltb i (P .n) && s .active i) ≡ true → noneEmpty P s ≡ true → (y : Bool) → anyLive P s i (λ v. snake P s i v) ≡ y → v < 16
+    go-snake : stateFits P s ≡ true → (ltb i (P .n) && s .active i) ≡ true → noneEmpty P s ≡ true → (y : Bool) → anyLive P s i (λ v. snake P s i v) ≡ y → v < 16
     go-snake f g h true l =
         let c = call-done P s i f g h l in
         let q : v ≡ lowestLive P s i (λ v. snake P s i v) = cc in
@@ -99,15 +99,15 @@ value-small P B s i v e = go-fits (fits P s) refl
         omega (arith, B .narrow i)
     go-snake f g h false l = let c = call-none P s i f g h l in let z : _≡_ {A = ℕ} 0 1 = cc in absurd (omega arith)
 
-    go-empty : fits P s ≡ true → (ltb i (P .n) && s .active i) ≡ true → (y : Bool) → noneEmpty P s ≡ y → v < 16
+    go-empty : stateFits P s ≡ true → (ltb i (P .n) && s .active i) ≡ true → (y : Bool) → noneEmpty P s ≡ y → v < 16
     go-empty f g true h = go-snake f g h (anyLive P s i (λ v. snake P s i v)) refl
     go-empty f g false h = let c = call-emptied P s i f g h in let z : _≡_ {A = ℕ} 0 1 = cc in absurd (omega arith)
 
-    go-item : fits P s ≡ true → (y : Bool) → (ltb i (P .n) && s .active i) ≡ y → v < 16
+    go-item : stateFits P s ≡ true → (y : Bool) → (ltb i (P .n) && s .active i) ≡ y → v < 16
     go-item f true g = go-empty f g (noneEmpty P s) refl
     go-item f false g = let c = call-item P s i f g in let z : _≡_ {A = ℕ} 0 1 = cc in absurd (omega arith)
 
-    go-fits : (y : Bool) → fits P s ≡ y → v < 16
+    go-fits : (y : Bool) → stateFits P s ≡ y → v < 16
     go-fits true f = go-item f (ltb i (P .n) && s .active i) refl
     go-fits false f = let c = call-misfit P s i f in let z : _≡_ {A = ℕ} 0 1 = cc in absurd (omega arith)
 

@@ -8,7 +8,7 @@ use native.Mathlib.Omega.{arith}
 use lib.Dec.{T, eqb}
 use lib.ListN.{length}
 use borrow.Author.Tests.{eq-eqb, ne-eqb}
-use Rattle.bounded.specs.Bounded.{all}
+use Rattle.bounded.specs.Bounded.{allBelow}
 use Rattle.bounded.proofs.Truth.{T-of, T-true, and-iff, eq-dec}
 use Rattle.bounded.proofs.Table.{getD-tab}
 use Rattle.problem.specs.Problem.{Problem, full}
@@ -137,7 +137,7 @@ module _ (P : Problem) (t p : List ℕ) (x : PutBackResult) (A : PutBack P t p x
   pub put-back-plan : T (solvesWhole P (planOf (x .result)))
   unfolding planFits
   put-back-plan =
-      let h = and-iff (all (P .n) (λ i. (afterTrace P (full P) (A .records)) .active i || eqb (planOf p i) 255)) (solves P (afterTrace P (full P) (A .records)) (planOf p)) .0 (A .plan) in
+      let h = and-iff (allBelow (P .n) (λ i. (afterTrace P (full P) (A .records)) .active i || eqb (planOf p i) 255)) (solves P (afterTrace P (full P) (A .records)) (planOf p)) .0 (A .plan) in
       let S = trace-undone P (full-fits P) (A .records) (A .lawful) (planOf p) (solves-iff left-fits (planOf p) .0 (h .1)) in
       let at : (i : ℕ) → Active (full P) i → planOf (x .result) i ≡ undoTrace P (full P) (A .records) (planOf p) i
       = λ i a. ap (λ (y : PutBackResult). planOf (y .result) i) (A .result) ∙ getD-tab (P .n) (undoTrace P (full P) (A .records) (planOf p)) i 0 (full-fits P .active-lt i a) in

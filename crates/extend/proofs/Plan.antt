@@ -6,7 +6,7 @@ use mathlib.Core.List.{List}
 use Prim.Native.Nat.{ℕ, _<_}
 use lib.Dec.{T, eqb}
 use lib.ListN.{length}
-use Rattle.bounded.specs.Bounded.{imp, all}
+use Rattle.bounded.specs.Bounded.{imp, allBelow}
 use Rattle.bounded.proofs.Truth.{T-ext, T-dec, and-iff, or-iff, imp-iff, not-iff, eqb-iff}
 use Rattle.bounded.proofs.Bounded.{all-iff}
 use Rattle.problem.specs.Problem.{Problem, State}
@@ -61,20 +61,20 @@ module _ {P : Problem} {s : State} (F : Fits P s) (p : List ℕ) where
   unfolding planFits
   plan-iff = (λ h. simp (and-iff, all-iff, or-iff) at h, λ h. simp (and-iff, all-iff, or-iff) h)
 
-  pairs-iff : T (all (P .n) (pairsOf P s (planOf p))) ↔ Pairs
+  pairs-iff : T (allBelow (P .n) (pairsOf P s (planOf p))) ↔ Pairs
   unfolding pairsOf
   pairs-iff = (λ h. simp (all-iff, imp-iff, and-iff, not-iff, eqb-iff) at h, λ h. simp (all-iff, imp-iff, and-iff, not-iff, eqb-iff) h)
 
   abbrev entries : Bool
-  entries = all (P .n) (λ i. entryFits s i (planOf p i))
+  entries = allBelow (P .n) (λ i. entryFits s i (planOf p i))
 
   abbrev pairs : Bool
-  pairs = all (P .n) (pairsOf P s (planOf p))
+  pairs = allBelow (P .n) (pairsOf P s (planOf p))
 
   entries-iff : T entries ↔ Entry
   entries-iff = all-iff (P .n) (λ i. entryFits s i (planOf p i))
 
-  pub plan-says : planFits P s p ≡ (all (P .n) (λ i. entryFits s i (planOf p i)) && all (P .n) (pairsOf P s (planOf p)))
+  pub plan-says : planFits P s p ≡ (allBelow (P .n) (λ i. entryFits s i (planOf p i)) && allBelow (P .n) (pairsOf P s (planOf p)))
   plan-says =
       T-ext (
         λ h. let x = plan-iff .0 h in
@@ -86,13 +86,13 @@ module _ {P : Problem} {s : State} (F : Fits P s) (p : List ℕ) where
       )
 
   -- the two loops, to the length of the plan
-  sized : length p ≡ P .n → all (length p) (λ i. entryFits s i (planOf p i)) ≡ entries
-  sized n = ap (λ (k : ℕ). all k (λ i. entryFits s i (planOf p i))) n
+  sized : length p ≡ P .n → allBelow (length p) (λ i. entryFits s i (planOf p i)) ≡ entries
+  sized n = ap (λ (k : ℕ). allBelow k (λ i. entryFits s i (planOf p i))) n
 
-  pub plan-pairs : length p ≡ P .n → all (length p) (λ i. entryFits s i (planOf p i)) ≡ true → all (P .n) (pairsOf P s (planOf p)) ≡ planFits P s p
+  pub plan-pairs : length p ≡ P .n → allBelow (length p) (λ i. entryFits s i (planOf p i)) ≡ true → allBelow (P .n) (pairsOf P s (planOf p)) ≡ planFits P s p
   plan-pairs n e = ap (λ (b : Bool). b && pairs) (sym e ∙ sized n) ∙ sym plan-says
 
-  pub plan-entries : length p ≡ P .n → all (length p) (λ i. entryFits s i (planOf p i)) ≡ false → false ≡ planFits P s p
+  pub plan-entries : length p ≡ P .n → allBelow (length p) (λ i. entryFits s i (planOf p i)) ≡ false → false ≡ planFits P s p
   plan-entries n e = ap (λ (b : Bool). b && pairs) (sym e ∙ sized n) ∙ sym plan-says
 
   -- a plan that passes solves the state

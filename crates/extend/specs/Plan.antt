@@ -4,7 +4,7 @@ use mathlib.Core.List.{List}
 use Prim.Native.Nat.{ℕ, _≤_, _<_}
 use lib.Dec.{T, eqb}
 use lib.ListN.{length}
-use Rattle.bounded.specs.Bounded.{imp, all}
+use Rattle.bounded.specs.Bounded.{imp, allBelow}
 use Rattle.problem.specs.Problem.{Problem, State}
 use Rattle.problem.specs.Masks.{stateOf}
 use Rattle.problem.specs.declared.Masks.{Masks}
@@ -24,4 +24,4 @@ abbrev pub pairFits : Problem → State → (ℕ → ℕ) → ℕ → ℕ → Bo
 pairFits P s p i j = imp (s .active i && (s .active j && not (eqb i j))) (P .allowed i (p i) j (p j))
 
 unfoldable pub pairsOf : Problem → State → (ℕ → ℕ) → ℕ → Bool
-pairsOf P s p i = all (P .n) (pairFits P s p i)
+pairsOf P s p i = allBelow (P .n) (pairFits P s p i)

@@ -18,7 +18,7 @@ use Rattle.problem.proofs.Sound.{Solution}
 use Rattle.jobs.specs.PutBack.{Checked, Lawful as Records, Fault as Faulty, planOf}
 use Rattle.extend.specs.Walk.{checkedFrom}
 
--- w at the variable j once i has v: document 01's lowest w' where w is barred with v
+-- w at the variable j once i has v: the format's lowest w' where w is barred with v
 unfoldable pub mended : Problem → State → (i v j w : ℕ) → ℕ
 mended P s i v j w = elim (s .active j && (not (eqb j i) && not (P .allowed i v j w))) [ true ↦ lowestLive P s j (λ w'. snakeServes P s i v j w w') | false ↦ w ]
 

@@ -1,11 +1,11 @@
-// Putting back, document 01's third job: a trace checked record by record, the plan for the items left, and the records undone.
+// Putting back, the format's third job: a trace checked record by record, the plan for the items left, and the records undone.
 ghost use mathlib.Core.Path.{_≡_};
 ghost use mathlib.Core.Bool.{_&&_, true, false};
 ghost use mathlib.Core.Logic.{_≢_};
 ghost use Prim.Native.Nat.{_-_, _<_, _≤_};
 ghost use lib.Dec.{T};
 ghost use lib.ListN.{length};
-ghost use Rattle.bounded.specs.Bounded.{all};
+ghost use Rattle.bounded.specs.Bounded.{allBelow};
 ghost use Rattle.bounded.specs.Table.{tab};
 ghost use Rattle.problem.specs.Problem.{full, unsupported as unsupportedAt, snake as snakeAt, triangle as triangleAt, neighbourhood as neighbourhoodAt};
 ghost use Rattle.problem.specs.Problem.{snakeSubstitution as slideAt, slideSpares, lowestLive, snakeServes, triangleServes};
@@ -220,7 +220,7 @@ fn entry_fits(m: Masks, i: usize, v: usize) -> bool
 
 fn entries_fit(m: Masks, plan: &[u8]) -> bool
     requires { ⌜ Proper m × (length (now plan) ≤ 32) ⌝ }
-    ensures { λ r. ⌜ r ≡ all (length (now (plan .entry))) (λ i. entryFits (stateOf m) i (planOf (now (plan .entry)) i)) ⌝ }
+    ensures { λ r. ⌜ r ≡ allBelow (length (now (plan .entry))) (λ i. entryFits (stateOf m) i (planOf (now (plan .entry)) i)) ⌝ }
 {
     let mut i: usize = 0;
     while i < plan.len() {
@@ -260,7 +260,7 @@ fn pairs_of(t: &[u16], m: Masks, plan: &[u8], i: usize) -> bool
 
 fn pairs_fit(t: &[u16], m: Masks, plan: &[u8]) -> bool
     requires { ⌜ Ready (now t) m × (Entries m (now plan) × (length (now plan) ≡ (held (now t)) .n)) ⌝ }
-    ensures { λ r. ⌜ r ≡ all ((held (now (t .entry))) .n) (pairsOf (held (now (t .entry))) (stateOf m) (planOf (now (plan .entry)))) ⌝ }
+    ensures { λ r. ⌜ r ≡ allBelow ((held (now (t .entry))) .n) (pairsOf (held (now (t .entry))) (stateOf m) (planOf (now (plan .entry)))) ⌝ }
 {
     let mut i: usize = 0;
     while i < plan.len() {

@@ -6,7 +6,7 @@ use mathlib.Core.Logic.{_↔_, _⊎_, inl, inr}
 use Prim.Native.Nat.{ℕ, _≤_, _<_}
 use lib.Dec.{T}
 use lib.ListN.{length}
-use Rattle.problem.specs.Problem.{Problem, State, full, fits, eliminate}
+use Rattle.problem.specs.Problem.{Problem, State, full, stateFits, eliminate}
 use Rattle.problem.specs.Manual.{start, call, stateAfter, callState, callsState, finished, arcConsistent}
 use Rattle.problem.specs.Masks.{stateOf, masksOf, Proper}
 use Rattle.problem.specs.Held.{Bounded}
@@ -103,7 +103,7 @@ module _ (s : List ℕ) (K : Keeps layout s) where
       let P = problemOf layout s in
       let e = start-job-state in (
         subst (λ (x : StartAnswer). Proper (x .state .masks)) (sym start-read) (masks-proper (start P)),
-        subst (λ (q : State). T (fits P q)) (sym e) (fits-test (start-fits P)),
+        subst (λ (q : State). T (stateFits P q)) (sym e) (fits-test (start-fits P)),
         subst (λ (q : State). T (arcConsistent P q)) (sym e) (arcConsistent-iff (start-fits P) .1 (start-consistent P)),
       )
 

@@ -78,7 +78,7 @@ pub record Worked (P : Problem) (t : List Record) (last : State) (b : List ℕ) 
   -- demand 2: each step is lawful in the state reached
   pub reached : last ≡ afterTrace P (full P) t
   pub lawful : T (lawfulTrace P (full P) t)
-  -- the end is what document 01 says of it, and "at the end no rule holds or some item has no setting left"
+  -- the end is what the format says of it, and "at the end no rule holds or some item has no setting left"
   pub end : EndSays last (endOf P last)
   pub rest : T (noneEmpty P last) → (r : Record) → T (holds P last r) → ⊥
   -- "The sheet left has a plan exactly when the full sheet has one"
@@ -86,7 +86,7 @@ pub record Worked (P : Problem) (t : List Record) (last : State) (b : List ℕ) 
   -- "each plan of what is left is put back into a plan of the full sheet"
   pub back : (p : ℕ → ℕ) → Solution P last p → Solution P (full P) (undoTrace P (full P) t p)
 
--- every sheet that keeps the layout, with a buffer as long as document 01 asks, is worked to its end
+-- every sheet that keeps the layout, with a buffer as long as the format asks, is worked to its end
 pub run-worked : (s b : List ℕ) → Keeps layout s → 1 + 5 * sizeSum (problemOf layout s) ≤ length b
     → Worked (problemOf layout s) (run (problemOf layout s) (full (problemOf layout s))) (afterTrace (problemOf layout s) (full (problemOf layout s)) (run (problemOf layout s) (full (problemOf layout s)))) b (runJob s b)
 unfolding runDone

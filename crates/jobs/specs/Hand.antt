@@ -2,7 +2,7 @@
 use mathlib.Core.Bool.{Bool, true, false}
 use mathlib.Core.List.{List, [], _∷_}
 use Prim.Native.Nat.{ℕ}
-use Rattle.problem.specs.Problem.{Problem, State, fits, eliminate}
+use Rattle.problem.specs.Problem.{Problem, State, stateFits, eliminate}
 use Rattle.problem.specs.Manual.{start, call}
 use Rattle.problem.specs.Masks.{stateOf, masksOf, emptyMasks}
 use Rattle.problem.specs.declared.Call.{Call}
@@ -27,7 +27,7 @@ handOf s = record { masks = masksOf s }
 
 -- a hand state fits: the run's state in it does
 abbrev pub handFits : Problem → ManualState → Bool
-handFits P st = fits P (handState st)
+handFits P st = stateFits P (handState st)
 
 -- "Starting answers the state with all items in and the largest sets of settings in which each has a partner at every other item."
 -- "A refused start answers a state with no items in and no settings on."

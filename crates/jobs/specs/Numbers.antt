@@ -1,4 +1,4 @@
--- Document 01's number for each refusal, in the order of its table, and a number for each end.
+-- The format's number for each refusal, in the order of its table, and a number for each end.
 use Prim.Native.Nat.{ℕ}
 use Rattle.problem.specs.declared.End.{End}
 use Rattle.problem.specs.declared.End.the-variants.{Impossible, Solved, Rest}

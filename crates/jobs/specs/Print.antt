@@ -1,10 +1,10 @@
--- Document 01, "What the program prints", as bytes.
+-- docs/FORMAT.md, "What the program prints", as bytes.
 use mathlib.Core.Bool.{Bool, true, false}
 use mathlib.Core.List.{List, [], _∷_, _++_}
 use Prim.Native.Nat.{ℕ, zero, suc, _+_, _/_, _%_}
 use lib.Dec.{ltb}
 use lib.ListN.{take, length}
-use Rattle.bounded.specs.Bounded.{count}
+use Rattle.bounded.specs.Bounded.{countBelow}
 use Rattle.problem.specs.Problem.{Problem, State, full, sizeSum, liveCount}
 use Rattle.problem.specs.Reduce.{run, afterTrace, endOf}
 use Rattle.problem.specs.declared.Record.{Record}
@@ -59,7 +59,7 @@ stepLines k (r ∷ t) = (decimal k ++ (32 ∷ (stepText r ++ (10 ∷ [])))) ++ s
 
 -- "Last line: end, steps, items in, settings on at items in."
 abbrev pub lastLine : Problem → State → ℕ → List ℕ
-lastLine P s steps = endWord (endOf P s) ++ (field steps ++ (field (count (P .n) (s .active)) ++ (field (liveCount P s) ++ (10 ∷ []))))
+lastLine P s steps = endWord (endOf P s) ++ (field steps ++ (field (countBelow (P .n) (s .active)) ++ (field (liveCount P s) ++ (10 ∷ []))))
 
 -- "A refused sheet prints one line"
 abbrev pub refusedLine : ℕ → List ℕ

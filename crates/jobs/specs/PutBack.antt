@@ -4,7 +4,7 @@ use mathlib.Core.List.{List, [], _∷_}
 use Prim.Native.Nat.{ℕ, zero, suc}
 use lib.Dec.{ltb, eqb}
 use lib.ListN.{length, getD}
-use Rattle.bounded.specs.Bounded.{all}
+use Rattle.bounded.specs.Bounded.{allBelow}
 use Rattle.bounded.specs.Table.{tab}
 use Rattle.problem.specs.Problem.{Problem, State, full}
 use Rattle.problem.specs.Reduce.{lawful, after, afterTrace}
@@ -64,7 +64,7 @@ planOf p i = getD p i 0
 
 -- 19: "an item out not 255, a setting not on, or a barred pair among items left" does not speak against the plan
 unfoldable pub planFits : Problem → State → List ℕ → Bool
-planFits P s p = all (P .n) (λ i. s .active i || eqb (planOf p i) 255) && solves P s (planOf p)
+planFits P s p = allBelow (P .n) (λ i. s .active i || eqb (planOf p i) 255) && solves P s (planOf p)
 
 -- ---- the job
 

@@ -1,4 +1,4 @@
--- The starred bench sheets of document 01, and rows for what no run shows, as bytes: one table, whose one statement is
+-- The starred bench sheets of the format, and rows for what no run shows, as bytes: one table, whose one statement is
 -- proofs/Starred.antt.
 use mathlib.Core.Path.{_≡_}
 use mathlib.Core.Bool.{Bool, true, false}

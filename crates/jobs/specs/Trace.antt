@@ -43,7 +43,7 @@ lengthByte (suc (suc (suc (suc zero)))) = 4
 lengthByte (suc (suc (suc (suc (suc zero))))) = 4
 lengthByte (suc (suc (suc (suc (suc (suc k)))))) = 0
 
--- a kind that document 01 has
+-- a kind that the format has
 abbrev pub isKind : ℕ → Bool
 isKind k = ltb 0 k && ltb k 6
 

@@ -1,4 +1,4 @@
-// What each job of document 01 answers: the types, and document 01's number for each refusal. The definitions of specs/ say which
+// What each job of the format answers: the types, and the format's number for each refusal. The definitions of specs/ say which
 // answer each input gets; the crates of the jobs prove their code equal to them.
 use problem::End;
 use problem::Masks;
@@ -120,7 +120,7 @@ pub fn extend_number(r: ExtendRefusal) -> u8
     }
 }
 
-// The number that stands for an end where an answer is a number: document 01 names the ends in this order.
+// The number that stands for an end where an answer is a number: the format names the ends in this order.
 pub fn end_number(e: End) -> u8
     ensures { λ k. ⌜ k ≡ endNumber e ⌝ }
 {

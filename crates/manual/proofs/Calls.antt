@@ -9,7 +9,7 @@ use Rattle.bounded.specs.Bounded.{lowest}
 use Rattle.bounded.specs.Mask.{bit}
 use Rattle.bounded.proofs.Truth.{T-true, T-false, T-of, and-iff, ltb-iff}
 use Rattle.bounded.proofs.Bounded.{lowest-is, lowest-passes, lowest-least, lowest-unique}
-use Rattle.problem.specs.Problem.{Problem, State, fits, noneEmpty, anyLive, lowestLive, snake}
+use Rattle.problem.specs.Problem.{Problem, State, stateFits, noneEmpty, anyLive, lowestLive, snake}
 use Rattle.problem.specs.Manual.{start, call}
 use Rattle.problem.specs.Held.{held}
 use Rattle.problem.specs.Masks.{stateOf}
@@ -69,29 +69,29 @@ active-out P m i e = T-false _ (λ h. subst T e (and-iff (ltb i (P .n)) (bit (m 
 -- ---- the outcomes, in their order
 
 module _ (P : Problem) (s : State) (i : ℕ) where
-  pub call-misfit : fits P s ≡ false → call P s i ≡ Misfit
+  pub call-misfit : stateFits P s ≡ false → call P s i ≡ Misfit
   unfolding call
   call-misfit e = rw (e, call)
 
-  pub call-item : fits P s ≡ true → (ltb i (P .n) && s .active i) ≡ false → call P s i ≡ NotActive
+  pub call-item : stateFits P s ≡ true → (ltb i (P .n) && s .active i) ≡ false → call P s i ≡ NotActive
   unfolding call
   call-item e f = rw (e, f, call)
 
-  pub call-emptied : fits P s ≡ true → (ltb i (P .n) && s .active i) ≡ true → noneEmpty P s ≡ false → call P s i ≡ Emptied
+  pub call-emptied : stateFits P s ≡ true → (ltb i (P .n) && s .active i) ≡ true → noneEmpty P s ≡ false → call P s i ≡ Emptied
   unfolding call
   call-emptied e f g = rw (e, f, g, call)
 
-  pub call-none : fits P s ≡ true → (ltb i (P .n) && s .active i) ≡ true → noneEmpty P s ≡ true → anyLive P s i (λ v. snake P s i v) ≡ false → call P s i ≡ NoSnake
+  pub call-none : stateFits P s ≡ true → (ltb i (P .n) && s .active i) ≡ true → noneEmpty P s ≡ true → anyLive P s i (λ v. snake P s i v) ≡ false → call P s i ≡ NoSnake
   unfolding call
   call-none e f g h = rw (e, f, g, h, call)
 
-  pub call-done : fits P s ≡ true → (ltb i (P .n) && s .active i) ≡ true → noneEmpty P s ≡ true → anyLive P s i (λ v. snake P s i v) ≡ true → call P s i ≡ Eliminated (lowestLive P s i (λ v. snake P s i v))
+  pub call-done : stateFits P s ≡ true → (ltb i (P .n) && s .active i) ≡ true → noneEmpty P s ≡ true → anyLive P s i (λ v. snake P s i v) ≡ true → call P s i ≡ Eliminated (lowestLive P s i (λ v. snake P s i v))
   unfolding call
   call-done e f g h = rw (e, f, g, h, call)
 
 -- ---- the same of a state that fits
 
-fit : {t : List ℕ} {m : Masks} → Ready t m → fits (held t) (stateOf m) ≡ true
+fit : {t : List ℕ} {m : Masks} → Ready t m → stateFits (held t) (stateOf m) ≡ true
 fit R = T-true _ (fits-test (R .fits))
 
 pub ready-item : {t : List ℕ} {m : Masks} → Ready t m → (i : ℕ) → bit (m .active) i ≡ false → call (held t) (stateOf m) i ≡ NotActive

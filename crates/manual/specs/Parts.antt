@@ -3,7 +3,7 @@ use mathlib.Core.Bool.{Bool, not, _&&_}
 use Prim.Native.Nat.{ℕ}
 use lib.Dec.{eqb, ltb}
 use lib.ListN.{getD}
-use Rattle.bounded.specs.Bounded.{imp, all}
+use Rattle.bounded.specs.Bounded.{imp, allBelow}
 use Rattle.bounded.specs.Mask.{maskOf}
 use Rattle.problem.specs.Problem.{Problem, State, maxVariables, maxValues, full, unsupported, eliminate}
 use Rattle.problem.specs.Manual.{prune, call}
@@ -20,11 +20,11 @@ use Rattle.jobs.specs.declared.StartOutcome.the-variants as started
 module _ (P : Problem) (s : State) where
   -- cause 11 does not speak against what the state says of variable i
   unfoldable pub fitsAt : ℕ → Bool
-  fitsAt i = imp (s .active i) (ltb i (P .n)) && all maxValues (λ a. imp (s .live i a) (s .active i && ltb a (P .size i)))
+  fitsAt i = imp (s .active i) (ltb i (P .n)) && allBelow maxValues (λ a. imp (s .live i a) (s .active i && ltb a (P .size i)))
 
   -- at no other active variable is value a of i without a support
   unfoldable pub noneBare : (i a : ℕ) → Bool
-  noneBare i a = all maxVariables (λ k. not (unsupported P s i a k))
+  noneBare i a = allBelow maxVariables (λ k. not (unsupported P s i a k))
 
   -- the domain of i after one sweep
   unfoldable pub domainLeft : ℕ → ℕ
@@ -32,7 +32,7 @@ module _ (P : Problem) (s : State) where
 
 -- the domains of two states agree
 unfoldable pub sameDomains : Masks → Masks → Bool
-sameDomains x y = all maxVariables (λ i. eqb (getD (x .domains) i 0) (getD (y .domains) i 0))
+sameDomains x y = allBelow maxVariables (λ i. eqb (getD (x .domains) i 0) (getD (y .domains) i 0))
 
 -- sweeps that are enough for every sheet: one more than there can be values
 abbrev pub maxTurns : ℕ

@@ -1,11 +1,11 @@
-// Document 01, "Taking out by hand": the start, and one hand call.
+// docs/FORMAT.md, "Taking out by hand": the start, and one hand call.
 ghost use mathlib.Core.Path.{_≡_};
 ghost use mathlib.Core.Bool.{true};
 ghost use Prim.Native.Nat.{_<_, _≤_};
 ghost use lib.Dec.{ltb};
-ghost use Rattle.bounded.specs.Bounded.{imp, all, lowest};
+ghost use Rattle.bounded.specs.Bounded.{imp, allBelow, lowest};
 ghost use Rattle.bounded.specs.Mask.{bit};
-ghost use Rattle.problem.specs.Problem.{maxValues, full, fits as fitsTest, noneEmpty, snake as snakeHolds};
+ghost use Rattle.problem.specs.Problem.{maxValues, full, stateFits, noneEmpty, snake as snakeHolds};
 ghost use Rattle.problem.specs.Manual.{prune, pruneTimes, start as startState};
 ghost use Rattle.problem.specs.Masks.{stateOf, masksOf};
 ghost use Rattle.problem.specs.Held.{held, RowTable};
@@ -177,7 +177,7 @@ pub fn start(s: &[u8]) -> StartAnswer
 // Every member of x is below z.
 fn below(x: u16, z: usize) -> bool
     requires { ⌜ z ≤ 16 ⌝ }
-    ensures { λ r. ⌜ r ≡ all maxValues (λ a. imp (bit x a) (ltb a z)) ⌝ }
+    ensures { λ r. ⌜ r ≡ allBelow maxValues (λ a. imp (bit x a) (ltb a z)) ⌝ }
 {
     (x as usize) < bounded::power(z)
 }
@@ -198,7 +198,7 @@ fn fits_at(t: &[u16], m: Masks, n: usize, i: usize) -> bool
 // 11: the state fits the sheet.
 fn fits(t: &[u16], m: Masks) -> bool
     requires { ⌜ RowTable (now t) ⌝ }
-    ensures { λ r. ⌜ r ≡ fitsTest (held (now (t .entry))) (stateOf m) ⌝ }
+    ensures { λ r. ⌜ r ≡ stateFits (held (now (t .entry))) (stateOf m) ⌝ }
 {
     let n = reduce::variables(t);
     let mut i: usize = 0;

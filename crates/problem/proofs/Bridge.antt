@@ -12,7 +12,7 @@ use Rattle.bounded.specs.Table.{tab}
 use Rattle.bounded.proofs.Truth.{T-false, T-not, lt-dec}
 use Rattle.bounded.proofs.Mask.{bit-high, bit-none, bit-mask, bit-mask-all, mask-lt, mask-ext}
 use Rattle.bounded.proofs.Table.{length-tab, getD-tab}
-use Rattle.problem.specs.Problem.{Problem, State, fits}
+use Rattle.problem.specs.Problem.{Problem, State, stateFits}
 use Rattle.problem.specs.Masks.{stateOf, masksOf, Proper}
 use Rattle.problem.specs.Held.{Bounded}
 use Rattle.problem.specs.declared.Masks.{Masks}
@@ -68,21 +68,21 @@ pub state-back : (P : Problem) → Bounded P → {s : State} → Fits P s → st
 state-back P B F = state-within P (B .few) (B .narrow) F
 
 -- a struct's state fits at every number where it fits at the numbers that the struct can name
-pub fits-iff : (P : Problem) (m : Masks) → Proper m → T (fits P (stateOf m)) ↔ Fits P (stateOf m)
+pub fits-iff : (P : Problem) (m : Masks) → Proper m → T (stateFits P (stateOf m)) ↔ Fits P (stateOf m)
 unfolding stateOf
 fits-iff P m R = (λ t. record { active-lt = active-lt t; live-active = λ i a o. at t i a o .0; live-lt = λ i a o. at t i a o .1 }, fits-test)
   where
     S : State
     S = stateOf m
 
-    active-lt : T (fits P S) → (i : ℕ) → Active S i → i < P .n
+    active-lt : T (stateFits P S) → (i : ℕ) → Active S i → i < P .n
     active-lt t i h = go (lt-dec i 32)
       where
         go : (i < 32) ⊎ (32 ≤ i) → i < P .n
         go (inl l) = fits-says P S .0 t .0 i l h
         go (inr l) = absurd (T-not (bit-high 32 (m .active) i (R .active-lt) l) h)
 
-    at : T (fits P S) → (i a : ℕ) → Live S i a → Active S i × (a < P .size i)
+    at : T (stateFits P S) → (i a : ℕ) → Live S i a → Active S i × (a < P .size i)
     at t i a o = go (lt-dec i 32) (lt-dec a 16)
       where
         go : (i < 32) ⊎ (32 ≤ i) → (a < 16) ⊎ (16 ≤ a) → Active S i × (a < P .size i)

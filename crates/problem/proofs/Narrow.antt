@@ -1,4 +1,4 @@
--- Document 01's slide keeps i among the items where e covers d. Wherever it holds a cover holds, and a cover is looked for before it:
+-- The format's slide keeps i among the items where e covers d. Wherever it holds a cover holds, and a cover is looked for before it:
 -- a run takes no slide. Assumes nothing.
 use mathlib.Core.Path.{_≡_, refl, sym, subst, _∙_}
 use mathlib.Core.Bool.{Bool, true, false, not}

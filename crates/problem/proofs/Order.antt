@@ -8,10 +8,10 @@ use native.Mathlib.Nat.{not-suc-le-zero, lt-of-lt-of-le}
 use native.Mathlib.Omega.{arith}
 use lib.Dec.{T, ltb}
 use lib.ListN.{length}
-use Rattle.bounded.specs.Bounded.{count}
+use Rattle.bounded.specs.Bounded.{countBelow}
 use Rattle.bounded.proofs.Truth.{T-ext, T-true, T-false, T-dec, eq-dec, and-iff, not-iff, ltb-iff}
 use Rattle.bounded.proofs.Bounded.{count-lt, count-most}
-use Rattle.problem.specs.Problem.{Problem, State, fits, noneEmpty, allActive, anyLive, lowestLive, snake, eliminate}
+use Rattle.problem.specs.Problem.{Problem, State, stateFits, noneEmpty, allActive, anyLive, lowestLive, snake, eliminate}
 use Rattle.problem.specs.Manual.{call, stateAfter, callState, callsState, finished, pairLeft, arcConsistent}
 use Rattle.problem.specs.declared.Call.{Call}
 use Rattle.problem.specs.declared.Call.the-variants.{Eliminated, Misfit, NotActive, Emptied, NoSnake}
@@ -25,23 +25,23 @@ module _ (P : Problem) where
   module _ {s : State} (F : Fits P s) (i : ℕ) where
     call-12 : (T (ltb i (P .n) && s .active i) → ⊥) → call P s i ≡ NotActive
     unfolding call
-    call-12 a = rw (T-true (fits P s) (fits-test F), T-false (ltb i (P .n) && s .active i) a, call)
+    call-12 a = rw (T-true (stateFits P s) (fits-test F), T-false (ltb i (P .n) && s .active i) a, call)
 
     module _ (a : T (ltb i (P .n) && s .active i)) where
       call-13 : (T (noneEmpty P s) → ⊥) → call P s i ≡ Emptied
       unfolding call
-      call-13 e = rw (T-true (fits P s) (fits-test F), T-true (ltb i (P .n) && s .active i) a, T-false (noneEmpty P s) e, call)
+      call-13 e = rw (T-true (stateFits P s) (fits-test F), T-true (ltb i (P .n) && s .active i) a, T-false (noneEmpty P s) e, call)
 
       module _ (e : T (noneEmpty P s)) where
         call-14 : (T (anyLive P s i (λ v. snake P s i v)) → ⊥) → call P s i ≡ NoSnake
         unfolding call
         call-14 r =
-            rw (T-true (fits P s) (fits-test F), T-true (ltb i (P .n) && s .active i) a, T-true (noneEmpty P s) e, T-false (anyLive P s i (λ v. snake P s i v)) r, call)
+            rw (T-true (stateFits P s) (fits-test F), T-true (ltb i (P .n) && s .active i) a, T-true (noneEmpty P s) e, T-false (anyLive P s i (λ v. snake P s i v)) r, call)
 
         call-taken : T (anyLive P s i (λ v. snake P s i v)) → call P s i ≡ Eliminated (lowestLive P s i (λ v. snake P s i v))
         unfolding call
         call-taken r =
-            rw (T-true (fits P s) (fits-test F), T-true (ltb i (P .n) && s .active i) a, T-true (noneEmpty P s) e, T-true (anyLive P s i (λ v. snake P s i v)) r, call)
+            rw (T-true (stateFits P s) (fits-test F), T-true (ltb i (P .n) && s .active i) a, T-true (noneEmpty P s) e, T-true (anyLive P s i (λ v. snake P s i v)) r, call)
 
     -- a call is accepted where the variable is active, none is empty, and the snake rule holds with the lowest value; else nothing changes
     pub call-cases : (Active s i × NoneEmpty P s × ((v : ℕ) × Snake P s i v × (call P s i ≡ Eliminated v))) ⊎ ((callState P s i ≡ s) × ((v : ℕ) → Active s i → NoneEmpty P s → Snake P s i v → ⊥))
@@ -288,12 +288,12 @@ module _ (P : Problem) where
   unfolding callState
   call-accepted {s} F e i v h N = elim (call-cases F i) [ inl x ↦ ap (stateAfter P s i) (x .2 .2) | inr x ↦ absurd (x .1 v h e N) ]
 
-  active-falls : {s : State} → Fits P s → (i : ℕ) → Active s i → count (P .n) ((eliminate P s i) .active) < count (P .n) (s .active)
+  active-falls : {s : State} → Fits P s → (i : ℕ) → Active s i → countBelow (P .n) ((eliminate P s i) .active) < countBelow (P .n) (s .active)
   active-falls {s} F i h =
       count-lt (P .n) ((eliminate P s i) .active) (s .active) (λ j l x. eliminate-active P s i j .0 x .0) i (F .active-lt i h) (λ x. eliminate-active P s i i .0 x .1 refl) h
 
   -- at most f calls finish, where at most f variables are active
-  ends-within : (f : ℕ) {s : State} → Fits P s → ArcConsistent P s → NoneEmpty P s → count (P .n) (s .active) ≤ f → (l : List ℕ) × (length l ≤ f) × T (finished P (callsState P s l))
+  ends-within : (f : ℕ) {s : State} → Fits P s → ArcConsistent P s → NoneEmpty P s → countBelow (P .n) (s .active) ≤ f → (l : List ℕ) × (length l ≤ f) × T (finished P (callsState P s l))
   unfolding callsState
   ends-within zero {s} F C e m =
       elim (finished-or F) [ inl t ↦ ([], omega arith, t) | inr x ↦ absurd (not-suc-le-zero (lt-of-lt-of-le (active-falls F (x .0) (x .1)) m)) ]

@@ -9,7 +9,7 @@ use Rattle.bounded.proofs.Truth.{T-dec}
 use Rattle.problem.specs.Problem.{Problem, State, snake, triangle, neighbourhood, snakeSubstitution}
 use Rattle.problem.proofs.Reflect.{Active, Live, Allowed, Fits, turn, Snake, Triangle, Neighbourhood, SnakeSubstitution, snake-iff, triangle-iff, neighbourhood-iff, snakeSubstitution-iff}
 
--- ---- source document 003
+-- ---- Cooper, El Mouelhi and Terrioux, "Variable Elimination in Binary CSPs (Extended Abstract)"
 
 module _ (P : Problem) (s : State) where
   -- Definition 3: "A variable x_i satisfies the DE-snake property if ∃ v_i ∈ D(x_i) such that ∀ x_j ∈ X \ {x_i}, ∀ v_j ∈ D(x_j) with
@@ -71,7 +71,7 @@ module _ {P : Problem} {s : State} (F : Fits P s) where
     ),
   )
 
--- ---- source document 001
+-- ---- Cooper, "Strengthening neighbourhood substitution"
 
 module _ (P : Problem) (s : State) where
   -- the arrow "b → a at ij": "∀ c ∈ D(x_j), (b, c) ∈ R_ij ⇒ (a, c) ∈ R_ij"
@@ -97,7 +97,7 @@ module _ {P : Problem} {s : State} (F : Fits P s) where
   pub neighbourhood-published : (i b a : ℕ) → T (neighbourhood P s i b a) ↔ (Live s i b × (Live s i a × (a ≢ b × NeighbourhoodSubstitutable P s i b a)))
   neighbourhood-published i b a = neighbourhood-iff F i b a
 
-  -- a slide with i left out is the paper's rule, and document 01's narrower slide implies it
+  -- a slide with i left out is the paper's rule, and the format's narrower slide implies it
   pub slide-wide-published : (i b a : ℕ) → T (snakeSubstitution P s true i b a) ↔ (Live s i b × (Live s i a × (a ≢ b × SnakeSubstitutable P s i b a)))
   slide-wide-published i b a = (
     λ t. let x = snakeSubstitution-iff F true i b a .0 t in

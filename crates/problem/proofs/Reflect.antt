@@ -7,7 +7,7 @@ use lib.Dec.{T}
 use Rattle.bounded.specs.Bounded.{imp}
 use Rattle.bounded.proofs.Truth.{and-iff, imp-iff, imp-fails, not-iff, eqb-iff, ltb-iff}
 use Rattle.bounded.proofs.Bounded.{all-iff, any-iff, all-or, lowest-is}
-use Rattle.problem.specs.Problem.{Problem, State, full, maxVariables, maxValues, allActive, allLive, anyLive, lowestLive, allOther, allThird, fits, noneEmpty, substitutes, unsupported, snakeServes, snake, triangleServes, triangle, neighbourhood, slideServes, snakeSubstitution, remove, eliminate}
+use Rattle.problem.specs.Problem.{Problem, State, full, maxVariables, maxValues, allActive, allLive, anyLive, lowestLive, allOther, allThird, stateFits, noneEmpty, substitutes, unsupported, snakeServes, snake, triangleServes, triangle, neighbourhood, slideServes, snakeSubstitution, remove, eliminate}
 use Rattle.problem.specs.Manual.{supported, arcConsistent, finished}
 
 abbrev pub Active : State → ℕ → Type 0
@@ -38,11 +38,11 @@ full-fits P =
     }
 
 -- what the test of cause 11 says, at the numbers that a state can name
-pub fits-says : (P : Problem) (s : State) → T (fits P s) ↔ (((i : ℕ) → i < maxVariables → Active s i → i < P .n) × ((i : ℕ) → i < maxVariables → (a : ℕ) → a < maxValues → Live s i a → Active s i × (a < P .size i)))
-unfolding fits
+pub fits-says : (P : Problem) (s : State) → T (stateFits P s) ↔ (((i : ℕ) → i < maxVariables → Active s i → i < P .n) × ((i : ℕ) → i < maxVariables → (a : ℕ) → a < maxValues → Live s i a → Active s i × (a < P .size i)))
+unfolding stateFits
 fits-says P s = simp (and-iff, all-iff, imp-iff, ltb-iff) Iff·rfl
 
-pub fits-test : {P : Problem} {s : State} → Fits P s → T (fits P s)
+pub fits-test : {P : Problem} {s : State} → Fits P s → T (stateFits P s)
 fits-test {P} {s} F = fits-says P s .1 (λ i l h. F .active-lt i h, λ i l a m o. (F .live-active i a o, F .live-lt i a o))
 
 -- ---- quantifiers

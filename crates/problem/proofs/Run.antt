@@ -8,11 +8,11 @@ use native.Mathlib.Nat.{not-suc-le-zero, le-of-suc-le-suc}
 use native.Mathlib.Omega.{arith}
 use lib.Dec.{T}
 use lib.ListN.{length}
-use Rattle.bounded.specs.Bounded.{any}
+use Rattle.bounded.specs.Bounded.{anyBelow}
 use Rattle.bounded.proofs.Truth.{T-of, T-true, T-not}
 use Rattle.bounded.proofs.Bounded.{any-iff}
 use Rattle.problem.specs.Problem.{Problem, State, full, allActive, anyLive, noneEmpty, unsupported, snake, triangle, neighbourhood, snakeSubstitution, slideSpares, liveCount, sizeSum}
-use Rattle.problem.specs.Reduce.{holds, lawful, after, lawfulTrace, afterTrace, when, first, nextUnsupported, nextSnake, nextTriangle, nextNeighbourhood, nextSnakeSubstitution, kindBound, nextOfKind, next, runFrom, run, endOf}
+use Rattle.problem.specs.Reduce.{holds, lawful, after, lawfulTrace, afterTrace, stepIf, first, nextUnsupported, nextSnake, nextTriangle, nextNeighbourhood, nextSnakeSubstitution, kindBound, nextOfKind, next, runFrom, run, endOf}
 use Rattle.problem.specs.declared.Record.{Record}
 use Rattle.problem.specs.declared.Record.the-variants.{Unsupported, Snake, Triangle, Neighbourhood, SnakeSubstitution}
 use Rattle.problem.specs.declared.Next.{Next}
@@ -43,8 +43,8 @@ first-found Q (suc n) f h r e = go (f zero) refl e (first-found Q n (λ k. f (su
     go Nothing p e ih = ih e
     go (Step x) p e ih = h zero r (p ∙ e)
 
-pub when-found : (Q : Record → Type 0) (b : Bool) (r : Record) → (T b → Q r) → (x : Record) → when b r ≡ Step x → Q x
-unfolding when
+pub when-found : (Q : Record → Type 0) (b : Bool) (r : Record) → (T b → Q r) → (x : Record) → stepIf b r ≡ Step x → Q x
+unfolding stepIf
 when-found Q true r h x e = subst Q (same-step e) (h tt)
 when-found Q false r h x e = absurd (never e)
 
@@ -59,8 +59,8 @@ first-each (suc n) f e k h = go (f zero) refl e k h (first-each n (λ k. f (suc 
     go Nothing p e (suc k) h ih = ih e k (le-of-suc-le-suc h)
     go (Step x) p e k h ih = absurd (never-step e)
 
-when-none : (b : Bool) (r : Record) → when b r ≡ Nothing → T b → ⊥
-unfolding when
+when-none : (b : Bool) (r : Record) → stepIf b r ≡ Nothing → T b → ⊥
+unfolding stepIf
 when-none true r e t = never-step e
 when-none false r e t = t
 
@@ -225,7 +225,7 @@ module _ (P : Problem) where
   pub run-short : length (run P (full P)) ≤ sizeSum P
   run-short = trace-short P (run P (full P)) (run-lawful (full P))
 
--- ---- the end, as document 01 has it
+-- ---- the end, as the format has it
 
 -- what each end says of a state: "an item in has no setting on", "no item in", "items in"; and where it is not impossible each item in
 -- has a setting on
@@ -239,11 +239,11 @@ module _ (P : Problem) (s : State) where
   unfolding endOf
   end-impossible e = rw (e, endOf)
 
-  pub end-rest : noneEmpty P s ≡ true → any (P .n) (s .active) ≡ true → endOf P s ≡ Rest
+  pub end-rest : noneEmpty P s ≡ true → anyBelow (P .n) (s .active) ≡ true → endOf P s ≡ Rest
   unfolding endOf
   end-rest e f = rw (e, f, endOf)
 
-  pub end-solved : noneEmpty P s ≡ true → any (P .n) (s .active) ≡ false → endOf P s ≡ Solved
+  pub end-solved : noneEmpty P s ≡ true → anyBelow (P .n) (s .active) ≡ false → endOf P s ≡ Solved
   unfolding endOf
   end-solved e f = rw (e, f, endOf)
 
@@ -260,10 +260,10 @@ module _ (P : Problem) {s : State} (F : Fits P s) where
   pub end-says : EndSays s (endOf P s)
   end-says = by-empty (noneEmpty P s) refl
     where
-      by-active : noneEmpty P s ≡ true → (b : Bool) → any (P .n) (s .active) ≡ b → EndSays s (endOf P s)
+      by-active : noneEmpty P s ≡ true → (b : Bool) → anyBelow (P .n) (s .active) ≡ b → EndSays s (endOf P s)
       by-active e true f = rw (end-rest P s e f) (let x = any-iff (P .n) (s .active) .0 (T-of f) in (x .0, x .2), noneEmpty-iff F .0 (T-of e))
       by-active e false f = rw (end-solved P s e f) (λ i h. T-not f (any-iff (P .n) (s .active) .1 (i, F .active-lt i h, h)))
 
       by-empty : (b : Bool) → noneEmpty P s ≡ b → EndSays s (endOf P s)
-      by-empty true e = by-active e (any (P .n) (s .active)) refl
+      by-empty true e = by-active e (anyBelow (P .n) (s .active)) refl
       by-empty false e = rw (end-impossible P s e) (emptied (T-not e))

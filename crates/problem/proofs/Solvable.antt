@@ -6,7 +6,7 @@ use Prim.Native.Nat.{ℕ, zero, suc, _+_, _≤_, _<_}
 use native.Mathlib.Nat.{not-suc-le-zero}
 use native.Mathlib.Omega.{arith}
 use lib.Dec.{T, ltb}
-use Rattle.bounded.specs.Bounded.{sumTo, one}
+use Rattle.bounded.specs.Bounded.{sumTo, oneIf}
 use Rattle.bounded.proofs.Truth.{T-dec, T-true, T-false, ltb-iff, eq-dec, lt-dec, at-or-below}
 use Rattle.problem.specs.Problem.{Problem, State}
 use Rattle.problem.specs.Extend.{solves, put}
@@ -33,11 +33,11 @@ some-sum (suc n) f k l h = go (at-or-below l) (some-sum n f k)
     go (inl e) ih = omega (arith, subst (λ (m : ℕ). 0 < f m) e h)
     go (inr m) ih = omega (arith, ih m h)
 
-one-some : (b : Bool) → 0 < one b → T b
+one-some : (b : Bool) → 0 < oneIf b → T b
 one-some true h = tt
 one-some false h = absurd (not-suc-le-zero h)
 
-some-one : (b : Bool) → T b → 0 < one b
+some-one : (b : Bool) → T b → 0 < oneIf b
 some-one true t = omega arith
 some-one false t = absurd t
 

@@ -180,7 +180,7 @@ module _ {P : Problem} {s : State} (F : Fits P s) where
       )
       go (inr e) = (p, unused i b p e A)
 
-  -- kind 5, document 01's rule and the paper's
+  -- kind 5, the format's rule and the paper's
   pub slide-kept : (spare : Bool) (i b a : ℕ) (p : ℕ → ℕ) → SnakeSubstitution P s spare i b a → Solution P s p → Solvable P (remove P s i b)
   slide-kept spare i b a p (ob, (oa, (d, f))) A = go (eq-dec (p i) b)
     where

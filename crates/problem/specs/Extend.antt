@@ -1,4 +1,4 @@
--- Document 01, "Putting back": solutions, and undoing records, last first.
+-- docs/FORMAT.md, "Putting back": solutions, and undoing records, last first.
 use mathlib.Core.Bool.{Bool, true, false, _&&_, not}
 use mathlib.Core.List.{List, [], _∷_}
 use Prim.Native.Nat.{ℕ}

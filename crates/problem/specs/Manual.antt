@@ -1,9 +1,9 @@
--- Document 01, "Taking out by hand": the start, one hand call, lists of calls, and when a list is finished.
+-- docs/FORMAT.md, "Taking out by hand": the start, one hand call, lists of calls, and when a list is finished.
 use mathlib.Core.Bool.{Bool, true, false, not, _&&_}
 use mathlib.Core.List.{List, [], _∷_}
 use Prim.Native.Nat.{ℕ, zero, suc}
 use lib.Dec.{eqb, ltb}
-use Rattle.problem.specs.Problem.{Problem, State, full, fits, noneEmpty, allActive, allOther, allLive, anyLive, lowestLive, snake, eliminate, liveCount}
+use Rattle.problem.specs.Problem.{Problem, State, full, stateFits, noneEmpty, allActive, allOther, allLive, anyLive, lowestLive, snake, eliminate, liveCount}
 use Rattle.problem.specs.declared.Call.{Call}
 use Rattle.problem.specs.declared.Call.the-variants.{Eliminated, Misfit, NotActive, Emptied, NoSnake}
 
@@ -39,7 +39,7 @@ start P = pruneTimes (startTurns P) P (full P)
 -- on, 14 the snake rule holds for no v; otherwise "the lowest fitting v"
 unfoldable pub call : Problem → State → ℕ → Call
 call P s i =
-    elim (fits P s) [
+    elim (stateFits P s) [
       | false ↦ Misfit
       | true ↦
           elim (ltb i (P .n) && s .active i) [

@@ -1,4 +1,4 @@
--- Document 01, "State and the five rules": a problem, a state of it, the five rules, and what a step does.
+-- docs/FORMAT.md, "State and the five rules": a problem, a state of it, the five rules, and what a step does.
 -- Every test reads the problem through `n`, `size` and `allowed` only.
 use mathlib.Core.Path.{_≡_, refl}
 use mathlib.Core.Bool.{Bool, true, false, not, _&&_}
@@ -6,9 +6,9 @@ use Prim.Native.Nat.{ℕ}
 use native.Mathlib.Nat.{lt-irrefl, lt-trans}
 use lib.Dec.{eqb, ltb}
 use borrow.Author.Tests.{ltb-true}
-use Rattle.bounded.specs.Bounded.{imp, all, any, lowest, sumTo, count}
+use Rattle.bounded.specs.Bounded.{imp, allBelow, anyBelow, lowest, sumTo, countBelow}
 
--- A binary constraint problem. Document 01's items are variables, its settings values, both numbered from 0.
+-- A binary constraint problem. The format's items are variables, its settings values, both numbered from 0.
 pub record Problem : Type 0 where
   -- how many items
   pub n : ℕ
@@ -60,13 +60,13 @@ module _ (P : Problem) (s : State) where
   -- ---- quantifiers: at every item in, at every setting on at l, at some setting on at l, and the lowest such setting
 
   unfoldable pub allActive : (ℕ → Bool) → Bool
-  allActive f = all (P .n) (λ l. imp (s .active l) (f l))
+  allActive f = allBelow (P .n) (λ l. imp (s .active l) (f l))
 
   unfoldable pub allLive : ℕ → (ℕ → Bool) → Bool
-  allLive l f = all (P .size l) (λ c. imp (s .live l c) (f c))
+  allLive l f = allBelow (P .size l) (λ c. imp (s .live l c) (f c))
 
   unfoldable pub anyLive : ℕ → (ℕ → Bool) → Bool
-  anyLive l f = any (P .size l) (λ c. s .live l c && f c)
+  anyLive l f = anyBelow (P .size l) (λ c. s .live l c && f c)
 
   unfoldable pub lowestLive : ℕ → (ℕ → Bool) → ℕ
   lowestLive l f = lowest (P .size l) (λ c. s .live l c && f c)
@@ -79,10 +79,10 @@ module _ (P : Problem) (s : State) where
   allThird i j f = allActive (λ l. imp (not (eqb l i)) (imp (not (eqb l j)) (f l)))
 
   -- cause 11: no item in is not below n, no item out has a setting on, and no setting on is not below its size
-  unfoldable pub fits : Bool
-  fits =
-      all maxVariables (λ i. imp (s .active i) (ltb i (P .n)))
-      && all maxVariables (λ i. all maxValues (λ a. imp (s .live i a) (s .active i && ltb a (P .size i))))
+  unfoldable pub stateFits : Bool
+  stateFits =
+      allBelow maxVariables (λ i. imp (s .active i) (ltb i (P .n)))
+      && allBelow maxVariables (λ i. allBelow maxValues (λ a. imp (s .live i a) (s .active i && ltb a (P .size i))))
 
   -- no item in is without a setting on
   unfoldable pub noneEmpty : Bool
@@ -120,7 +120,7 @@ module _ (P : Problem) (s : State) where
   neighbourhood i b a = s .live i b && (s .live i a && (not (eqb a b) && allOther i (λ l. substitutes i a i b l)))
 
   -- kind 5: e "is allowed with a and covers d at every item other than k". With `spare` the item i is left out of these items, as
-  -- document 001 has it; document 01 is narrower and keeps it in.
+  -- the paper (Cooper, "Strengthening neighbourhood substitution") has it; the format is narrower and keeps it in.
   unfoldable pub slideServes : (spare : Bool) (i a k d e : ℕ) → Bool
   slideServes spare i a k d e = P .allowed i a k e && allOther k (λ l. imp (not (spare && eqb l i)) (substitutes k e k d l))
 
@@ -146,13 +146,13 @@ module _ (P : Problem) (s : State) where
         live = λ j w. s .live j w && (not (eqb j i) && anyLive i (λ c. P .allowed j w i c));
       }
 
--- document 01's slide rule keeps i among the items where e covers d: request Four changes this word
+-- the format's slide rule keeps i among the items where e covers d: request Four changes this word
 abbrev pub slideSpares : Bool
 slideSpares = false
 
 -- how many settings are on, and how many the problem lists
 unfoldable pub liveCount : Problem → State → ℕ
-liveCount P s = sumTo (P .n) (λ i. count (P .size i) (s .live i))
+liveCount P s = sumTo (P .n) (λ i. countBelow (P .size i) (s .live i))
 
 unfoldable pub sizeSum : Problem → ℕ
 sizeSum P = sumTo (P .n) (P .size)

@@ -1,9 +1,9 @@
--- Document 01, "The run": records, lawful records and traces, the next step in the required order, the run and its end.
+-- docs/FORMAT.md, "The run": records, lawful records and traces, the next step in the required order, the run and its end.
 use mathlib.Core.Bool.{Bool, true, false, _&&_, not}
 use mathlib.Core.List.{List, [], _∷_}
 use Prim.Native.Nat.{ℕ, zero, suc}
 use lib.Dec.{T}
-use Rattle.bounded.specs.Bounded.{any, all, imp}
+use Rattle.bounded.specs.Bounded.{anyBelow, allBelow, imp}
 use Rattle.problem.specs.Problem.{Problem, State, full, noneEmpty, unsupported, snake, triangle, neighbourhood, snakeSubstitution, slideSpares, remove, eliminate, liveCount}
 use Rattle.problem.specs.declared.Record.{Record}
 use Rattle.problem.specs.declared.Record.the-variants.{Unsupported, Snake, Triangle, Neighbourhood, SnakeSubstitution}
@@ -57,9 +57,9 @@ afterTrace P s (r ∷ t) = afterTrace P (after P s r) t
 -- ---- "the next step is of the lowest kind that holds anywhere, then the lowest i, then the lowest third field, then the lowest fourth"
 
 -- the step where the test holds
-unfoldable pub when : Bool → Record → Next
-when true r = Step r
-when false r = Nothing
+unfoldable pub stepIf : Bool → Record → Next
+stepIf true r = Step r
+stepIf false r = Nothing
 
 -- what f finds at the lowest number below n at which it finds a step
 unfoldable pub first : ℕ → (ℕ → Next) → Next
@@ -73,20 +73,20 @@ kindBound = 6
 module _ (P : Problem) (s : State) where
   -- the lowest step of each kind
   unfoldable pub nextUnsupported : Next
-  nextUnsupported = first (P .n) (λ i. first (P .size i) (λ b. first (P .n) (λ k. when (unsupported P s i b k) (Unsupported i b k))))
+  nextUnsupported = first (P .n) (λ i. first (P .size i) (λ b. first (P .n) (λ k. stepIf (unsupported P s i b k) (Unsupported i b k))))
 
   unfoldable pub nextSnake : Next
-  nextSnake = first (P .n) (λ i. first (P .size i) (λ v. when (snake P s i v) (Snake i v)))
+  nextSnake = first (P .n) (λ i. first (P .size i) (λ v. stepIf (snake P s i v) (Snake i v)))
 
   unfoldable pub nextTriangle : Next
-  nextTriangle = first (P .n) (λ i. first (P .n) (λ j. when (triangle P s i j) (Triangle i j)))
+  nextTriangle = first (P .n) (λ i. first (P .n) (λ j. stepIf (triangle P s i j) (Triangle i j)))
 
   unfoldable pub nextNeighbourhood : Next
-  nextNeighbourhood = first (P .n) (λ i. first (P .size i) (λ b. first (P .size i) (λ a. when (neighbourhood P s i b a) (Neighbourhood i b a))))
+  nextNeighbourhood = first (P .n) (λ i. first (P .size i) (λ b. first (P .size i) (λ a. stepIf (neighbourhood P s i b a) (Neighbourhood i b a))))
 
   unfoldable pub nextSnakeSubstitution : Next
   nextSnakeSubstitution =
-      first (P .n) (λ i. first (P .size i) (λ b. first (P .size i) (λ a. when (snakeSubstitution P s slideSpares i b a) (SnakeSubstitution i b a))))
+      first (P .n) (λ i. first (P .size i) (λ b. first (P .size i) (λ a. stepIf (snakeSubstitution P s slideSpares i b a) (SnakeSubstitution i b a))))
 
   -- the kinds in their order
   unfoldable pub nextOfKind : ℕ → Next
@@ -113,4 +113,4 @@ run P s = runFrom (suc (liveCount P s)) P s
 
 -- "The end is impossible (an item in has no setting on), solved (no item in) or rest (items in, no rule holds)."
 unfoldable pub endOf : Problem → State → End
-endOf P s = elim (noneEmpty P s) [ false ↦ Impossible | true ↦ elim (any (P .n) (s .active)) [ true ↦ Rest | false ↦ Solved ] ]
+endOf P s = elim (noneEmpty P s) [ false ↦ Impossible | true ↦ elim (anyBelow (P .n) (s .active)) [ true ↦ Rest | false ↦ Solved ] ]

@@ -1,4 +1,4 @@
--- Bench sheets of document 01 as problems, with what is claimed of each: one table, whose one statement is proofs/Samples.antt. The rows
+-- Bench sheets of the format as problems, with what is claimed of each: one table, whose one statement is proofs/Samples.antt. The rows
 -- pin the definitions of this crate; the bytes of the same sheets, their refusals and numbers are a table of the crate `jobs`.
 use mathlib.Core.Path.{_≡_}
 use mathlib.Core.Bool.{Bool, true, false, cond, not}
@@ -119,7 +119,7 @@ abbrev pub rows : List Row
 rows =
     -- A
     record { sheet = problem (2 ∷ []) unequal; claims = Runs (Snake 0 0 ∷ []) Solved ∷ [] }
-    -- B; undone first to last it would come back 0, 0. The slide is the paper's and not document 01's.
+    -- B; undone first to last it would come back 0, 0. The slide is the paper's and not the format's.
     ∷ record {
       sheet = problem (2 ∷ 2 ∷ []) unequal;
       claims =

@@ -2,13 +2,13 @@
 use mathlib.Core.Bool.{Bool, true, false}
 use Prim.Native.Nat.{ℕ, zero, suc}
 use lib.Dec.{ltb}
-use Rattle.bounded.specs.Bounded.{sumTo, one}
+use Rattle.bounded.specs.Bounded.{sumTo, oneIf}
 use Rattle.problem.specs.Problem.{Problem, State}
 use Rattle.problem.specs.Extend.{solves, put}
 
 -- the solutions that agree with p at the variables not below k
 unfoldable pub solutionsFrom : Problem → State → ℕ → (ℕ → ℕ) → ℕ
-solutionsFrom P s zero p = one (solves P s p)
+solutionsFrom P s zero p = oneIf (solves P s p)
 solutionsFrom P s (suc k) p = elim (s .active k) [ true ↦ sumTo (P .size k) (λ v. solutionsFrom P s k (put k v p)) | false ↦ solutionsFrom P s k p ]
 
 unfoldable pub solutionCount : Problem → State → ℕ

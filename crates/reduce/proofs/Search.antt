@@ -13,7 +13,7 @@ use lib.ListN.{getD}
 use Rattle.bounded.specs.Mask.{bit}
 use Rattle.bounded.proofs.Truth.{T-of, T-not, T-false, at-or-below}
 use Rattle.problem.specs.Problem.{Problem, State, unsupported, snake, triangle, neighbourhood, snakeSubstitution, slideSpares}
-use Rattle.problem.specs.Reduce.{when, first, nextUnsupported, nextSnake, nextTriangle, nextNeighbourhood, nextSnakeSubstitution, nextOfKind}
+use Rattle.problem.specs.Reduce.{stepIf, first, nextUnsupported, nextSnake, nextTriangle, nextNeighbourhood, nextSnakeSubstitution, nextOfKind}
 use Rattle.problem.specs.Held.{held}
 use Rattle.problem.specs.Masks.{stateOf}
 use Rattle.problem.specs.declared.Masks.{Masks}
@@ -29,12 +29,12 @@ use Rattle.reduce.specs.Search.{isStep, unsupportedValue, unsupportedVar
 
 -- ---- one test
 
-pub when-on : (b : Bool) (r : Record) → b ≡ true → when b r ≡ Step r
-unfolding when
+pub when-on : (b : Bool) (r : Record) → b ≡ true → stepIf b r ≡ Step r
+unfolding stepIf
 when-on b r e = rw e
 
-pub when-off : (b : Bool) (r : Record) → b ≡ false → when b r ≡ Nothing
-unfolding when
+pub when-off : (b : Bool) (r : Record) → b ≡ false → stepIf b r ≡ Nothing
+unfolding stepIf
 when-off b r e = rw e
 
 pub step-is : (x : Next) → isStep x ≡ true → (r : Record) × (x ≡ Step r)
@@ -116,7 +116,7 @@ wide-three f n size inner N M K l m k h =
     ∙ first-ext n _ _ (λ i. first-ext (size i) _ _ (λ b. first-wide (inner i) K (f i b) (k i) (λ c x. h i b c (inr (inr x)))))
 
 -- a test that holds only within the narrower bounds
-outside : (b : Bool) (r : Record) → (T b → ⊥) → when b r ≡ Nothing
+outside : (b : Bool) (r : Record) → (T b → ⊥) → stepIf b r ≡ Nothing
 outside b r h = when-off b r (T-false b h)
 
 -- ---- the kinds, over a table and a state that fits it
@@ -150,7 +150,7 @@ module _ {t : List ℕ} {m : Masks} (R : Ready t m) where
 
   -- ---- kind 1
 
-  unsupported-none : (i b k : ℕ) → (Live s i b → Active s k → ⊥) → when (unsupported P s i b k) (Unsupported i b k) ≡ Nothing
+  unsupported-none : (i b k : ℕ) → (Live s i b → Active s k → ⊥) → stepIf (unsupported P s i b k) (Unsupported i b k) ≡ Nothing
   unsupported-none i b k h = outside _ _ (λ x. let y = unsupported-iff (R .fits) i b k .0 x in h (y .0) (y .1))
 
   pub unsupported-value-off : (i b : ℕ) → bit (getD (m .domains) i 0) b ≡ false → unsupportedValue P s i b ≡ Nothing
@@ -164,12 +164,12 @@ module _ {t : List ℕ} {m : Masks} (R : Ready t m) where
   pub unsupported-first : first 32 (unsupportedVariable P s) ≡ nextUnsupported P s
   unfolding unsupportedVariable unsupportedValue nextUnsupported
   unsupported-first =
-      wide-three (λ i b k. when (unsupported P s i b k) (Unsupported i b k)) (P .n) (P .size) (λ i. P .n) 32 16 32 (held-few t) (held-narrow (R .table)) (λ i. held-few t)
+      wide-three (λ i b k. stepIf (unsupported P s i b k) (Unsupported i b k)) (P .n) (P .size) (λ i. P .n) 32 16 32 (held-few t) (held-narrow (R .table)) (λ i. held-few t)
       (λ i b k o. unsupported-none i b k (λ x y. ⊎-elim (λ l. no-value i b (inl l) x) (λ q. ⊎-elim (λ l. no-value i b (inr l) x) (λ l. no-variable k l y) q) o))
 
   -- ---- kind 2
 
-  snake-none : (i v : ℕ) → (Live s i v → ⊥) → when (snake P s i v) (Snake i v) ≡ Nothing
+  snake-none : (i v : ℕ) → (Live s i v → ⊥) → stepIf (snake P s i v) (Snake i v) ≡ Nothing
   snake-none i v h = outside _ _ (λ x. h (snake-iff (R .fits) i v .0 x .0))
 
   pub snake-variable-off : (i : ℕ) → bit (m .active) i ≡ false → snakeVariable P s i ≡ Nothing
@@ -178,11 +178,11 @@ module _ {t : List ℕ} {m : Masks} (R : Ready t m) where
 
   pub snake-first : first 32 (snakeVariable P s) ≡ nextSnake P s
   unfolding snakeVariable nextSnake
-  snake-first = wide-two (λ i v. when (snake P s i v) (Snake i v)) (P .n) (P .size) 32 16 (held-few t) (held-narrow (R .table)) (λ i v o. snake-none i v (no-value i v o))
+  snake-first = wide-two (λ i v. stepIf (snake P s i v) (Snake i v)) (P .n) (P .size) 32 16 (held-few t) (held-narrow (R .table)) (λ i v o. snake-none i v (no-value i v o))
 
   -- ---- kind 3
 
-  triangle-none : (i j : ℕ) → (Active s i → Active s j → ⊥) → when (triangle P s i j) (Triangle i j) ≡ Nothing
+  triangle-none : (i j : ℕ) → (Active s i → Active s j → ⊥) → stepIf (triangle P s i j) (Triangle i j) ≡ Nothing
   triangle-none i j h = outside _ _ (λ x. let y = triangle-iff (R .fits) i j .0 x in h (y .0) (y .1 .0))
 
   pub triangle-variable-off : (i : ℕ) → bit (m .active) i ≡ false → triangleVariable P s i ≡ Nothing
@@ -192,12 +192,12 @@ module _ {t : List ℕ} {m : Masks} (R : Ready t m) where
   pub triangle-first : first 32 (triangleVariable P s) ≡ nextTriangle P s
   unfolding triangleVariable nextTriangle
   triangle-first =
-      wide-two (λ i j. when (triangle P s i j) (Triangle i j)) (P .n) (λ i. P .n) 32 32 (held-few t) (λ i. held-few t)
+      wide-two (λ i j. stepIf (triangle P s i j) (Triangle i j)) (P .n) (λ i. P .n) 32 32 (held-few t) (λ i. held-few t)
       (λ i j o. triangle-none i j (λ x y. ⊎-elim (λ l. no-variable i l x) (λ l. no-variable j l y) o))
 
   -- ---- kind 4
 
-  neighbourhood-none : (i b a : ℕ) → (Live s i b → Live s i a → ⊥) → when (neighbourhood P s i b a) (Neighbourhood i b a) ≡ Nothing
+  neighbourhood-none : (i b a : ℕ) → (Live s i b → Live s i a → ⊥) → stepIf (neighbourhood P s i b a) (Neighbourhood i b a) ≡ Nothing
   neighbourhood-none i b a h = outside _ _ (λ x. let y = neighbourhood-iff (R .fits) i b a .0 x in h (y .0) (y .1 .0))
 
   pub neighbourhood-value-off : (i b : ℕ) → bit (getD (m .domains) i 0) b ≡ false → neighbourhoodValue P s i b ≡ Nothing
@@ -211,12 +211,12 @@ module _ {t : List ℕ} {m : Masks} (R : Ready t m) where
   pub neighbourhood-first : first 32 (neighbourhoodVariable P s) ≡ nextNeighbourhood P s
   unfolding neighbourhoodVariable neighbourhoodValue nextNeighbourhood
   neighbourhood-first =
-      wide-three (λ i b a. when (neighbourhood P s i b a) (Neighbourhood i b a)) (P .n) (P .size) (P .size) 32 16 16 (held-few t) (held-narrow (R .table)) (held-narrow (R .table))
+      wide-three (λ i b a. stepIf (neighbourhood P s i b a) (Neighbourhood i b a)) (P .n) (P .size) (P .size) 32 16 16 (held-few t) (held-narrow (R .table)) (held-narrow (R .table))
       (λ i b a o. neighbourhood-none i b a (λ x y. ⊎-elim (λ l. no-value i b (inl l) x) (λ q. ⊎-elim (λ l. no-value i b (inr l) x) (λ l. no-value i a (inr l) y) q) o))
 
   -- ---- kind 5
 
-  substitution-none : (i b a : ℕ) → (Live s i b → Live s i a → ⊥) → when (snakeSubstitution P s slideSpares i b a) (SnakeSubstitution i b a) ≡ Nothing
+  substitution-none : (i b a : ℕ) → (Live s i b → Live s i a → ⊥) → stepIf (snakeSubstitution P s slideSpares i b a) (SnakeSubstitution i b a) ≡ Nothing
   substitution-none i b a h = outside _ _ (λ x. let y = snakeSubstitution-iff (R .fits) slideSpares i b a .0 x in h (y .0) (y .1 .0))
 
   pub substitution-value-off : (i b : ℕ) → bit (getD (m .domains) i 0) b ≡ false → substitutionValue P s i b ≡ Nothing
@@ -230,7 +230,7 @@ module _ {t : List ℕ} {m : Masks} (R : Ready t m) where
   pub substitution-first : first 32 (substitutionVariable P s) ≡ nextSnakeSubstitution P s
   unfolding substitutionVariable substitutionValue nextSnakeSubstitution
   substitution-first =
-      wide-three (λ i b a. when (snakeSubstitution P s slideSpares i b a) (SnakeSubstitution i b a)) (P .n) (P .size) (P .size) 32 16 16 (held-few t) (held-narrow (R .table)) (held-narrow (R .table))
+      wide-three (λ i b a. stepIf (snakeSubstitution P s slideSpares i b a) (SnakeSubstitution i b a)) (P .n) (P .size) (P .size) 32 16 16 (held-few t) (held-narrow (R .table)) (held-narrow (R .table))
       (λ i b a o. substitution-none i b a (λ x y. ⊎-elim (λ l. no-value i b (inl l) x) (λ q. ⊎-elim (λ l. no-value i b (inr l) x) (λ l. no-value i a (inr l) y) q) o))
 
 -- ---- the kinds in their order

@@ -8,7 +8,7 @@ use native.Mathlib.Omega.{arith}
 use lib.Dec.{T, eqb, ltb}
 use lib.Pow.{pow-pos}
 use borrow.Author.Tests.{lt-ltb, le-ltb}
-use Rattle.bounded.specs.Bounded.{any}
+use Rattle.bounded.specs.Bounded.{anyBelow}
 use Rattle.bounded.specs.Mask.{bit, maskOf}
 use Rattle.bounded.proofs.Truth.{T-ext, T-not, lt-dec, not-iff, eqb-iff}
 use Rattle.bounded.proofs.Bounded.{any-iff}
@@ -58,7 +58,7 @@ module _ {t : List ℕ} {m : Masks} (R : Ready t m) where
   -- ---- the end
 
   -- some variable is active where the mask is not 0
-  pub some-active : not (eqb (m .active) 0) ≡ any ((held t) .n) (stateOf m .active)
+  pub some-active : not (eqb (m .active) 0) ≡ anyBelow ((held t) .n) (stateOf m .active)
   unfolding stateOf
   some-active =
       T-ext (
@@ -69,8 +69,8 @@ module _ {t : List ℕ} {m : Masks} (R : Ready t m) where
       zero-bit : (i : ℕ) → m .active ≡ 0 → bit (m .active) i ≡ false
       zero-bit i e = ap (λ (x : ℕ). bit x i) e ∙ bit-none i
 
-      T-true' : T (not (eqb (m .active) 0)) → T (any 32 (bit (m .active)))
-      T-true' h = go (any 32 (bit (m .active))) (subst (λ (b : Bool). T (not b)) (zero-bits 32 (m .active) (R .proper .active-lt)) h)
+      T-true' : T (not (eqb (m .active) 0)) → T (anyBelow 32 (bit (m .active)))
+      T-true' h = go (anyBelow 32 (bit (m .active))) (subst (λ (b : Bool). T (not b)) (zero-bits 32 (m .active) (R .proper .active-lt)) h)
         where
           go : (b : Bool) → T (not (not b)) → T b
           go true k = tt

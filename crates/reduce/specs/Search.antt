@@ -3,7 +3,7 @@
 use mathlib.Core.Bool.{Bool, true, false}
 use Prim.Native.Nat.{ℕ}
 use Rattle.problem.specs.Problem.{Problem, State, unsupported, snake, triangle, neighbourhood, snakeSubstitution, slideSpares}
-use Rattle.problem.specs.Reduce.{when, first}
+use Rattle.problem.specs.Reduce.{stepIf, first}
 use Rattle.problem.specs.declared.Record.the-variants.{Unsupported, Snake, Triangle, Neighbourhood, SnakeSubstitution}
 use Rattle.problem.specs.declared.Next.{Next}
 use Rattle.problem.specs.declared.Next.the-variants.{Step, Nothing}
@@ -16,29 +16,29 @@ isStep Nothing = false
 module _ (P : Problem) (s : State) where
   -- kind 1, with k; with b and k
   unfoldable pub unsupportedValue : ℕ → ℕ → Next
-  unsupportedValue i b = first 32 (λ k. when (unsupported P s i b k) (Unsupported i b k))
+  unsupportedValue i b = first 32 (λ k. stepIf (unsupported P s i b k) (Unsupported i b k))
 
   unfoldable pub unsupportedVariable : ℕ → Next
   unsupportedVariable i = first 16 (λ b. unsupportedValue i b)
 
   -- kind 2, with v
   unfoldable pub snakeVariable : ℕ → Next
-  snakeVariable i = first 16 (λ v. when (snake P s i v) (Snake i v))
+  snakeVariable i = first 16 (λ v. stepIf (snake P s i v) (Snake i v))
 
   -- kind 3, with j
   unfoldable pub triangleVariable : ℕ → Next
-  triangleVariable i = first 32 (λ j. when (triangle P s i j) (Triangle i j))
+  triangleVariable i = first 32 (λ j. stepIf (triangle P s i j) (Triangle i j))
 
   -- kind 4, with a; with b and a
   unfoldable pub neighbourhoodValue : ℕ → ℕ → Next
-  neighbourhoodValue i b = first 16 (λ a. when (neighbourhood P s i b a) (Neighbourhood i b a))
+  neighbourhoodValue i b = first 16 (λ a. stepIf (neighbourhood P s i b a) (Neighbourhood i b a))
 
   unfoldable pub neighbourhoodVariable : ℕ → Next
   neighbourhoodVariable i = first 16 (λ b. neighbourhoodValue i b)
 
   -- kind 5, with a; with b and a
   unfoldable pub substitutionValue : ℕ → ℕ → Next
-  substitutionValue i b = first 16 (λ a. when (snakeSubstitution P s slideSpares i b a) (SnakeSubstitution i b a))
+  substitutionValue i b = first 16 (λ a. stepIf (snakeSubstitution P s slideSpares i b a) (SnakeSubstitution i b a))
 
   unfoldable pub substitutionVariable : ℕ → Next
   substitutionVariable i = first 16 (λ b. substitutionValue i b)

@@ -1,5 +1,5 @@
-// The run of document 01: the search for the next step in the required order, the steps, and the run over a sheet with its trace in a
-// lent buffer. Variables are document 01's items, values its settings.
+// The run of the format: the search for the next step in the required order, the steps, and the run over a sheet with its trace in a
+// lent buffer. Variables are the format's items, values its settings.
 ghost use mathlib.Core.Path.{_≡_};
 ghost use mathlib.Core.List.{[]};
 ghost use Prim.Native.Nat.{_≤_, _<_, _+_, _*_};

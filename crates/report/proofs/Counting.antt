@@ -5,7 +5,7 @@ use mathlib.Core.Logic.{_⊎_, ⊎-elim}
 use Prim.Native.Nat.{ℕ, zero, suc, _+_, _≤_, _<_}
 use native.Mathlib.Omega.{arith}
 use lib.Dec.{T}
-use Rattle.bounded.specs.Bounded.{one, sumTo, count}
+use Rattle.bounded.specs.Bounded.{oneIf, sumTo, countBelow}
 use Rattle.bounded.proofs.Truth.{T-false, lt-dec}
 use Rattle.bounded.proofs.Bounded.{sum-ext}
 use Rattle.bounded.proofs.Loops.{sum-more}
@@ -17,13 +17,13 @@ use Rattle.problem.proofs.Bridge.{state-back}
 
 -- ---- one turn of a count
 
-pub count-none : (f : ℕ → Bool) → count 0 f ≡ 0
-unfolding count sumTo
+pub count-none : (f : ℕ → Bool) → countBelow 0 f ≡ 0
+unfolding countBelow sumTo
 count-none f = refl
 
-pub count-more : (f : ℕ → Bool) (n : ℕ) → count (n + 1) f ≡ count n f + one (f n)
-unfolding count
-count-more f n = sum-more (λ k. one (f k)) n
+pub count-more : (f : ℕ → Bool) (n : ℕ) → countBelow (n + 1) f ≡ countBelow n f + oneIf (f n)
+unfolding countBelow
+count-more f n = sum-more (λ k. oneIf (f k)) n
 
 -- ---- a loop over a sum: one turn, and its end
 
@@ -46,23 +46,23 @@ sum-beyond n (suc k) f l h = ⊎-elim (λ m. more m (sum-beyond n k f (omega ari
     more : n < suc k → sumTo k f ≡ sumTo n f → sumTo k f + f k ≡ sumTo n f
     more m e = omega (arith, h k (omega arith))
 
-pub count-beyond : (n k : ℕ) (f : ℕ → Bool) → n ≤ k → ((i : ℕ) → T (f i) → i < n) → count k f ≡ count n f
-unfolding count
-count-beyond n k f l h = sum-beyond n k (λ i. one (f i)) l (λ i m. ap one (T-false (f i) (λ t. let x = h i t in omega arith)))
+pub count-beyond : (n k : ℕ) (f : ℕ → Bool) → n ≤ k → ((i : ℕ) → T (f i) → i < n) → countBelow k f ≡ countBelow n f
+unfolding countBelow
+count-beyond n k f l h = sum-beyond n k (λ i. oneIf (f i)) l (λ i m. ap oneIf (T-false (f i) (λ t. let x = h i t in omega arith)))
 
 -- ---- a state that fits
 
 module _ (P : Problem) (B : Bounded P) where
   module _ {s : State} (F : Fits P s) where
-    pub active-counted : count 32 ((stateOf (masksOf s)) .active) ≡ count (P .n) (s .active)
-    active-counted = ap (λ (x : State). count 32 (x .active)) (state-back P B F) ∙ count-beyond (P .n) 32 (s .active) (B .few) (F .active-lt)
+    pub active-counted : countBelow 32 ((stateOf (masksOf s)) .active) ≡ countBelow (P .n) (s .active)
+    active-counted = ap (λ (x : State). countBelow 32 (x .active)) (state-back P B F) ∙ count-beyond (P .n) 32 (s .active) (B .few) (F .active-lt)
 
-    no-values : (i : ℕ) → P .n ≤ i → count (P .size i) (s .live i) ≡ 0
-    no-values i l = ap (λ (z : ℕ). count z (s .live i)) (B .none i l) ∙ count-none (s .live i)
+    no-values : (i : ℕ) → P .n ≤ i → countBelow (P .size i) (s .live i) ≡ 0
+    no-values i l = ap (λ (z : ℕ). countBelow z (s .live i)) (B .none i l) ∙ count-none (s .live i)
 
-    pub values-counted : sumTo 32 (λ i. count 16 ((stateOf (masksOf s)) .live i)) ≡ liveCount P s
+    pub values-counted : sumTo 32 (λ i. countBelow 16 ((stateOf (masksOf s)) .live i)) ≡ liveCount P s
     unfolding liveCount
     values-counted =
-        ap (λ (x : State). sumTo 32 (λ i. count 16 (x .live i))) (state-back P B F)
-        ∙ sum-ext 32 (λ i. count 16 (s .live i)) (λ i. count (P .size i) (s .live i)) (λ i l. count-beyond (P .size i) 16 (s .live i) (B .narrow i) (F .live-lt i))
-        ∙ sum-beyond (P .n) 32 (λ i. count (P .size i) (s .live i)) (B .few) no-values
+        ap (λ (x : State). sumTo 32 (λ i. countBelow 16 (x .live i))) (state-back P B F)
+        ∙ sum-ext 32 (λ i. countBelow 16 (s .live i)) (λ i. countBelow (P .size i) (s .live i)) (λ i l. count-beyond (P .size i) 16 (s .live i) (B .narrow i) (F .live-lt i))
+        ∙ sum-beyond (P .n) 32 (λ i. countBelow (P .size i) (s .live i)) (B .few) no-values

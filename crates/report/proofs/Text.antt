@@ -6,7 +6,7 @@ use native.Mathlib.Nat.{zero-add}
 use native.Mathlib.Omega.{arith}
 use lib.ListN.{length}
 use borrow.Author.Tests.{lt-ltb, le-ltb}
-use Rattle.bounded.specs.Bounded.{count, sumTo}
+use Rattle.bounded.specs.Bounded.{countBelow, sumTo}
 use Rattle.problem.specs.Problem.{Problem, State, full, sizeSum, liveCount}
 use Rattle.problem.specs.Reduce.{run, afterTrace, endOf}
 use Rattle.problem.specs.Held.{Bounded}
@@ -45,15 +45,15 @@ module _ (P : Problem) (B : Bounded P) (w : List ℕ) (e : End) (steps : ℕ) (m
   last : State
   last = afterTrace P (full P) (run P (full P))
 
-  actives : count 32 ((stateOf m) .active) ≡ count (P .n) (last .active)
+  actives : countBelow 32 ((stateOf m) .active) ≡ countBelow (P .n) (last .active)
   unfolding last
-  actives = ap (λ (x : Masks). count 32 ((stateOf x) .active)) (R .last) ∙ active-counted P B (trace-fits P (full-fits P) (run P (full P)))
+  actives = ap (λ (x : Masks). countBelow 32 ((stateOf x) .active)) (R .last) ∙ active-counted P B (trace-fits P (full-fits P) (run P (full P)))
 
-  values : sumTo 32 (λ i. count 16 ((stateOf m) .live i)) ≡ liveCount P last
+  values : sumTo 32 (λ i. countBelow 16 ((stateOf m) .live i)) ≡ liveCount P last
   unfolding last
-  values = ap (λ (x : Masks). sumTo 32 (λ i. count 16 ((stateOf x) .live i))) (R .last) ∙ values-counted P B (trace-fits P (full-fits P) (run P (full P)))
+  values = ap (λ (x : Masks). sumTo 32 (λ i. countBelow 16 ((stateOf x) .live i))) (R .last) ∙ values-counted P B (trace-fits P (full-fits P) (run P (full P)))
 
-  pub run-text : (n sum a v : ℕ) → n ≡ P .n → sum ≡ sizeSum P → a ≡ count 32 ((stateOf m) .active) → v ≡ sumTo 32 (λ i. count 16 ((stateOf m) .live i))
+  pub run-text : (n sum a v : ℕ) → n ≡ P .n → sum ≡ sizeSum P → a ≡ countBelow 32 ((stateOf m) .active) → v ≡ sumTo 32 (λ i. countBelow 16 ((stateOf m) .live i))
       → (sheetWord ++ (field n ++ (field sum ++ (10 ∷ []))))
       ++ (stepLines 1 (recordsIn steps w 1) ++ (endWord e ++ (field steps ++ (field a ++ (field v ++ (10 ∷ []))))))
       ≡ runLines P
@@ -63,7 +63,7 @@ module _ (P : Problem) (B : Bounded P) (w : List ℕ) (e : End) (steps : ℕ) (m
       ++ (stepLines 1 (R .told i) ++ (endWord (R .end i) ++ (field (R .count i) ++ (field ((f ∙ actives) i) ++ (field ((g ∙ values) i) ++ (10 ∷ []))))))
 
   -- the three parts written one after the other
-  pub run-put : (d b₁ b₂ b₃ : List ℕ) (p q r n sum a v : ℕ) → n ≡ P .n → sum ≡ sizeSum P → a ≡ count 32 ((stateOf m) .active) → v ≡ sumTo 32 (λ i. count 16 ((stateOf m) .live i))
+  pub run-put : (d b₁ b₂ b₃ : List ℕ) (p q r n sum a v : ℕ) → n ≡ P .n → sum ≡ sizeSum P → a ≡ countBelow 32 ((stateOf m) .active) → v ≡ sumTo 32 (λ i. countBelow 16 ((stateOf m) .live i))
       → Puts d 0 (sheetWord ++ (field n ++ (field sum ++ (10 ∷ [])))) b₁ p
       → Puts b₁ p (stepLines 1 (recordsIn steps w 1)) b₂ q
       → Puts b₂ q (endWord e ++ (field steps ++ (field a ++ (field v ++ (10 ∷ []))))) b₃ r
@@ -122,7 +122,7 @@ module _ (s b : List ℕ) (long : 2561 ≤ length b) where
         let c : k ≡ length (run P (full P)) = cc in
         record {
           end = cc;
-          count = c;
+          countBelow = c;
           few = omega (arith, run-short P, sizes-most P (problem-bounded s K));
           last = ap (λ (y : Reduced). y .state) a ∙ ap (λ (y : RunResult). y .answer .state) (worked K);
           told = (λ i. recordsIn (c i) ((h ∙ ap (λ (y : RunResult). y .buffer) (worked K)) i) 1) ∙ trace-read (run P (full P)) b;

@@ -7,7 +7,7 @@ use problem::Masks;
 ghost use mathlib.Core.Path.{_≡_};
 ghost use Prim.Native.Nat.{_+_, _*_, _≤_};
 ghost use lib.ListN.{length};
-ghost use Rattle.bounded.specs.Bounded.{one as oneIf, count, sumTo};
+ghost use Rattle.bounded.specs.Bounded.{oneIf, countBelow, sumTo};
 ghost use Rattle.bounded.specs.Mask.{bit};
 ghost use Rattle.problem.specs.Masks.{stateOf};
 ghost use Rattle.sheet.specs.Sheet.{layout, Keeps};
@@ -30,7 +30,7 @@ fn one(b: bool) -> usize
 // How many numbers below n are in a set.
 fn count_bits(x: u32, n: usize) -> usize
     requires { ⌜ n ≤ 32 ⌝ }
-    ensures is { λ r. ⌜ r ≡ count n (λ c. bit x c) ⌝ }
+    ensures is { λ r. ⌜ r ≡ countBelow n (λ c. bit x c) ⌝ }
     ensures within { λ r. ⌜ r ≤ n ⌝ }
 {
     let mut sum: usize = 0;
@@ -44,7 +44,7 @@ fn count_bits(x: u32, n: usize) -> usize
 
 // How many values are in the domains.
 fn count_values(m: Masks) -> usize
-    ensures is { λ r. ⌜ r ≡ sumTo 32 (λ i. count 16 ((stateOf m) .live i)) ⌝ }
+    ensures is { λ r. ⌜ r ≡ sumTo 32 (λ i. countBelow 16 ((stateOf m) .live i)) ⌝ }
     ensures within { λ r. ⌜ r ≤ 512 ⌝ }
 {
     let mut sum: usize = 0;

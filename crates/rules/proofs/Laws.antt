@@ -10,7 +10,7 @@ use lib.Dec.{T, eqb}
 use lib.Bits.{bitAnd, and-le-l}
 use lib.ListN.{getD}
 use borrow.Author.Tests.{eq-eqb, ne-eqb}
-use Rattle.bounded.specs.Bounded.{imp, all, any}
+use Rattle.bounded.specs.Bounded.{imp, allBelow, anyBelow}
 use Rattle.bounded.specs.Mask.{bit, without}
 use Rattle.bounded.proofs.Truth.{T-ext, T-of, T-dec, T-false, T-true, clash, both, eq-dec, and-iff, imp-iff, not-iff, eqb-iff}
 use Rattle.bounded.proofs.Bounded.{all-iff, any-iff}
@@ -27,14 +27,14 @@ use Rattle.rules.specs.Words.{coversIn, servedIn, allServedIn, snakeAt, 
 -- ---- quantifiers to 32 and to 16
 
 module _ {P : Problem} {s : State} (F : Fits P s) where
-  pub allActive-32 : P .n ≤ 32 → (f : ℕ → Bool) → all 32 (λ l. imp (s .active l) (f l)) ≡ allActive P s f
+  pub allActive-32 : P .n ≤ 32 → (f : ℕ → Bool) → allBelow 32 (λ l. imp (s .active l) (f l)) ≡ allActive P s f
   allActive-32 few f =
       T-ext (
         λ h. allActive-iff F f .1 (λ l o. (simp (all-iff, imp-iff) at h) l (omega (arith, F .active-lt l o)) o),
         λ h. simp (all-iff, imp-iff) (λ l k o. allActive-iff F f .0 h l o),
       )
 
-  pub allLive-16 : (l : ℕ) → P .size l ≤ 16 → (f : ℕ → Bool) → all 16 (λ c. imp (s .live l c) (f c)) ≡ allLive P s l f
+  pub allLive-16 : (l : ℕ) → P .size l ≤ 16 → (f : ℕ → Bool) → allBelow 16 (λ c. imp (s .live l c) (f c)) ≡ allLive P s l f
   allLive-16 l narrow f =
       T-ext (
         λ h. allLive-iff F l f .1 (λ c o. (simp (all-iff, imp-iff) at h) c (omega (arith, F .live-lt l c o)) o),
@@ -179,21 +179,21 @@ module _ {t : List ℕ} {m : Masks} (R : Ready t m) where
   some-word l q =
       ap not (zero-bits 16 (getD (m .domains) l 0) (R .proper .domain-lt l q))
       ∙ T-ext (
-        λ h. elim (T-dec (any 16 (bit (getD (m .domains) l 0)))) [
+        λ h. elim (T-dec (anyBelow 16 (bit (getD (m .domains) l 0)))) [
           | inl t ↦ let x = any-iff 16 (bit (getD (m .domains) l 0)) .0 t in anyLive-iff (R .fits) l (λ c. true) .1 (x .0, x .2, tt)
-          | inr n ↦ absurd (not-iff (not (any 16 (bit (getD (m .domains) l 0)))) .0 h (not-iff (any 16 (bit (getD (m .domains) l 0))) .1 n))
+          | inr n ↦ absurd (not-iff (not (anyBelow 16 (bit (getD (m .domains) l 0)))) .0 h (not-iff (anyBelow 16 (bit (getD (m .domains) l 0))) .1 n))
         ],
         λ h. let x = anyLive-iff (R .fits) l (λ c. true) .0 h in
-            not-iff (not (any 16 (bit (getD (m .domains) l 0)))) .1 (λ n. not-iff (any 16 (bit (getD (m .domains) l 0))) .0 n (any-iff 16 (bit (getD (m .domains) l 0)) .1 (x .0, live-value l (x .0) (x .1) .value, x .1))),
+            not-iff (not (anyBelow 16 (bit (getD (m .domains) l 0)))) .1 (λ n. not-iff (anyBelow 16 (bit (getD (m .domains) l 0))) .0 n (any-iff 16 (bit (getD (m .domains) l 0)) .1 (x .0, live-value l (x .0) (x .1) .value, x .1))),
       )
 
   -- ---- loops over variables and values
 
-  pub active-loop : (f : ℕ → Bool) → all 32 (λ l. imp (bit (m .active) l) (f l)) ≡ allActive (held t) (stateOf m) f
+  pub active-loop : (f : ℕ → Bool) → allBelow 32 (λ l. imp (bit (m .active) l) (f l)) ≡ allActive (held t) (stateOf m) f
   unfolding stateOf
   active-loop f = allActive-32 (R .fits) (held-few t) f
 
-  pub other-loop : (i : ℕ) → i < 32 → (f : ℕ → Bool) → all 32 (λ l. imp (bit (others (m .active) i) l) (f l)) ≡ allOther (held t) (stateOf m) i f
+  pub other-loop : (i : ℕ) → i < 32 → (f : ℕ → Bool) → allBelow 32 (λ l. imp (bit (others (m .active) i) l) (f l)) ≡ allOther (held t) (stateOf m) i f
   unfolding stateOf
   other-loop i p f =
       T-ext (
@@ -201,7 +201,7 @@ module _ {t : List ℕ} {m : Masks} (R : Ready t m) where
         λ h. simp (all-iff, imp-iff) (λ l k u. let x = others-iff (m .active) i l p k .0 u in allOther-iff (R .fits) i f .0 h l (x .0) (x .1)),
       )
 
-  pub third-loop : (i j : ℕ) → i < 32 → j < 32 → (f : ℕ → Bool) → all 32 (λ l. imp (bit (thirds (m .active) i j) l) (f l)) ≡ allThird (held t) (stateOf m) i j f
+  pub third-loop : (i j : ℕ) → i < 32 → j < 32 → (f : ℕ → Bool) → allBelow 32 (λ l. imp (bit (thirds (m .active) i j) l) (f l)) ≡ allThird (held t) (stateOf m) i j f
   unfolding stateOf
   third-loop i j p q f =
       T-ext (
@@ -209,7 +209,7 @@ module _ {t : List ℕ} {m : Masks} (R : Ready t m) where
         λ h. simp (all-iff, imp-iff) (λ l k u. let x = thirds-iff (m .active) i j l p q k .0 u in allThird-iff (R .fits) i j f .0 h l (x .0 .0) (x .0 .1) (x .1)),
       )
 
-  pub live-loop : (l : ℕ) → (f : ℕ → Bool) → all 16 (λ c. imp (bit (getD (m .domains) l 0) c) (f c)) ≡ allLive (held t) (stateOf m) l f
+  pub live-loop : (l : ℕ) → (f : ℕ → Bool) → allBelow 16 (λ c. imp (bit (getD (m .domains) l 0) c) (f c)) ≡ allLive (held t) (stateOf m) l f
   unfolding stateOf held
   live-loop l f = allLive-16 (R .fits) l (R .table .narrow l) f
 
@@ -307,7 +307,7 @@ module _ {t : List ℕ} {m : Masks} (R : Ready t m) where
   third-word x y i a j b p q = third-loop x y p q (λ l. substitutes (held t) (stateOf m) i a j b l)
 
   -- the same with a set that is known to be the others
-  pub other-by : (rest i : ℕ) → rest ≡ others (m .active) i → i < 32 → (f : ℕ → Bool) → all 32 (λ l. imp (bit rest l) (f l)) ≡ allOther (held t) (stateOf m) i f
+  pub other-by : (rest i : ℕ) → rest ≡ others (m .active) i → i < 32 → (f : ℕ → Bool) → allBelow 32 (λ l. imp (bit rest l) (f l)) ≡ allOther (held t) (stateOf m) i f
   other-by rest i e p f = rw e (other-loop i p f)
 
 -- a member of the others of i is not i

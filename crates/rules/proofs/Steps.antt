@@ -11,7 +11,7 @@ use lib.Bits.{bitAnd, bitOr, and-le-l}
 use lib.ListN.{getD, set, length-set}
 use lib.Seq.{getD-set-same, getD-set-other}
 use borrow.Author.Tests.{eqb-true, eqb-false}
-use Rattle.bounded.specs.Bounded.{any}
+use Rattle.bounded.specs.Bounded.{anyBelow}
 use Rattle.bounded.specs.Mask.{bit, maskOf, without}
 use Rattle.bounded.proofs.Truth.{T-ext, T-of, T-false, split, and-iff, or-iff, eqb-iff, eq-dec}
 use Rattle.bounded.proofs.Bounded.{any-iff}
@@ -29,11 +29,11 @@ use Rattle.rules.proofs.Laws.{live-value, row-says, word-lt}
 
 -- ---- a union of rows
 
-pub gather-on : (f : ℕ → Bool) (x y v c : ℕ) → bit x c ≡ any v f → f v ≡ bit y c → bit (bitOr x y) c ≡ any (v + 1) f
+pub gather-on : (f : ℕ → Bool) (x y v c : ℕ) → bit x c ≡ anyBelow v f → f v ≡ bit y c → bit (bitOr x y) c ≡ anyBelow (v + 1) f
 gather-on f x y v c e h = bit-or x y c ∙ (rw (e, ← h) (sym (any-next f v)))
 
-pub gather-off : (f : ℕ → Bool) (x v c : ℕ) → bit x c ≡ any v f → f v ≡ false → bit x c ≡ any (v + 1) f
-gather-off f x v c e h = e ∙ sym (any-next f v ∙ (rw h (or-false (any v f))))
+pub gather-off : (f : ℕ → Bool) (x v c : ℕ) → bit x c ≡ anyBelow v f → f v ≡ false → bit x c ≡ anyBelow (v + 1) f
+gather-off f x v c e h = e ∙ sym (any-next f v ∙ (rw h (or-false (anyBelow v f))))
 
 module _ {t : List ℕ} {m : Masks} (R : Ready t m) where
   -- ---- a value removed
@@ -93,7 +93,7 @@ module _ {t : List ℕ} {m : Masks} (R : Ready t m) where
   unfolding domainAfter partnersOf stateOf rowAllows
   domain-word i j q d =
       mask-is 16 (bitAnd (getD (m .domains) j 0) partners) (eliminate (held t) (stateOf m) i .live j) (word-lt R j _ q)
-      (λ c k. bit-and (getD (m .domains) j 0) partners c ∙ ap (λ (z : Bool). bit (getD (m .domains) j 0) c && z) (bit-mask 16 (λ c. any 16 (supportedBy t (getD (m .domains) i 0) i j c)) c k)
+      (λ c k. bit-and (getD (m .domains) j 0) partners c ∙ ap (λ (z : Bool). bit (getD (m .domains) j 0) c && z) (bit-mask 16 (λ c. anyBelow 16 (supportedBy t (getD (m .domains) i 0) i j c)) c k)
       ∙ T-ext (
         λ h. let x = simp (and-iff, any-iff) at h in
             let v = x .1 .0 in
@@ -107,4 +107,4 @@ module _ {t : List ℕ} {m : Masks} (R : Ready t m) where
       ))
     where
       partners : ℕ
-      partners = maskOf 16 (λ c. any 16 (supportedBy t (getD (m .domains) i 0) i j c))
+      partners = maskOf 16 (λ c. anyBelow 16 (supportedBy t (getD (m .domains) i 0) i j c))

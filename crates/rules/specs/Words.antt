@@ -1,8 +1,8 @@
--- The rules of document 01 as the code tests them: loops to 32 and 16 over the members of masks.
+-- The rules of the format as the code tests them: loops to 32 and 16 over the members of masks.
 use mathlib.Core.Bool.{Bool, not, _&&_, cond}
 use mathlib.Core.List.{List}
 use Prim.Native.Nat.{ℕ}
-use Rattle.bounded.specs.Bounded.{imp, all, any}
+use Rattle.bounded.specs.Bounded.{imp, allBelow, anyBelow}
 use Rattle.bounded.specs.Mask.{bit, maskOf, without}
 use Rattle.problem.specs.Problem.{Problem, State, allLive, anyLive, substitutes, snakeServes, triangleServes, slideServes, eliminate}
 use Rattle.problem.specs.Held.{rowAllows}
@@ -10,15 +10,15 @@ use Rattle.problem.specs.Held.{rowAllows}
 module _ (P : Problem) (s : State) where
   -- a of i covers b of j at each variable of a set
   unfoldable pub coversIn : (rest i a j b : ℕ) → Bool
-  coversIn rest i a j b = all 32 (λ l. imp (bit rest l) (substitutes P s i a j b l))
+  coversIn rest i a j b = allBelow 32 (λ l. imp (bit rest l) (substitutes P s i a j b l))
 
   -- some u of i, of a set of values, covers w of j at each variable of the set `rest`
   unfoldable pub servedIn : (rest good i j w : ℕ) → Bool
-  servedIn rest good i j w = any 16 (λ u. bit good u && coversIn rest i u j w)
+  servedIn rest good i j w = anyBelow 16 (λ u. bit good u && coversIn rest i u j w)
 
   -- each value of `bad` that is not one of `good` is served by one of `good`; both are sets of values of j
   unfoldable pub allServedIn : (rest good bad j : ℕ) → Bool
-  allServedIn rest good bad j = all 16 (λ w. imp (bit bad w && not (bit good w)) (servedIn rest good j j w))
+  allServedIn rest good bad j = allBelow 16 (λ w. imp (bit bad w && not (bit good w)) (servedIn rest good j j w))
 
   -- ---- what the snake, fold and slide rules ask of one other variable
 
@@ -54,4 +54,4 @@ abbrev pub supportedBy : List ℕ → (domain i j c v : ℕ) → Bool
 supportedBy t domain i j c v = bit domain v && rowAllows t i v j c
 
 unfoldable pub partnersOf : List ℕ → (domain i j : ℕ) → ℕ
-partnersOf t domain i j = maskOf 16 (λ c. any 16 (supportedBy t domain i j c))
+partnersOf t domain i j = maskOf 16 (λ c. anyBelow 16 (supportedBy t domain i j c))

@@ -1,4 +1,4 @@
-// The five rules of document 01, and the two steps, over a lent table of rows and a state as masks.
+// The five rules of the format, and the two steps, over a lent table of rows and a state as masks.
 // Values and variables are tested a word at a time: a row of the table is the set of values allowed with one value.
 ghost use mathlib.Core.Path.{_≡_};
 ghost use mathlib.Core.Bool.{_&&_, not, true, false};
@@ -57,7 +57,7 @@ fn third_set(active: u32, i: usize, j: usize) -> u32
     without32(without32(active, i), j)
 }
 
-// The variables at which a value of k must cover another in the slide rule. Document 01 keeps i among them.
+// The variables at which a value of k must cover another in the slide rule. The format keeps i among them.
 fn slide_set(active: u32, i: usize, k: usize) -> u32
     requires { ⌜ (i < 32) × (k < 32) ⌝ }
     ensures { λ r. ⌜ r ≡ slideSet slideSpares active i k ⌝ }

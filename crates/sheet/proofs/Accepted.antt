@@ -8,7 +8,7 @@ use native.Mathlib.Omega.{arith}
 use lib.ListN.{length}
 use lib.Dec.{T, eqb, ltb, leb}
 use borrow.Author.Tests.{ltb-true, ltb-false, leb-true, eqb-true, eqb-false, lt-ltb, le-ltb, le-leb, not-false}
-use Rattle.bounded.specs.Bounded.{count, sumTo, one}
+use Rattle.bounded.specs.Bounded.{countBelow, sumTo, oneIf}
 use Rattle.bounded.proofs.Truth.{T-true, T-of, T-not, both, neither}
 use Rattle.bounded.proofs.Bounded.{count-lt}
 use Rattle.problem.specs.Held.{Bounded}
@@ -165,7 +165,7 @@ module _ (L : Layout) (s : List ℕ) where
       go : (t : Bool) → (eqb (byteAt s p) i && eqb (byteAt s (p + 1)) j) ≡ t → Here (suc k) least p
           → ((least p r : ℕ) → Good k least p → rowsFrom L s i j k p ≡ At r → Found i j r) → Found i j r
       go true t h ih = let q = is-pair i j p t in let f = rows-case i j k p true t in found-here i j (suc k) least p r h (q .0) (q .1) (cc)
-      go false t h ih = let one : suc k - 1 ≡ k = omega arith in ih _ _ r (rw one at (h .rest)) (sym (rows-case i j k p false t) ∙ e)
+      go false t h ih = let oneIf : suc k - 1 ≡ k = omega arith in ih _ _ r (rw oneIf at (h .rest)) (sym (rows-case i j k p false t) ∙ e)
 
   pub found : (i j r : ℕ) → Keeps L s → rowsOf L s i j ≡ At r → Found i j r
   unfolding rowsOf
@@ -291,7 +291,7 @@ abbrev comes : ℕ → ℕ → Bool
 comes least x = leb least x && ltb (x / 32) (x % 32)
 
 abbrev remaining : ℕ → ℕ
-remaining least = count 1024 (comes least)
+remaining least = countBelow 1024 (comes least)
 
 -- after the pair of i and j fewer may come
 fewer : (least i j : ℕ) → i < j → j < 32 → least ≤ 32 * i + j → remaining (32 * i + j + 1) < remaining least
@@ -315,7 +315,7 @@ fewer least i j r e h =
     T-of v)
 
 all-remain : remaining 0 ≡ 496
-unfolding count sumTo
+unfolding countBelow sumTo
 all-remain = refl
 
 module _ (L : Layout) (s : List ℕ) (narrow : (v z : ℕ) → L .width v z ≤ 2) where
@@ -331,8 +331,8 @@ module _ (L : Layout) (s : List ℕ) (narrow : (v z : ℕ) → L .width v z ≤ 
       let c = f .sizes i (omega arith) .1 in
       let m = rows-small (sizeAt s i) (rowWidth L s j) c (narrow (versionOf s) (sizeAt s j)) in
       let l = fewer least i j r (omega arith) (h .after) in
-      let one : suc k - 1 ≡ k = omega arith in
-      let ih = longest-from f k (32 * i + j + 1) (p + 2 + rowBytes L s i j) (rw one at (h .rest)) in
+      let oneIf : suc k - 1 ≡ k = omega arith in
+      let ih = longest-from f k (32 * i + j + 1) (p + 2 + rowBytes L s i j) (rw oneIf at (h .rest)) in
       omega arith
 
   pub longest : Keeps L s → length s ≤ 16904

@@ -1,4 +1,4 @@
--- Document 01, "The sheet", and the sheet's rows of "Where each thing is turned away", in the order of the rows.
+-- docs/FORMAT.md, "The sheet", and the sheet's rows of "Where each thing is turned away", in the order of the rows.
 use mathlib.Core.Path.{_≡_}
 use mathlib.Core.Bool.{Bool, true, false, cond, not, _&&_, _||_}
 use mathlib.Core.List.{List}

@@ -13,7 +13,7 @@ ghost use Rattle.sheet.specs.Relation.{rowsOf, rowIn, rowsAllow, pairAll
 ghost use Rattle.sheet.specs.Parts.{Width, Inside, BlockAt, RowAt, RowFrom, pairRows, entryRows};
 ghost use Rattle.sheet.specs.declared.Rows.the-variants.{At};
 
-// Why a sheet is turned away: one case for each row of document 01's table.
+// Why a sheet is turned away: one case for each row of the format's table.
 pub enum SheetRefusal {
     TooShort,
     Version,
@@ -46,7 +46,7 @@ pub enum Rows {
     Unconstrained,
 }
 
-// Document 01's number for a refusal.
+// The format's number for a refusal.
 pub fn sheet_number(r: SheetRefusal) -> u8
     ensures { λ k. ⌜ k ≡ sheetNumber r ⌝ }
 {
@@ -275,7 +275,7 @@ fn bad_sizes(s: &[u8], n: usize, p: usize) -> bool
     false
 }
 
-// Reads a sheet: the rows of document 01's table in their order.
+// Reads a sheet: the rows of the format's table in their order.
 pub fn read_sheet(s: &[u8]) -> SheetRead
     ensures { λ r. ⌜ r ≡ readSheet layout (now (s .entry)) ⌝ }
 {

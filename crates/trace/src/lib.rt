@@ -84,7 +84,7 @@ pub fn record_at(s: &[u8], at: usize) -> RecordRead
     }
 }
 
-// ---- document 01's reader: it holds the lent bytes and its place, and is thin over `record_at`
+// ---- the format's reader: it holds the lent bytes and its place, and is thin over `record_at`
 
 struct Reader<'a> {
     src: &'a [u8],

@@ -4,7 +4,7 @@ use Prim.Native.Nat.{_-_, _≤_}
 use mathlib.Core.Bool.{true}
 use lib.ListN.{length}
 use borrow.Author.Tests.{not-true, not-false}
-use Rattle.bounded.specs.Bounded.{all}
+use Rattle.bounded.specs.Bounded.{allBelow}
 use Rattle.bounded.proofs.Loops.{all-none, all-more, all-fail, all-end}
 use Rattle.problem.specs.Masks.{stateOf}
 use Rattle.jobs.specs.PutBack.{planOf}
@@ -15,7 +15,7 @@ use Rattle.extend.proofs.entries_fit.Statement.{statement}
 use Rattle.extend.proofs.entries_fit.Tie as tie
 
 abbrev Inv-loop : tie.InvT-loop
-Inv-loop m plan i₀ i = (i ≤ length plan) × (all i (λ k. entryFits (stateOf m) k (planOf plan k)) ≡ true)
+Inv-loop m plan i₀ i = (i ≤ length plan) × (allBelow i (λ k. entryFits (stateOf m) k (planOf plan k)) ≡ true)
 
 abbrev μ-loop : tie.MeasureT-loop
 μ-loop m plan i₀ i = length plan - i

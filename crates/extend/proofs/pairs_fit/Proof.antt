@@ -4,7 +4,7 @@ use Prim.Native.Nat.{_-_, _≤_}
 use mathlib.Core.Bool.{true}
 use lib.ListN.{length}
 use borrow.Author.Tests.{not-true, not-false}
-use Rattle.bounded.specs.Bounded.{all}
+use Rattle.bounded.specs.Bounded.{allBelow}
 use Rattle.bounded.proofs.Loops.{all-none, all-more, all-fail, all-end}
 use Rattle.problem.specs.Held.{held}
 use Rattle.problem.specs.Masks.{stateOf}
@@ -16,7 +16,7 @@ use Rattle.extend.proofs.pairs_fit.Statement.{statement}
 use Rattle.extend.proofs.pairs_fit.Tie as tie
 
 abbrev Inv-loop : tie.InvT-loop
-Inv-loop t m plan i₀ i = (i ≤ length plan) × (all i (pairsOf (held t) (stateOf m) (planOf plan)) ≡ true)
+Inv-loop t m plan i₀ i = (i ≤ length plan) × (allBelow i (pairsOf (held t) (stateOf m) (planOf plan)) ≡ true)
 
 abbrev μ-loop : tie.MeasureT-loop
 μ-loop t m plan i₀ i = length plan - i

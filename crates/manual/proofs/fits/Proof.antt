@@ -3,7 +3,7 @@ use Prim.Native.Nat.{_≤_, _-_}
 use mathlib.Core.Path.{_≡_, sym, _∙_}
 use mathlib.Core.Bool.{true}
 use borrow.Author.Tests.{not-true, not-false}
-use Rattle.bounded.specs.Bounded.{all}
+use Rattle.bounded.specs.Bounded.{allBelow}
 use Rattle.bounded.proofs.Loops.{all-none, all-more, all-fail, all-end}
 use Rattle.problem.specs.Held.{held}
 use Rattle.problem.specs.Masks.{stateOf}
@@ -15,7 +15,7 @@ use Rattle.manual.proofs.fits.Statement.{statement}
 use Rattle.manual.proofs.fits.Tie as tie
 
 abbrev Inv-loop : tie.InvT-loop
-Inv-loop t m n i₀ i = (i ≤ 32) × (all i (fitsAt (held t) (stateOf m)) ≡ true)
+Inv-loop t m n i₀ i = (i ≤ 32) × (allBelow i (fitsAt (held t) (stateOf m)) ≡ true)
 
 abbrev μ-loop : tie.MeasureT-loop
 μ-loop t m n i₀ i = 32 - i

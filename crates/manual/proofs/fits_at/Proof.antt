@@ -7,7 +7,7 @@ use mir.Syntax.{w16}
 use denote.Ref.{now}
 use lib.Dec.{ltb}
 use lib.ListN.{getD}
-use Rattle.bounded.specs.Bounded.{imp, all}
+use Rattle.bounded.specs.Bounded.{imp, allBelow}
 use Rattle.bounded.specs.Mask.{bit}
 use Rattle.problem.specs.Held.{held}
 use Rattle.problem.proofs.HeldTable.{held-narrow}
@@ -36,7 +36,7 @@ returns : tie.Need-returns
 returns c =
     let a = c .before .before .before .before .before .before .args in
     let p = c .before .before .before .before .before .before .pre in
-    let e = c .below .ensures ∙ ap (λ (z : ℕ). all 16 (λ v. imp (bit (getD (a .t2 .domains) (a .i) 0) v) (ltb v z))) (c .before .size .ensures) in
+    let e = c .below .ensures ∙ ap (λ (z : ℕ). allBelow 16 (λ v. imp (bit (getD (a .t2 .domains) (a .i) 0) v) (ltb v z))) (c .before .size .ensures) in
     let P = held (now (a .t)) in
     ap (λ (n : ℕ). ltb (a .i) n && c .below .result) (p .1)
     ∙ ap (λ (b : Bool). ltb (a .i) (P .n) && b) e

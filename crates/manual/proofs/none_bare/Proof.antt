@@ -2,7 +2,7 @@
 use Prim.Native.Nat.{_≤_, _-_}
 use mathlib.Core.Path.{_≡_, sym, ap, _∙_}
 use mathlib.Core.Bool.{true, not}
-use Rattle.bounded.specs.Bounded.{all}
+use Rattle.bounded.specs.Bounded.{allBelow}
 use Rattle.bounded.proofs.Loops.{all-none, all-more, all-fail, all-end}
 use Rattle.problem.specs.Problem.{unsupported}
 use Rattle.problem.specs.Held.{held}
@@ -14,7 +14,7 @@ use Rattle.manual.proofs.none_bare.Statement.{statement}
 use Rattle.manual.proofs.none_bare.Tie as tie
 
 abbrev Inv-loop : tie.InvT-loop
-Inv-loop t m i a k₀ k = (k ≤ 32) × (all k (λ k. not (unsupported (held t) (stateOf m) i a k)) ≡ true)
+Inv-loop t m i a k₀ k = (k ≤ 32) × (allBelow k (λ k. not (unsupported (held t) (stateOf m) i a k)) ≡ true)
 
 abbrev μ-loop : tie.MeasureT-loop
 μ-loop t m i a k₀ k = 32 - k

@@ -5,7 +5,7 @@ use mathlib.Core.Bool.{true}
 use lib.Dec.{eqb}
 use lib.ListN.{getD}
 use borrow.Author.Tests.{not-true, not-false}
-use Rattle.bounded.specs.Bounded.{all}
+use Rattle.bounded.specs.Bounded.{allBelow}
 use Rattle.bounded.proofs.Loops.{all-none, all-more, all-fail, all-end}
 use Rattle.manual.specs.Parts.{sameDomains}
 use borrow.Author.Needs.{needs}
@@ -14,7 +14,7 @@ use Rattle.manual.proofs.same_domains.Statement.{statement}
 use Rattle.manual.proofs.same_domains.Tie as tie
 
 abbrev Inv-loop : tie.InvT-loop
-Inv-loop x y i₀ i = (i ≤ 32) × (all i (λ k. eqb (getD (x .domains) k 0) (getD (y .domains) k 0)) ≡ true)
+Inv-loop x y i₀ i = (i ≤ 32) × (allBelow i (λ k. eqb (getD (x .domains) k 0) (getD (y .domains) k 0)) ≡ true)
 
 abbrev μ-loop : tie.MeasureT-loop
 μ-loop x y i₀ i = 32 - i

@@ -5,7 +5,7 @@ use native.Mathlib.Omega.{arith}
 use borrow.Author.Needs.{needs}
 use borrow.Author.Tests.{not-true}
 use Rattle.problem.specs.Problem.{neighbourhood}
-use Rattle.problem.specs.Reduce.{when, first}
+use Rattle.problem.specs.Reduce.{stepIf, first}
 use Rattle.problem.specs.Held.{held}
 use Rattle.problem.specs.Masks.{stateOf}
 use Rattle.problem.specs.declared.Next.the-variants.{Nothing}
@@ -16,7 +16,7 @@ use Rattle.reduce.proofs.neighbourhood_value.Statement.{statement}
 use Rattle.reduce.proofs.neighbourhood_value.Tie as tie
 
 abbrev Inv-loop : tie.InvT-loop
-Inv-loop t i b m a₀ a = (a ≤ 16) × (first a (λ a. when (neighbourhood (held t) (stateOf m) i b a) (Neighbourhood i b a)) ≡ Nothing)
+Inv-loop t i b m a₀ a = (a ≤ 16) × (first a (λ a. stepIf (neighbourhood (held t) (stateOf m) i b a) (Neighbourhood i b a)) ≡ Nothing)
 
 abbrev μ-loop : tie.MeasureT-loop
 μ-loop t i b m a₀ a = 16 - a

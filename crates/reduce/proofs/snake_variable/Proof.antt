@@ -5,7 +5,7 @@ use native.Mathlib.Omega.{arith}
 use borrow.Author.Needs.{needs}
 use borrow.Author.Tests.{not-true}
 use Rattle.problem.specs.Problem.{snake}
-use Rattle.problem.specs.Reduce.{when, first}
+use Rattle.problem.specs.Reduce.{stepIf, first}
 use Rattle.problem.specs.Held.{held}
 use Rattle.problem.specs.Masks.{stateOf}
 use Rattle.problem.specs.declared.Next.the-variants.{Nothing}
@@ -16,7 +16,7 @@ use Rattle.reduce.proofs.snake_variable.Statement.{statement}
 use Rattle.reduce.proofs.snake_variable.Tie as tie
 
 abbrev Inv-loop : tie.InvT-loop
-Inv-loop t m i v₀ v = (v ≤ 16) × (first v (λ v. when (snake (held t) (stateOf m) i v) (Snake i v)) ≡ Nothing)
+Inv-loop t m i v₀ v = (v ≤ 16) × (first v (λ v. stepIf (snake (held t) (stateOf m) i v) (Snake i v)) ≡ Nothing)
 
 abbrev μ-loop : tie.MeasureT-loop
 μ-loop t m i v₀ v = 16 - v

@@ -5,7 +5,7 @@ use native.Mathlib.Omega.{arith}
 use borrow.Author.Needs.{needs}
 use borrow.Author.Tests.{not-true}
 use Rattle.problem.specs.Problem.{triangle}
-use Rattle.problem.specs.Reduce.{when, first}
+use Rattle.problem.specs.Reduce.{stepIf, first}
 use Rattle.problem.specs.Held.{held}
 use Rattle.problem.specs.Masks.{stateOf}
 use Rattle.problem.specs.declared.Next.the-variants.{Nothing}
@@ -16,7 +16,7 @@ use Rattle.reduce.proofs.triangle_variable.Statement.{statement}
 use Rattle.reduce.proofs.triangle_variable.Tie as tie
 
 abbrev Inv-loop : tie.InvT-loop
-Inv-loop t m i j₀ j = (j ≤ 32) × (first j (λ j. when (triangle (held t) (stateOf m) i j) (Triangle i j)) ≡ Nothing)
+Inv-loop t m i j₀ j = (j ≤ 32) × (first j (λ j. stepIf (triangle (held t) (stateOf m) i j) (Triangle i j)) ≡ Nothing)
 
 abbrev μ-loop : tie.MeasureT-loop
 μ-loop t m i j₀ j = 32 - j

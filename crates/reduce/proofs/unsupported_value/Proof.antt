@@ -5,7 +5,7 @@ use native.Mathlib.Omega.{arith}
 use borrow.Author.Needs.{needs}
 use borrow.Author.Tests.{not-true}
 use Rattle.problem.specs.Problem.{unsupported}
-use Rattle.problem.specs.Reduce.{when, first}
+use Rattle.problem.specs.Reduce.{stepIf, first}
 use Rattle.problem.specs.Held.{held}
 use Rattle.problem.specs.Masks.{stateOf}
 use Rattle.problem.specs.declared.Next.the-variants.{Nothing}
@@ -16,7 +16,7 @@ use Rattle.reduce.proofs.unsupported_value.Statement.{statement}
 use Rattle.reduce.proofs.unsupported_value.Tie as tie
 
 abbrev Inv-loop : tie.InvT-loop
-Inv-loop t i b m k₀ k = (k ≤ 32) × (first k (λ k. when (unsupported (held t) (stateOf m) i b k) (Unsupported i b k)) ≡ Nothing)
+Inv-loop t i b m k₀ k = (k ≤ 32) × (first k (λ k. stepIf (unsupported (held t) (stateOf m) i b k) (Unsupported i b k)) ≡ Nothing)
 
 abbrev μ-loop : tie.MeasureT-loop
 μ-loop t i b m k₀ k = 32 - k

@@ -2,7 +2,7 @@
 use mathlib.Core.Path.{_≡_, sym, ap, _∙_}
 use Prim.Native.Nat.{ℕ, _+_, _-_, _≤_}
 use native.Mathlib.Omega.{arith}
-use Rattle.bounded.specs.Bounded.{one, count}
+use Rattle.bounded.specs.Bounded.{oneIf, countBelow}
 use Rattle.bounded.specs.Mask.{bit}
 use borrow.Author.Needs.{needs}
 use Rattle.bounded.proofs.Bounded.{count-most}
@@ -11,7 +11,7 @@ use Rattle.report.proofs.count_bits.Statement.{statement}
 use Rattle.report.proofs.count_bits.Tie as tie
 
 abbrev Inv-loop : tie.InvT-loop
-Inv-loop x n sum₀ c₀ sum c = (c ≤ n) × ((sum ≡ count c (λ k. bit x k)) × (sum ≤ c))
+Inv-loop x n sum₀ c₀ sum c = (c ≤ n) × ((sum ≡ countBelow c (λ k. bit x k)) × (sum ≤ c))
 
 abbrev μ-loop : tie.MeasureT-loop
 μ-loop x n sum₀ c₀ sum c = n - c
@@ -30,8 +30,8 @@ more : tie.Need-loop-again Inv-loop μ-loop
 more c =
     let w = c .before .before .before .loop in
     let x = c .before .before .before .before .args .x in
-    let e : w .sum + c .one .result ≡ count (w .c + 1) (λ k. bit x k) =
-    (λ i. w .inv .1 .0 i + (c .one .ensures ∙ ap one (c .before .has32 .ensures)) i) ∙ sym (count-more (λ k. bit x k) (w .c)) in
+    let e : w .sum + c .one .result ≡ countBelow (w .c + 1) (λ k. bit x k) =
+    (λ i. w .inv .1 .0 i + (c .one .ensures ∙ ap oneIf (c .before .has32 .ensures)) i) ∙ sym (count-more (λ k. bit x k) (w .c)) in
     (omega arith, (e, omega (arith, e, count-most (w .c + 1) (λ k. bit x k))))
 
 add-sum : tie.Need-add-sum Inv-loop μ-loop
@@ -48,7 +48,7 @@ returns c =
     let w = c .before .loop in
     let x = c .before .before .args .x in
     let e : w .c ≡ c .before .before .args .n = omega arith in
-    (w .inv .1 .0 ∙ ap (λ (k : ℕ). count k (λ c. bit x c)) e, omega arith)
+    (w .inv .1 .0 ∙ ap (λ (k : ℕ). countBelow k (λ c. bit x c)) e, omega arith)
 
 pub count-bits-spec : {M : Type 1} → statement M
 count-bits-spec =

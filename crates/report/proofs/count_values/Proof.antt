@@ -2,7 +2,7 @@
 use mathlib.Core.Path.{_≡_, sym}
 use Prim.Native.Nat.{_-_, _*_, _≤_}
 use native.Mathlib.Omega.{arith}
-use Rattle.bounded.specs.Bounded.{count, sumTo}
+use Rattle.bounded.specs.Bounded.{countBelow, sumTo}
 use Rattle.bounded.proofs.Loops.{sum-none}
 use Rattle.problem.specs.Masks.{stateOf}
 use borrow.Author.Needs.{needs}
@@ -11,7 +11,7 @@ use Rattle.report.proofs.count_values.Statement.{statement}
 use Rattle.report.proofs.count_values.Tie as tie
 
 abbrev Inv-loop : tie.InvT-loop
-Inv-loop m sum₀ i₀ sum i = (i ≤ 32) × ((sum ≡ sumTo i (λ k. count 16 ((stateOf m) .live k))) × (sum ≤ 16 * i))
+Inv-loop m sum₀ i₀ sum i = (i ≤ 32) × ((sum ≡ sumTo i (λ k. countBelow 16 ((stateOf m) .live k))) × (sum ≤ 16 * i))
 
 abbrev μ-loop : tie.MeasureT-loop
 μ-loop m sum₀ i₀ sum i = 32 - i

@@ -5,7 +5,7 @@ use mathlib.Core.Bool.{true}
 use native.Mathlib.Omega.{arith}
 use borrow.Author.Needs.{needs}
 use borrow.Author.Tests.{not-true, not-false}
-use Rattle.bounded.specs.Bounded.{imp, all}
+use Rattle.bounded.specs.Bounded.{imp, allBelow}
 use Rattle.bounded.specs.Mask.{bit}
 use Rattle.bounded.proofs.Loops.{all-none, all-more, all-fail, all-end}
 use Rattle.problem.specs.Problem.{substitutes}
@@ -16,7 +16,7 @@ use Rattle.rules.proofs.covers.Statement.{statement}
 use Rattle.rules.proofs.covers.Tie as tie
 
 abbrev Inv-loop : tie.InvT-loop
-Inv-loop t m rest i a j b l₀ l = (l ≤ 32) × (all l (λ l. imp (bit rest l) (substitutes (held t) (stateOf m) i a j b l)) ≡ true)
+Inv-loop t m rest i a j b l₀ l = (l ≤ 32) × (allBelow l (λ l. imp (bit rest l) (substitutes (held t) (stateOf m) i a j b l)) ≡ true)
 
 abbrev μ-loop : tie.MeasureT-loop
 μ-loop t m rest i a j b l₀ l = 32 - l

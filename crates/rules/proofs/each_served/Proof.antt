@@ -5,7 +5,7 @@ use mathlib.Core.Bool.{true, not, _&&_}
 use native.Mathlib.Omega.{arith}
 use borrow.Author.Needs.{needs}
 use borrow.Author.Tests.{not-true, not-false}
-use Rattle.bounded.specs.Bounded.{imp, all}
+use Rattle.bounded.specs.Bounded.{imp, allBelow}
 use Rattle.bounded.specs.Mask.{bit}
 use Rattle.bounded.proofs.Loops.{all-none, all-more, all-fail, all-end}
 use Rattle.problem.specs.Held.{held}
@@ -15,7 +15,7 @@ use Rattle.rules.proofs.each_served.Statement.{statement}
 use Rattle.rules.proofs.each_served.Tie as tie
 
 abbrev Inv-loop : tie.InvT-loop
-Inv-loop t m rest good bad j w₀ w = (w ≤ 16) × (all w (λ w. imp (bit bad w && not (bit good w)) (servedIn (held t) (stateOf m) rest good j j w)) ≡ true)
+Inv-loop t m rest good bad j w₀ w = (w ≤ 16) × (allBelow w (λ w. imp (bit bad w && not (bit good w)) (servedIn (held t) (stateOf m) rest good j j w)) ≡ true)
 
 abbrev μ-loop : tie.MeasureT-loop
 μ-loop t m rest good bad j w₀ w = 16 - w

@@ -5,7 +5,7 @@ use mathlib.Core.Bool.{true}
 use native.Mathlib.Omega.{arith}
 use borrow.Author.Needs.{needs}
 use borrow.Author.Tests.{not-true, not-false}
-use Rattle.bounded.specs.Bounded.{imp, all}
+use Rattle.bounded.specs.Bounded.{imp, allBelow}
 use Rattle.bounded.specs.Mask.{bit}
 use Rattle.bounded.proofs.Loops.{all-none, all-more, all-fail, all-end}
 use lib.ListN.{getD}
@@ -17,7 +17,7 @@ use Rattle.rules.proofs.fold_all.Statement.{statement}
 use Rattle.rules.proofs.fold_all.Tie as tie
 
 abbrev Inv-loop : tie.InvT-loop
-Inv-loop t m i j rest v₀ v = (v ≤ 16) × (all v (λ v. imp (bit (getD (m .domains) j 0) v) (foldAt (held t) (stateOf m) i j v)) ≡ true)
+Inv-loop t m i j rest v₀ v = (v ≤ 16) × (allBelow v (λ v. imp (bit (getD (m .domains) j 0) v) (foldAt (held t) (stateOf m) i j v)) ≡ true)
 
 abbrev μ-loop : tie.MeasureT-loop
 μ-loop t m i j rest v₀ v = 16 - v

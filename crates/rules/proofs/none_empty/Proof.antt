@@ -5,7 +5,7 @@ use mathlib.Core.Bool.{true}
 use native.Mathlib.Omega.{arith}
 use borrow.Author.Needs.{needs}
 use borrow.Author.Tests.{not-true, not-false}
-use Rattle.bounded.specs.Bounded.{imp, all}
+use Rattle.bounded.specs.Bounded.{imp, allBelow}
 use Rattle.bounded.specs.Mask.{bit}
 use Rattle.bounded.proofs.Loops.{all-none, all-more, all-fail, all-end}
 use Rattle.problem.specs.Problem.{anyLive, noneEmpty}
@@ -16,7 +16,7 @@ use Rattle.rules.proofs.none_empty.Statement.{statement}
 use Rattle.rules.proofs.none_empty.Tie as tie
 
 abbrev Inv-loop : tie.InvT-loop
-Inv-loop t m i₀ i = (i ≤ 32) × (all i (λ l. imp (bit (m .active) l) (anyLive (held t) (stateOf m) l (λ c. true))) ≡ true)
+Inv-loop t m i₀ i = (i ≤ 32) × (allBelow i (λ l. imp (bit (m .active) l) (anyLive (held t) (stateOf m) l (λ c. true))) ≡ true)
 
 abbrev μ-loop : tie.MeasureT-loop
 μ-loop t m i₀ i = 32 - i

@@ -5,7 +5,7 @@ use mathlib.Core.Logic.{⊎-elim}
 use native.Mathlib.Omega.{arith}
 use borrow.Author.Needs.{needs}
 use lib.Bits.{or-lt}
-use Rattle.bounded.specs.Bounded.{any}
+use Rattle.bounded.specs.Bounded.{anyBelow}
 use Rattle.bounded.specs.Mask.{bit}
 use Rattle.bounded.proofs.Loops.{any-none}
 use Rattle.bounded.proofs.Mask.{bit-none, mask-is}
@@ -16,7 +16,7 @@ use Rattle.rules.proofs.partners.Statement.{statement}
 use Rattle.rules.proofs.partners.Tie as tie
 
 abbrev Inv-loop : tie.InvT-loop
-Inv-loop t domain i j x₀ a₀ x a = (a ≤ 16) × (x < 2 ^ 16) × ((c : ℕ) → c < 16 → bit x c ≡ any a (supportedBy t domain i j c))
+Inv-loop t domain i j x₀ a₀ x a = (a ≤ 16) × (x < 2 ^ 16) × ((c : ℕ) → c < 16 → bit x c ≡ anyBelow a (supportedBy t domain i j c))
 
 abbrev μ-loop : tie.MeasureT-loop
 μ-loop t domain i j x₀ a₀ x a = 16 - a

@@ -4,7 +4,7 @@ use mathlib.Core.Path.{_≡_, sym, _∙_}
 use mathlib.Core.Bool.{false, _&&_}
 use native.Mathlib.Omega.{arith}
 use borrow.Author.Needs.{needs}
-use Rattle.bounded.specs.Bounded.{any}
+use Rattle.bounded.specs.Bounded.{anyBelow}
 use Rattle.bounded.specs.Mask.{bit}
 use Rattle.bounded.proofs.Loops.{any-none, any-more, any-hit, any-end}
 use Rattle.problem.specs.Held.{held}
@@ -14,7 +14,7 @@ use Rattle.rules.proofs.served.Statement.{statement}
 use Rattle.rules.proofs.served.Tie as tie
 
 abbrev Inv-loop : tie.InvT-loop
-Inv-loop t m rest good i j w u₀ u = (u ≤ 16) × (any u (λ u. bit good u && coversIn (held t) (stateOf m) rest i u j w) ≡ false)
+Inv-loop t m rest good i j w u₀ u = (u ≤ 16) × (anyBelow u (λ u. bit good u && coversIn (held t) (stateOf m) rest i u j w) ≡ false)
 
 abbrev μ-loop : tie.MeasureT-loop
 μ-loop t m rest good i j w u₀ u = 16 - u

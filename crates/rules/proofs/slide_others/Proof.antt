@@ -5,7 +5,7 @@ use mathlib.Core.Bool.{true}
 use native.Mathlib.Omega.{arith}
 use borrow.Author.Needs.{needs}
 use borrow.Author.Tests.{not-true, not-false}
-use Rattle.bounded.specs.Bounded.{imp, all}
+use Rattle.bounded.specs.Bounded.{imp, allBelow}
 use Rattle.bounded.specs.Mask.{bit}
 use Rattle.bounded.proofs.Loops.{all-none, all-more, all-fail, all-end}
 use Rattle.problem.specs.Problem.{slideSpares}
@@ -17,7 +17,7 @@ use Rattle.rules.proofs.slide_others.Statement.{statement}
 use Rattle.rules.proofs.slide_others.Tie as tie
 
 abbrev Inv-loop : tie.InvT-loop
-Inv-loop t m i b a rest k₀ k = (k ≤ 32) × (all k (λ k. imp (bit rest k) (slideAt (held t) (stateOf m) slideSpares i b a k)) ≡ true)
+Inv-loop t m i b a rest k₀ k = (k ≤ 32) × (allBelow k (λ k. imp (bit rest k) (slideAt (held t) (stateOf m) slideSpares i b a k)) ≡ true)
 
 abbrev μ-loop : tie.MeasureT-loop
 μ-loop t m i b a rest k₀ k = 32 - k

@@ -1,4 +1,4 @@
--- `rules::slide_set`: document 01 keeps i in the set. Assumes nothing.
+-- `rules::slide_set`: the format keeps i in the set. Assumes nothing.
 use Rattle.rules.specs.Words.{slideSet}
 use borrow.Author.Needs.{needs}
 use Rattle.rules.proofs.slide_set.Statement.{statement}

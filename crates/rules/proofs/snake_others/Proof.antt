@@ -5,7 +5,7 @@ use mathlib.Core.Bool.{true}
 use native.Mathlib.Omega.{arith}
 use borrow.Author.Needs.{needs}
 use borrow.Author.Tests.{not-true, not-false}
-use Rattle.bounded.specs.Bounded.{imp, all}
+use Rattle.bounded.specs.Bounded.{imp, allBelow}
 use Rattle.bounded.specs.Mask.{bit}
 use Rattle.bounded.proofs.Loops.{all-none, all-more, all-fail, all-end}
 use Rattle.problem.specs.Held.{held}
@@ -16,7 +16,7 @@ use Rattle.rules.proofs.snake_others.Statement.{statement}
 use Rattle.rules.proofs.snake_others.Tie as tie
 
 abbrev Inv-loop : tie.InvT-loop
-Inv-loop t m i v rest j₀ j = (j ≤ 32) × (all j (λ j. imp (bit rest j) (snakeAt (held t) (stateOf m) i v j)) ≡ true)
+Inv-loop t m i v rest j₀ j = (j ≤ 32) × (allBelow j (λ j. imp (bit rest j) (snakeAt (held t) (stateOf m) i v j)) ≡ true)
 
 abbrev μ-loop : tie.MeasureT-loop
 μ-loop t m i v rest j₀ j = 32 - j
