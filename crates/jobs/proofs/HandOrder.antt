@@ -26,13 +26,10 @@ use Rattle.jobs.specs.declared.ManualState.{ManualState}
 use Rattle.jobs.specs.declared.StartAnswer.{StartAnswer}
 use Rattle.jobs.specs.declared.StartOutcome.the-variants as started
 use Rattle.jobs.specs.declared.CallAnswer.{CallAnswer}
+use Rattle.jobs.proofs.Opened.{start-accepted, call-accepted}
 
 module _ (s : List ℕ) (K : Keeps layout s) where
   -- ---- a job's call is the problem's call
-
-  call-read : (st : ManualState) (i : ℕ) → callJob s st i ≡ callAnswer (problemOf layout s) st i (call (problemOf layout s) (handState st) i)
-  unfolding callJob
-  call-read st i = rw (K, callJob)
 
   answer-state : (st : ManualState) (i : ℕ) → Fits (problemOf layout s) (handState st) → (c : Call) → handState ((callAnswer (problemOf layout s) st i c) .state) ≡ stateAfter (problemOf layout s) (handState st) i c
   answer-state st i F (outcome.Eliminated v) = state-back (problemOf layout s) (problem-bounded s K) (eliminate-fits (problemOf layout s) (handState st) F i)
@@ -44,7 +41,7 @@ module _ (s : List ℕ) (K : Keeps layout s) where
   -- the state that a call answers, as tests, is the state of the call on tests
   pub call-job-state : (st : ManualState) (i : ℕ) → Fits (problemOf layout s) (handState st) → handState ((callJob s st i) .state) ≡ callState (problemOf layout s) (handState st) i
   unfolding callState
-  call-job-state st i F = ap (λ (x : CallAnswer). handState (x .state)) (call-read st i) ∙ answer-state st i F (call (problemOf layout s) (handState st) i)
+  call-job-state st i F = ap (λ (x : CallAnswer). handState (x .state)) (call-accepted s st i K) ∙ answer-state st i F (call (problemOf layout s) (handState st) i)
 
   pub calls-job-state : (l : List ℕ) (st : ManualState) → Fits (problemOf layout s) (handState st) → handState (callsJob s st l) ≡ callsState (problemOf layout s) (handState st) l
   unfolding callsJob callsState
@@ -90,19 +87,15 @@ order-does-not-matter s K st R t C = (
 -- ---- beside it
 
 module _ (s : List ℕ) (K : Keeps layout s) where
-  start-read : startJob s ≡ record { outcome = started.Started; state = handOf (start (problemOf layout s)) }
-  unfolding startJob
-  start-read = rw (K, startJob)
-
   pub start-job-state : handState ((startJob s) .state) ≡ start (problemOf layout s)
-  start-job-state = ap (λ (x : StartAnswer). handState (x .state)) start-read ∙ state-back (problemOf layout s) (problem-bounded s K) (start-fits (problemOf layout s))
+  start-job-state = ap (λ (x : StartAnswer). handState (x .state)) (start-accepted s K) ∙ state-back (problemOf layout s) (problem-bounded s K) (start-fits (problemOf layout s))
 
   -- the start's state meets the premise of demand 3
   pub start-meets : Proper ((startJob s) .state .masks) × T (handFits (problemOf layout s) ((startJob s) .state)) × T (arcConsistent (problemOf layout s) (handState ((startJob s) .state)))
   start-meets =
       let P = problemOf layout s in
       let e = start-job-state in (
-        subst (λ (x : StartAnswer). Proper (x .state .masks)) (sym start-read) (masks-proper (start P)),
+        subst (λ (x : StartAnswer). Proper (x .state .masks)) (sym (start-accepted s K)) (masks-proper (start P)),
         subst (λ (q : State). T (stateFits P q)) (sym e) (fits-test (start-fits P)),
         subst (λ (q : State). T (arcConsistent P q)) (sym e) (arcConsistent-iff (start-fits P) .1 (start-consistent P)),
       )

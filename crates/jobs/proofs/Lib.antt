@@ -1,3 +1,6 @@
 pub mod Starred
+pub mod Opened
+pub mod Unaltered
 pub mod Worked
 pub mod HandOrder
+pub mod Called

@@ -25,27 +25,8 @@ use Rattle.sheet.specs.declared.SheetRefusal.{SheetRefusal}
 use Rattle.sheet.specs.declared.SheetRead.the-variants as read
 use Rattle.jobs.specs.Trace.{recordBytes, recordsBytes, traceBytes, fronted}
 use Rattle.jobs.specs.Run.{RunResult, runRefused, runDone, bufferShort, runJob}
-use Rattle.jobs.specs.declared.ReduceRefusal.the-variants.{Sheet, Buffer}
-use Rattle.jobs.specs.declared.ReduceOutcome.the-variants.{Done, Refused}
-
--- ---- where the run is refused: for each cause, in the order of the table, and for no other
-
-module _ (s b : List ℕ) where
-  -- the sheet's refusal comes first
-  pub run-sheet-refused : (r : SheetRefusal) → readSheet layout s ≡ read.Refused r → runJob s b ≡ runRefused (Sheet r) b
-  unfolding runJob
-  run-sheet-refused r e = rw (e, runJob)
-
-  module _ (K : Keeps layout s) where
-    -- 10: the buffer is shorter than 1 + 5 × the sum of the sizes
-    pub run-buffer-refused : length b < 1 + 5 * sizeSum (problemOf layout s) → runJob s b ≡ runRefused Buffer b
-    unfolding runJob
-    run-buffer-refused l = rw (K, lt-ltb (length b) (1 + 5 * sizeSum (problemOf layout s)) l, runJob)
-
-    -- otherwise the sheet is worked
-    pub run-accepted : 1 + 5 * sizeSum (problemOf layout s) ≤ length b → runJob s b ≡ runDone (problemOf layout s) b
-    unfolding runJob
-    run-accepted l = rw (K, le-ltb (length b) (1 + 5 * sizeSum (problemOf layout s)) l, runJob)
+use Rattle.jobs.specs.declared.ReduceOutcome.the-variants.{Done}
+use Rattle.jobs.proofs.Opened.{run-accepted}
 
 -- ---- a trace's length
 

@@ -16,15 +16,12 @@ use Rattle.problem.specs.declared.End.{End}
 use Rattle.problem.specs.declared.End.the-variants.{Impossible, Solved, Rest}
 use Rattle.sheet.specs.Sheet.{layout}
 use Rattle.sheet.specs.Relation.{problemOf}
-use Rattle.jobs.specs.Numbers.{reduceNumber, manualNumber, extendNumber}
+use Rattle.jobs.specs.Numbers.{runNumber, callNumber, putBackNumber}
 use Rattle.jobs.specs.Run.{runJob}
 use Rattle.jobs.specs.Hand.{handOf, callJob}
 use Rattle.jobs.specs.PutBack.{putBackJob}
-use Rattle.jobs.specs.declared.ReduceOutcome.{ReduceOutcome}
 use Rattle.jobs.specs.declared.ReduceOutcome.the-variants as reduced
-use Rattle.jobs.specs.declared.CallOutcome.{CallOutcome}
 use Rattle.jobs.specs.declared.CallOutcome.the-variants as called
-use Rattle.jobs.specs.declared.Extended.{Extended}
 use Rattle.jobs.specs.declared.Extended.the-variants as extended
 
 -- a lent buffer: this many bytes of a pattern
@@ -34,19 +31,6 @@ lent k = replicate k 170
 -- a state as masks, the domains of the variables not named being empty
 abbrev pub masks : ℕ → List ℕ → Masks
 masks a d = record { active = a; domains = d ++ replicate (32 - length d) 0 }
-
--- the refusal's number, 0 where there is none
-abbrev pub runNumber : ReduceOutcome → ℕ
-runNumber (reduced.Done e k w) = 0
-runNumber (reduced.Refused r) = reduceNumber r
-
-abbrev pub callNumber : CallOutcome → ℕ
-callNumber (called.Eliminated v) = 0
-callNumber (called.Refused r) = manualNumber r
-
-abbrev pub putBackNumber : Extended → ℕ
-putBackNumber extended.Done = 0
-putBackNumber (extended.Refused r) = extendNumber r
 
 -- what a row claims of its sheet
 pub data Claim : Type 0 where

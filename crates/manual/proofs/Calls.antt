@@ -16,6 +16,7 @@ use Rattle.problem.specs.Masks.{stateOf}
 use Rattle.problem.specs.declared.Masks.{Masks}
 use Rattle.problem.specs.declared.Call.the-variants.{Eliminated, Misfit, NotActive, Emptied, NoSnake}
 use Rattle.problem.proofs.Reflect.{Live, fits-test, anyLive-iff, snake-iff}
+use Rattle.problem.proofs.OneCall.{call-item, call-emptied, call-none, call-done}
 use Rattle.rules.specs.Ready.{Ready}
 use Rattle.rules.proofs.Laws.{live-value, active-32}
 use Rattle.sheet.specs.Sheet.{layout, readSheet}
@@ -66,30 +67,7 @@ active-out : (P : Problem) (m : Masks) (i : ℕ) → bit (m .active) i ≡ false
 unfolding stateOf
 active-out P m i e = T-false _ (λ h. subst T e (and-iff (ltb i (P .n)) (bit (m .active) i) .0 h .1))
 
--- ---- the outcomes, in their order
-
-module _ (P : Problem) (s : State) (i : ℕ) where
-  pub call-misfit : stateFits P s ≡ false → call P s i ≡ Misfit
-  unfolding call
-  call-misfit e = rw (e, call)
-
-  pub call-item : stateFits P s ≡ true → (ltb i (P .n) && s .active i) ≡ false → call P s i ≡ NotActive
-  unfolding call
-  call-item e f = rw (e, f, call)
-
-  pub call-emptied : stateFits P s ≡ true → (ltb i (P .n) && s .active i) ≡ true → noneEmpty P s ≡ false → call P s i ≡ Emptied
-  unfolding call
-  call-emptied e f g = rw (e, f, g, call)
-
-  pub call-none : stateFits P s ≡ true → (ltb i (P .n) && s .active i) ≡ true → noneEmpty P s ≡ true → anyLive P s i (λ v. snake P s i v) ≡ false → call P s i ≡ NoSnake
-  unfolding call
-  call-none e f g h = rw (e, f, g, h, call)
-
-  pub call-done : stateFits P s ≡ true → (ltb i (P .n) && s .active i) ≡ true → noneEmpty P s ≡ true → anyLive P s i (λ v. snake P s i v) ≡ true → call P s i ≡ Eliminated (lowestLive P s i (λ v. snake P s i v))
-  unfolding call
-  call-done e f g h = rw (e, f, g, h, call)
-
--- ---- the same of a state that fits
+-- ---- the outcomes, in their order, of a state that fits
 
 fit : {t : List ℕ} {m : Masks} → Ready t m → stateFits (held t) (stateOf m) ≡ true
 fit R = T-true _ (fits-test (R .fits))

@@ -6,6 +6,7 @@ pub mod Trace
 pub mod Run
 pub mod Narrow
 pub mod Start
+pub mod OneCall
 pub mod Order
 pub mod Bridge
 pub mod Same

@@ -16,54 +16,37 @@ use Rattle.problem.specs.Manual.{call, stateAfter, callState, callsState
 use Rattle.problem.specs.declared.Call.{Call}
 use Rattle.problem.specs.declared.Call.the-variants.{Eliminated, Misfit, NotActive, Emptied, NoSnake}
 use Rattle.problem.proofs.Reflect.{Active, Live, Allowed, Fits, turn, fits-test, allActive-or, anyLive-iff, Snake, ArcConsistent, Finished, NoneEmpty, snake-iff, finished-iff, noneEmpty-iff, lowestLive-is, eliminate-active, eliminate-live, eliminate-fits}
+use Rattle.problem.proofs.OneCall.{call-item, call-emptied, call-none, call-done}
 use Rattle.problem.proofs.Sound.{Solvable, snake-undone, eliminate-kept}
 
 module _ (P : Problem) where
   -- ---- one call
 
-  -- the tests of a call, in their order, of a state that fits
   module _ {s : State} (F : Fits P s) (i : ℕ) where
-    call-12 : (T (ltb i (P .n) && s .active i) → ⊥) → call P s i ≡ NotActive
-    unfolding call
-    call-12 a = rw (T-true (stateFits P s) (fits-test F), T-false (ltb i (P .n) && s .active i) a, call)
-
-    module _ (a : T (ltb i (P .n) && s .active i)) where
-      call-13 : (T (noneEmpty P s) → ⊥) → call P s i ≡ Emptied
-      unfolding call
-      call-13 e = rw (T-true (stateFits P s) (fits-test F), T-true (ltb i (P .n) && s .active i) a, T-false (noneEmpty P s) e, call)
-
-      module _ (e : T (noneEmpty P s)) where
-        call-14 : (T (anyLive P s i (λ v. snake P s i v)) → ⊥) → call P s i ≡ NoSnake
-        unfolding call
-        call-14 r =
-            rw (T-true (stateFits P s) (fits-test F), T-true (ltb i (P .n) && s .active i) a, T-true (noneEmpty P s) e, T-false (anyLive P s i (λ v. snake P s i v)) r, call)
-
-        call-taken : T (anyLive P s i (λ v. snake P s i v)) → call P s i ≡ Eliminated (lowestLive P s i (λ v. snake P s i v))
-        unfolding call
-        call-taken r =
-            rw (T-true (stateFits P s) (fits-test F), T-true (ltb i (P .n) && s .active i) a, T-true (noneEmpty P s) e, T-true (anyLive P s i (λ v. snake P s i v)) r, call)
-
     -- a call is accepted where the variable is active, none is empty, and the snake rule holds with the lowest value; else nothing changes
     pub call-cases : (Active s i × NoneEmpty P s × ((v : ℕ) × Snake P s i v × (call P s i ≡ Eliminated v))) ⊎ ((callState P s i ≡ s) × ((v : ℕ) → Active s i → NoneEmpty P s → Snake P s i v → ⊥))
     unfolding callState
     call-cases = at-12 (T-dec (ltb i (P .n) && s .active i))
       where
+        fit : stateFits P s ≡ true
+        fit = T-true (stateFits P s) (fits-test F)
+
         Cases : Type 0
         Cases = (Active s i × NoneEmpty P s × ((v : ℕ) × Snake P s i v × (call P s i ≡ Eliminated v))) ⊎ ((callState P s i ≡ s) × ((v : ℕ) → Active s i → NoneEmpty P s → Snake P s i v → ⊥))
 
         at-14 : T (ltb i (P .n) && s .active i) → T (noneEmpty P s) → T (anyLive P s i (λ v. snake P s i v)) ⊎ (T (anyLive P s i (λ v. snake P s i v)) → ⊥) → Cases
         at-14 a e (inl r) =
             let x = lowestLive-is F i (λ v. snake P s i v) (anyLive-iff F i (λ v. snake P s i v) .0 r) in
-            inl ((simp and-iff at a) .1, noneEmpty-iff F .0 e, (lowestLive P s i (λ v. snake P s i v), snake-iff F i (lowestLive P s i (λ v. snake P s i v)) .0 (x .1), call-taken a e r))
-        at-14 a e (inr r) = inr (ap (stateAfter P s i) (call-14 a e r), λ v h n N. r (anyLive-iff F i (λ v. snake P s i v) .1 (v, N .0, snake-iff F i v .1 N)))
+            inl ((simp and-iff at a) .1, noneEmpty-iff F .0 e, (lowestLive P s i (λ v. snake P s i v), snake-iff F i (lowestLive P s i (λ v. snake P s i v)) .0 (x .1), call-done P s i fit (T-true _ a) (T-true _ e) (T-true _ r)))
+        at-14 a e (inr r) = inr (ap (stateAfter P s i) (call-none P s i fit (T-true _ a) (T-true _ e) (T-false _ r)), λ v h n N. r (anyLive-iff F i (λ v. snake P s i v) .1 (v, N .0, snake-iff F i v .1 N)))
 
         at-13 : T (ltb i (P .n) && s .active i) → T (noneEmpty P s) ⊎ (T (noneEmpty P s) → ⊥) → Cases
         at-13 a (inl e) = at-14 a e (T-dec (anyLive P s i (λ v. snake P s i v)))
-        at-13 a (inr e) = inr (ap (stateAfter P s i) (call-13 a e), λ v h n N. e (noneEmpty-iff F .1 n))
+        at-13 a (inr e) = inr (ap (stateAfter P s i) (call-emptied P s i fit (T-true _ a) (T-false _ e)), λ v h n N. e (noneEmpty-iff F .1 n))
 
         at-12 : T (ltb i (P .n) && s .active i) ⊎ (T (ltb i (P .n) && s .active i) → ⊥) → Cases
         at-12 (inl a) = at-13 a (T-dec (noneEmpty P s))
-        at-12 (inr a) = inr (ap (stateAfter P s i) (call-12 a), λ v h n N. a (and-iff (ltb i (P .n)) (s .active i) .1 (ltb-iff i (P .n) .1 (F .active-lt i h), h)))
+        at-12 (inr a) = inr (ap (stateAfter P s i) (call-item P s i fit (T-false _ a)), λ v h n N. a (and-iff (ltb i (P .n)) (s .active i) .1 (ltb-iff i (P .n) .1 (F .active-lt i h), h)))
 
   -- a property of both answers is a property of the call's
   call-either : (Q : State → Type 0) {s : State} → Fits P s → (i : ℕ) → (Active s i → NoneEmpty P s → (v : ℕ) → Snake P s i v → Q (eliminate P s i)) → Q s → Q (callState P s i)

@@ -122,7 +122,7 @@ module _ (s b : List ℕ) (long : 2561 ≤ length b) where
         let c : k ≡ length (run P (full P)) = cc in
         record {
           end = cc;
-          countBelow = c;
+          count = c;
           few = omega (arith, run-short P, sizes-most P (problem-bounded s K));
           last = ap (λ (y : Reduced). y .state) a ∙ ap (λ (y : RunResult). y .answer .state) (worked K);
           told = (λ i. recordsIn (c i) ((h ∙ ap (λ (y : RunResult). y .buffer) (worked K)) i) 1) ∙ trace-read (run P (full P)) b;

@@ -11,7 +11,7 @@ use Rattle.problem.specs.Masks.{stateOf, Proper}
 use Rattle.problem.proofs.Bridge.{fits-iff}
 use Rattle.rules.specs.Ready.{Ready}
 use Rattle.jobs.specs.Hand.{callAnswer}
-use Rattle.manual.proofs.Calls.{call-misfit}
+use Rattle.problem.proofs.OneCall.{call-misfit}
 use borrow.Author.Needs.{needs}
 use Rattle.manual.proofs.call_on.Statement.{statement}
 use Rattle.manual.proofs.call_on.Tie as tie
