@@ -30,7 +30,7 @@ use Rattle.jobs.specs.PutBack.{PutBackResult, putBackRefused, putBackDone, Chec
 use Rattle.jobs.specs.declared.Extended.the-variants.{Done, Refused}
 use Rattle.jobs.specs.declared.ExtendRefusal.{ExtendRefusal}
 use Rattle.jobs.specs.declared.ExtendRefusal.the-variants.{Sheet, PlanLength, ResultLength, Plan}
-use Rattle.trace.proofs.Lawful.{taken-iff}
+use Rattle.trace.proofs.Causes.{taken-iff}
 
 -- ---- where it is refused: for each cause, in the order of the table
 

@@ -1,4 +1,5 @@
 pub mod Written
 pub mod Read
 pub mod Back
-pub mod Lawful
+pub mod Turns
+pub mod Causes
