@@ -165,7 +165,7 @@ module _ (L : Layout) (s : List ℕ) where
       go : (t : Bool) → (eqb (byteAt s p) i && eqb (byteAt s (p + 1)) j) ≡ t → Here (suc k) least p
           → ((least p r : ℕ) → Good k least p → rowsFrom L s i j k p ≡ At r → Found i j r) → Found i j r
       go true t h ih = let q = is-pair i j p t in let f = rows-case i j k p true t in found-here i j (suc k) least p r h (q .0) (q .1) (cc)
-      go false t h ih = let oneIf : suc k - 1 ≡ k = omega arith in ih _ _ r (rw oneIf at (h .rest)) (sym (rows-case i j k p false t) ∙ e)
+      go false t h ih = let less : suc k - 1 ≡ k = omega arith in ih _ _ r (rw less at (h .rest)) (sym (rows-case i j k p false t) ∙ e)
 
   pub found : (i j r : ℕ) → Keeps L s → rowsOf L s i j ≡ At r → Found i j r
   unfolding rowsOf
@@ -331,8 +331,8 @@ module _ (L : Layout) (s : List ℕ) (narrow : (v z : ℕ) → L .width v z ≤ 
       let c = f .sizes i (omega arith) .1 in
       let m = rows-small (sizeAt s i) (rowWidth L s j) c (narrow (versionOf s) (sizeAt s j)) in
       let l = fewer least i j r (omega arith) (h .after) in
-      let oneIf : suc k - 1 ≡ k = omega arith in
-      let ih = longest-from f k (32 * i + j + 1) (p + 2 + rowBytes L s i j) (rw oneIf at (h .rest)) in
+      let less : suc k - 1 ≡ k = omega arith in
+      let ih = longest-from f k (32 * i + j + 1) (p + 2 + rowBytes L s i j) (rw less at (h .rest)) in
       omega arith
 
   pub longest : Keeps L s → length s ≤ 16904

@@ -1,3 +1,5 @@
 pub mod Laws
 pub mod Accepted
 pub mod Table
+pub mod Allows
+pub mod Refusals

@@ -35,13 +35,13 @@ pub enum SheetRead {
 }
 
 // What reading a block finds: the least place in the order for the next pair and where the next block starts, or the fault.
-pub enum Block {
+enum Block {
     Next { least: usize, at: usize },
     Fault(SheetRefusal),
 }
 
 // Where the rows of a pair start, if it has a block.
-pub enum Rows {
+enum Rows {
     At(usize),
     Unconstrained,
 }
@@ -365,45 +365,6 @@ fn row_in(s: &[u8], i: usize, j: usize, r: usize, a: usize) -> u16
 {
     let w = width_of(s, j);
     row(s, w, r + a * w) as u16
-}
-
-// Whether the rows of i and j allow a with b, where i is the lower.
-fn lower_allows(s: &[u8], i: usize, a: usize, j: usize, b: usize) -> bool
-    requires { ⌜ Keeps layout (now s) × ((a < sizeAt (now s) i) × (b < 16)) ⌝ }
-    ensures { λ r. ⌜ r ≡ rowsAllow layout (now (s .entry)) (rowsOf layout (now (s .entry)) i j) j a b ⌝ }
-{
-    match rows_of(s, i, j) {
-        Rows::At(r) => bounded::has16(row_in(s, i, j, r, a), b),
-        Rows::Unconstrained => true,
-    }
-}
-
-// Whether a and b, settings that the sheet lists, may stand together: the lower item's row tells.
-fn pair_allowed(s: &[u8], i: usize, a: usize, j: usize, b: usize) -> bool
-    requires { ⌜ Keeps layout (now s) × ((isListed layout (now s) i a ≡ true) × (isListed layout (now s) j b ≡ true)) ⌝ }
-    ensures { λ r. ⌜ r ≡ pairAllowed layout (now (s .entry)) i a j b ⌝ }
-{
-    if i < j {
-        return lower_allows(s, i, a, j, b);
-    }
-    if j < i {
-        return lower_allows(s, j, b, i, a);
-    }
-    false
-}
-
-// Whether setting a of i may stand with setting b of j.
-pub fn allowed(s: &[u8], i: usize, a: usize, j: usize, b: usize) -> bool
-    requires { ⌜ Keeps layout (now s) ⌝ }
-    ensures { λ r. ⌜ r ≡ allowedOf layout (now (s .entry)) i a j b ⌝ }
-{
-    if !listed(s, i, a) {
-        return false;
-    }
-    if !listed(s, j, b) {
-        return false;
-    }
-    pair_allowed(s, i, a, j, b)
 }
 
 // The sum of the sizes.

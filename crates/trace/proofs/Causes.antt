@@ -36,7 +36,7 @@ module _ (t : List ℕ) (p : ℕ) where
   read-here : (r : Record) (more : List ℕ) → drop p t ≡ recordBytes r ++ more → (recordAt t p ≡ Read r (p + length (recordBytes r))) × (drop (p + length (recordBytes r)) t ≡ more)
   read-here r more e = (
     subst (λ (k : ℕ). recordAt t k ≡ Read r (k + length (recordBytes r))) long
-    (subst (λ (w : List ℕ). recordAt w (length (take p t)) ≡ Read r (length (take p t) + length (recordBytes r))) parts (record-back (take p t) more r)),
+        (subst (λ (w : List ℕ). recordAt w (length (take p t)) ≡ Read r (length (take p t) + length (recordBytes r))) parts (record-back (take p t) more r)),
     sym (drop-drop (length (recordBytes r)) p t) ∙ ap (drop (length (recordBytes r))) e ∙ drop-append-seam (recordBytes r) more,
   )
     where
