@@ -206,3 +206,91 @@ module _ {P : Problem} {s : State} (F : Fits P s) where
     λ x. let y = triangle-published F i (x .0) .0 (x .1) in (y .0, (x .0, y .1)),
     λ x. (x .1 .0, triangle-published F i (x .1 .0) .1 (x .0, x .1 .1)),
   )
+
+-- ---- every record of a trace
+
+module _ {P : Problem} {s : State} (F : Fits P s) where
+  -- every record of a lawful trace, whoever wrote it, is published in the state that it was taken in
+  pub trace-published : (t : List Record) → T (lawfulTrace P s t) → (before : List Record) (r : Record) (rest : List Record) → t ≡ before ++ (r ∷ rest) → Published P (afterTrace P s before) r
+  trace-published t h before r rest e = lawful-published (trace-fits P F before) r (trace-at P s t h before r rest e)
+
+  -- so is every record of a run
+  pub run-published : (before : List Record) (r : Record) (rest : List Record) → run P s ≡ before ++ (r ∷ rest) → Published P (afterTrace P s before) r
+  run-published = trace-published (run P s) (run-lawful P s)
+
+-- ---- what a step does to the instance
+
+module _ (P : Problem) (s : State) where
+  -- the pair (v, w) is in R_jk: of two distinct variables, each value in its domain
+  abbrev pub Related : (j v k w : ℕ) → Type 0
+  Related j v k w = Active s j × Active s k × (j ≢ k) × Live s j v × Live s k w × Allowed P j v k w
+
+-- Cooper, El Mouelhi and Terrioux, section 2: "the instance I' obtained by eliminating a variable x_i from a binary CSP instance I is
+-- identical to I except that (1) ∀ j ≠ i, we have deleted from D(x_j) all values v_j such that ⟨x_j, v_j⟩ has no support at x_i in I, and
+-- (2) we have deleted the variable x_i and all constraints with x_i in their scope." I is the instance of s, and I' the instance of q.
+pub record VariableEliminated (P : Problem) (s : State) (i : ℕ) (q : State) : Type 0 where
+  -- (2) X' = X \ {x_i}
+  pub variables : (j : ℕ) → Active q j ↔ (Active s j × (j ≢ i))
+  -- (1) D'(x_j) for j ≠ i: the values of D(x_j) that have a support at x_i in I
+  pub domains : (j w : ℕ) → j ≢ i → Live q j w ↔ (Live s j w × HasSupport P s j w i)
+  -- (2) x_i has no domain left
+  pub deleted : (w : ℕ) → Live q i w → ⊥
+  -- (2) no constraint has x_i in its scope; the others are those of I, on the domains left
+  pub constraints : (j v k w : ℕ) → Related P q j v k w ↔ (Related P s j v k w × (j ≢ i) × (k ≢ i) × HasSupport P s j v i × HasSupport P s k w i)
+
+-- the instance obtained by eliminating the value b from D(x_i): D'(x_i) = D(x_i) \ {b}, and all else as it was
+pub record ValueEliminated (P : Problem) (s : State) (i b : ℕ) (q : State) : Type 0 where
+  pub variables : (j : ℕ) → Active q j ↔ Active s j
+  pub domain : (w : ℕ) → Live q i w ↔ (Live s i w × (w ≢ b))
+  pub domains : (j w : ℕ) → j ≢ i → Live q j w ↔ Live s j w
+
+-- kinds 1, 4 and 5 eliminate the value b, and kinds 2 and 3 the variable x_i
+abbrev pub StepPublished : Problem → State → Record → State → Type 0
+StepPublished P s (Unsupported i b k) q = ValueEliminated P s i b q
+StepPublished P s (Snake i v) q = VariableEliminated P s i q
+StepPublished P s (Triangle i j) q = VariableEliminated P s i q
+StepPublished P s (Neighbourhood i b a) q = ValueEliminated P s i b q
+StepPublished P s (SnakeSubstitution i b a) q = ValueEliminated P s i b q
+
+module _ {P : Problem} {s : State} (F : Fits P s) where
+  pub eliminate-published : (i : ℕ) → VariableEliminated P s i (eliminate P s i)
+  eliminate-published i =
+      record {
+        variables = eliminate-active P s i;
+        domains = λ j w d. (λ o. let x = eliminate-live P s F i j w .0 o in (x .0, x .1 .1), λ x. eliminate-live P s F i j w .1 (x .0, (d, x .1)));
+        deleted = λ w o. eliminate-live P s F i i w .0 o .1 .0 refl;
+        constraints = λ j v k w. (
+          λ x. let y = eliminate-live P s F i j v .0 (x .3) in
+              let z = eliminate-live P s F i k w .0 (x .4) in
+              ((F .live-active j v (y .0), F .live-active k w (z .0), x .2, y .0, z .0, x .5), y .1 .0, z .1 .0, y .1 .1, z .1 .1),
+          λ x. (
+            eliminate-active P s i j .1 (x .0 .0, x .1),
+            eliminate-active P s i k .1 (x .0 .1, x .2),
+            x .0 .2,
+            eliminate-live P s F i j v .1 (x .0 .3, (x .1, x .3)),
+            eliminate-live P s F i k w .1 (x .0 .4, (x .2, x .4)),
+            x .0 .5,
+          ),
+        );
+      }
+
+  remove-published : (i b : ℕ) → ValueEliminated P s i b (remove P s i b)
+  unfolding remove
+  remove-published i b =
+      record {
+        variables = λ j. (λ h. h, λ h. h);
+        domain = λ w. (
+          λ o. let x = remove-live P s i b i w .0 o in (x .0, λ e. x .1 (refl, e)),
+          λ x. remove-live P s i b i w .1 (x .0, λ e. x .1 (e .1)),
+        );
+        domains = λ j w d. (λ o. remove-live P s i b j w .0 o .0, λ o. remove-live P s i b j w .1 (o, λ e. d (e .0)));
+      }
+
+  -- what the step of a record does is what the papers have it do
+  pub after-published : (r : Record) → StepPublished P s r (after P s r)
+  unfolding after
+  after-published (Unsupported i b k) = remove-published i b
+  after-published (Snake i v) = eliminate-published i
+  after-published (Triangle i j) = eliminate-published i
+  after-published (Neighbourhood i b a) = remove-published i b
+  after-published (SnakeSubstitution i b a) = remove-published i b
