@@ -1,15 +1,15 @@
 -- The rules are the published ones, with the fields of a record as their witnesses. Each is stated as its paper has it, for the instance
 -- whose variables X are the active ones, whose domains D hold the live values and whose relations R are the allowed pairs, and compared
 -- with ours; and so is what a step does to the instance. Assumes nothing.
-use mathlib.Core.Path.{_≡_, refl, sym, subst}
+use mathlib.Core.Path.{_≡_, refl, subst, fun-ext}
 use mathlib.Core.Bool.{Bool, true, false}
 use mathlib.Core.List.{List, [], _∷_, _++_}
 use mathlib.Core.Logic.{_⊎_, inl, inr, _≢_, _↔_}
 use Prim.Native.Nat.{ℕ, _<_}
 use native.Mathlib.Omega.{arith}
 use lib.Dec.{T}
-use Rattle.bounded.proofs.Truth.{T-ext}
-use Rattle.problem.specs.Problem.{Problem, State, full, unsupported, snake, triangle, neighbourhood, snakeSubstitution, slideSpares, remove, eliminate}
+use Rattle.bounded.proofs.Truth.{T-ext, eq-dec}
+use Rattle.problem.specs.Problem.{Problem, State, unsupported, snake, triangle, neighbourhood, snakeSubstitution, slideSpares, remove, eliminate}
 use Rattle.problem.specs.Reduce.{kindOf, holds, lawful, after, lawfulTrace, afterTrace, run}
 use Rattle.problem.specs.declared.Record.{Record}
 use Rattle.problem.specs.declared.Record.the-variants.{Unsupported, Snake, Triangle, Neighbourhood, SnakeSubstitution}
@@ -294,3 +294,44 @@ module _ {P : Problem} {s : State} (F : Fits P s) where
   after-published (Triangle i j) = eliminate-published i
   after-published (Neighbourhood i b a) = remove-published i b
   after-published (SnakeSubstitution i b a) = remove-published i b
+
+  -- and no other state is what the papers describe
+  variable-only : (i : ℕ) (q : State) → VariableEliminated P s i q → q ≡ eliminate P s i
+  variable-only i q E = λ t. record { active = actives t; live = lives t }
+    where
+      actives : q .active ≡ (eliminate P s i) .active
+      actives = fun-ext λ j. T-ext (λ h. eliminate-active P s i j .1 (E .variables j .0 h), λ h. E .variables j .1 (eliminate-active P s i j .0 h))
+
+      at : (j w : ℕ) → (j ≡ i) ⊎ (j ≢ i) → Live q j w ↔ Live (eliminate P s i) j w
+      at j w (inl e) = (λ o. absurd (E .deleted w (subst (λ (k : ℕ). Live q k w) e o)), λ o. absurd (eliminate-live P s F i j w .0 o .1 .0 e))
+      at j w (inr d) = (
+        λ o. eliminate-published i .domains j w d .1 (E .domains j w d .0 o),
+        λ o. E .domains j w d .1 (eliminate-published i .domains j w d .0 o),
+      )
+
+      lives : q .live ≡ (eliminate P s i) .live
+      lives = fun-ext λ j. fun-ext λ w. T-ext (at j w (eq-dec j i))
+
+  value-only : (i b : ℕ) (q : State) → ValueEliminated P s i b q → q ≡ remove P s i b
+  value-only i b q E = λ t. record { active = actives t; live = lives t }
+    where
+      R : ValueEliminated P s i b (remove P s i b)
+      R = remove-published i b
+
+      actives : q .active ≡ (remove P s i b) .active
+      actives = fun-ext λ j. T-ext (λ h. R .variables j .1 (E .variables j .0 h), λ h. E .variables j .1 (R .variables j .0 h))
+
+      at : (j w : ℕ) → (j ≡ i) ⊎ (j ≢ i) → Live q j w ↔ Live (remove P s i b) j w
+      at j w (inl e) = rw e (λ o. R .domain w .1 (E .domain w .0 o), λ o. E .domain w .1 (R .domain w .0 o))
+      at j w (inr d) = (λ o. R .domains j w d .1 (E .domains j w d .0 o), λ o. E .domains j w d .1 (R .domains j w d .0 o))
+
+      lives : q .live ≡ (remove P s i b) .live
+      lives = fun-ext λ j. fun-ext λ w. T-ext (at j w (eq-dec j i))
+
+  pub after-only : (r : Record) (q : State) → StepPublished P s r q → q ≡ after P s r
+  unfolding after
+  after-only (Unsupported i b k) q E = value-only i b q E
+  after-only (Snake i v) q E = variable-only i q E
+  after-only (Triangle i j) q E = variable-only i q E
+  after-only (Neighbourhood i b a) q E = value-only i b q E
+  after-only (SnakeSubstitution i b a) q E = value-only i b q E
