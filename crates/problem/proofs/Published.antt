@@ -164,7 +164,7 @@ module _ {P : Problem} {s : State} (F : Fits P s) where
 
   -- ---- every record
 
-  pub holds-published : (r : Record) → T (holds P s r) → Published P s r
+  holds-published : (r : Record) → T (holds P s r) → Published P s r
   unfolding holds
   holds-published (Unsupported i b k) t = unsupported-published i b k .0 t
   holds-published (Snake i v) t = snake-published i v .0 t
@@ -173,7 +173,7 @@ module _ {P : Problem} {s : State} (F : Fits P s) where
   holds-published (SnakeSubstitution i b a) t = slide-published slideSpares i b a t
 
   -- a slide excepted, which the format narrows
-  pub published-holds : (r : Record) → kindOf r < 5 → Published P s r → T (holds P s r)
+  published-holds : (r : Record) → kindOf r < 5 → Published P s r → T (holds P s r)
   unfolding holds
   published-holds (Unsupported i b k) l x = unsupported-published i b k .1 x
   published-holds (Snake i v) l x = snake-published i v .1 x
