@@ -2,21 +2,22 @@
 -- order of the records, and that the search finds the first lawful record in it. Assumes nothing.
 use mathlib.Core.Path.{_≡_, refl, sym, ap, subst, _∙_}
 use mathlib.Core.Bool.{Bool}
-use mathlib.Core.List.{List, _∷_, _++_}
+use mathlib.Core.List.{List, [], _∷_, _++_}
 use mathlib.Core.Logic.{_⊎_, inl, inr, _↔_}
 use Prim.Native.Nat.{ℕ, zero, suc, _≤_, _<_}
+use native.Mathlib.Nat.{not-suc-le-zero}
 use native.Mathlib.Omega.{arith}
 use lib.Dec.{T}
 use Rattle.bounded.proofs.Truth.{T-true, lt-dec}
-use Rattle.problem.specs.Problem.{Problem, State, noneEmpty, slideSpares}
-use Rattle.problem.specs.Reduce.{kindOf, holds, lawful, afterTrace, stepIf, first, nextUnsupported, nextSnake, nextTriangle, nextNeighbourhood, nextSnakeSubstitution, kindBound, nextOfKind, next, run}
+use Rattle.problem.specs.Problem.{Problem, State, noneEmpty, slideSpares, liveCount}
+use Rattle.problem.specs.Reduce.{kindOf, holds, lawful, afterTrace, stepIf, first, nextUnsupported, nextSnake, nextTriangle, nextNeighbourhood, nextSnakeSubstitution, kindBound, nextOfKind, next, runFrom, run}
 use Rattle.problem.specs.declared.Record.{Record}
 use Rattle.problem.specs.declared.Record.the-variants.{Unsupported, Snake, Triangle, Neighbourhood, SnakeSubstitution}
 use Rattle.problem.specs.declared.Next.{Next}
 use Rattle.problem.specs.declared.Next.the-variants.{Step, Nothing}
 use Rattle.problem.proofs.Reflect.{Fits, unsupported-iff, snake-iff, triangle-iff, neighbourhood-iff, snakeSubstitution-iff}
-use Rattle.problem.proofs.Trace.{lawful-iff, trace-fits}
-use Rattle.problem.proofs.Run.{never, first-each, first-where, when-found, when-none, next-open, next-lawful, next-complete, run-next}
+use Rattle.problem.proofs.Trace.{after-fits, lawful-iff, step-falls, trace-fits}
+use Rattle.problem.proofs.Run.{never, first-each, first-where, when-found, when-none, next-open, next-lawful, next-complete, run-step, run-stop, run-next}
 
 -- ---- the order
 
@@ -309,3 +310,20 @@ module _ {P : Problem} {s : State} (F : Fits P s) where
   -- every record of the run is the first lawful one in the state that it was taken in
   pub run-least : (before : List Record) (r : Record) (rest : List Record) → run P s ≡ before ++ (r ∷ rest) → FirstLawful P (afterTrace P s before) r
   run-least before r rest e = next-least (trace-fits P F before) r (run-next P s before r rest e)
+
+-- and no other list is: one whose records are so, and at whose end no record is lawful, is the run
+only-from : (f : ℕ) {P : Problem} {s : State} → Fits P s → liveCount P s < f → (t : List Record) → ((before : List Record) (r : Record) (rest : List Record) → t ≡ before ++ (r ∷ rest) → FirstLawful P (afterTrace P s before) r)
+    → ((x : Record) → T (lawful P (afterTrace P s t) x) → ⊥) → t ≡ runFrom f P s
+unfolding afterTrace
+only-from zero F h t each end = absurd (not-suc-le-zero h)
+only-from (suc f) {P} {s} F h [] each end = sym (run-stop P (suc f) s (next-nothing F .1 end))
+only-from (suc f) {P} {s} F h (r ∷ t) each end =
+    let e = next-only F r (each [] r t refl) in
+    let l = step-falls P F r (next-lawful P s r e) in
+    ap (λ (u : List Record). r ∷ u) (only-from f (after-fits P F r) (omega arith) t (λ before x rest q. each (r ∷ before) x rest (ap (λ (u : List Record). r ∷ u) q)) end) ∙ sym (run-step P f s r e)
+
+module _ {P : Problem} {s : State} (F : Fits P s) where
+  pub run-only : (t : List Record) → ((before : List Record) (r : Record) (rest : List Record) → t ≡ before ++ (r ∷ rest) → FirstLawful P (afterTrace P s before) r)
+      → ((x : Record) → T (lawful P (afterTrace P s t) x) → ⊥) → t ≡ run P s
+  unfolding run
+  run-only = only-from (suc (liveCount P s)) F (omega arith)
