@@ -21,7 +21,8 @@ use Rattle.problem.proofs.Run.{run-lawful}
 -- Cooper, "Strengthening neighbourhood substitution", section 2
 
 module _ (P : Problem) (s : State) where
-  -- "We say that v_i ∈ D(x_i) has a support at variable x_j if ∃ v_j ∈ D(x_j) such that (v_i, v_j) ∈ R_ij."
+  -- "We say that v_i ∈ D(x_i) has a support at variable x_j if ∃ v_j ∈ D(x_j) such that (v_i, v_j) ∈ R_ij." The first paper calls such a
+  -- pair a positive edge.
   abbrev pub HasSupport : (i v j : ℕ) → Type 0
   HasSupport i v j = (w : ℕ) × Live s j w × Allowed P i v j w
 
@@ -83,7 +84,7 @@ module _ (P : Problem) (s : State) where
   abbrev pub SnakeSubstitutable : (i b a : ℕ) → Type 0
   SnakeSubstitutable i b a = (k : ℕ) → Active s k → k ≢ i → WavyArrow i k b a
 
--- "two values a, b ∈ D(x_i)", a "another value in the same domain" (section 1)
+-- "two values a, b ∈ D(x_i)", where a is "another value a in the same domain" (section 1)
 abbrev pub TwoValues : State → (i b a : ℕ) → Type 0
 TwoValues s i b a = Live s i b × Live s i a × (a ≢ b)
 
@@ -239,18 +240,18 @@ pub record VariableEliminated (P : Problem) (s : State) (i : ℕ) (q : State) : 
   pub constraints : (j v k w : ℕ) → Related P q j v k w ↔ (Related P s j v k w × (j ≢ i) × (k ≢ i) × HasSupport P s j v i × HasSupport P s k w i)
 
 -- the instance obtained by eliminating the value b from D(x_i): D'(x_i) = D(x_i) \ {b}, and all else as it was
-pub record ValueEliminated (P : Problem) (s : State) (i b : ℕ) (q : State) : Type 0 where
+pub record ValueEliminated (s : State) (i b : ℕ) (q : State) : Type 0 where
   pub variables : (j : ℕ) → Active q j ↔ Active s j
   pub domain : (w : ℕ) → Live q i w ↔ (Live s i w × (w ≢ b))
   pub domains : (j w : ℕ) → j ≢ i → Live q j w ↔ Live s j w
 
 -- kinds 1, 4 and 5 eliminate the value b, and kinds 2 and 3 the variable x_i
 abbrev pub StepPublished : Problem → State → Record → State → Type 0
-StepPublished P s (Unsupported i b k) q = ValueEliminated P s i b q
+StepPublished P s (Unsupported i b k) q = ValueEliminated s i b q
 StepPublished P s (Snake i v) q = VariableEliminated P s i q
 StepPublished P s (Triangle i j) q = VariableEliminated P s i q
-StepPublished P s (Neighbourhood i b a) q = ValueEliminated P s i b q
-StepPublished P s (SnakeSubstitution i b a) q = ValueEliminated P s i b q
+StepPublished P s (Neighbourhood i b a) q = ValueEliminated s i b q
+StepPublished P s (SnakeSubstitution i b a) q = ValueEliminated s i b q
 
 module _ {P : Problem} {s : State} (F : Fits P s) where
   pub eliminate-published : (i : ℕ) → VariableEliminated P s i (eliminate P s i)
@@ -274,7 +275,7 @@ module _ {P : Problem} {s : State} (F : Fits P s) where
         );
       }
 
-  remove-published : (i b : ℕ) → ValueEliminated P s i b (remove P s i b)
+  remove-published : (i b : ℕ) → ValueEliminated s i b (remove P s i b)
   unfolding remove
   remove-published i b =
       record {
@@ -312,10 +313,10 @@ module _ {P : Problem} {s : State} (F : Fits P s) where
       lives : q .live ≡ (eliminate P s i) .live
       lives = fun-ext λ j. fun-ext λ w. T-ext (at j w (eq-dec j i))
 
-  value-only : (i b : ℕ) (q : State) → ValueEliminated P s i b q → q ≡ remove P s i b
+  value-only : (i b : ℕ) (q : State) → ValueEliminated s i b q → q ≡ remove P s i b
   value-only i b q E = λ t. record { active = actives t; live = lives t }
     where
-      R : ValueEliminated P s i b (remove P s i b)
+      R : ValueEliminated s i b (remove P s i b)
       R = remove-published i b
 
       actives : q .active ≡ (remove P s i b) .active
