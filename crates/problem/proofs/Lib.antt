@@ -4,6 +4,7 @@ pub mod Sound
 pub mod Count
 pub mod Trace
 pub mod Run
+pub mod Least
 pub mod Narrow
 pub mod Start
 pub mod OneCall

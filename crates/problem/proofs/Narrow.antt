@@ -2,23 +2,21 @@
 -- a run takes no slide. Assumes nothing.
 use mathlib.Core.Path.{_≡_, refl, sym, subst, _∙_}
 use mathlib.Core.Bool.{Bool, true, false, not}
-use mathlib.Core.List.{List, [], _∷_, _++_}
+use mathlib.Core.List.{List, _∷_, _++_}
 use mathlib.Core.Logic.{_⊎_, inl, inr, _≢_}
 use Prim.Native.Nat.{ℕ, zero, suc, _<_, _≤_}
-use native.Mathlib.Nat.{not-suc-le-zero, le-of-suc-le-suc}
 use native.Mathlib.Omega.{arith}
 use lib.Dec.{T, eqb}
 use Rattle.bounded.specs.Bounded.{imp}
 use Rattle.bounded.proofs.Truth.{imp-fails, not-iff, eqb-iff, lt-dec}
-use Rattle.problem.specs.Problem.{Problem, State, allOther, noneEmpty, substitutes, unsupported, snake, triangle, neighbourhood, snakeSubstitution, liveCount}
-use Rattle.problem.specs.Reduce.{after, holds, kindOf, first, nextUnsupported, nextSnake, nextTriangle, nextNeighbourhood, kindBound, nextOfKind, next, runFrom, run}
+use Rattle.problem.specs.Problem.{Problem, State, allOther, noneEmpty, substitutes, unsupported, snake, triangle, neighbourhood, snakeSubstitution}
+use Rattle.problem.specs.Reduce.{holds, kindOf, nextUnsupported, nextSnake, nextTriangle, nextNeighbourhood, kindBound, nextOfKind, next, run}
 use Rattle.problem.specs.declared.Record.{Record}
 use Rattle.problem.specs.declared.Record.the-variants.{Unsupported, Snake, Triangle, Neighbourhood, SnakeSubstitution}
-use Rattle.problem.specs.declared.Next.{Next}
 use Rattle.problem.specs.declared.Next.the-variants.{Step, Nothing}
 use Rattle.problem.proofs.Reflect.{Active, Live, Allowed, Fits, allActive-or, allLive-or, allOther-iff, substitutes-iff, neighbourhood-iff, snakeSubstitution-iff}
-use Rattle.problem.proofs.Trace.{after-fits}
-use Rattle.problem.proofs.Run.{never, first-found, when-found, next-open, next-shut, kind-found, neighbourhood-complete, run-step, run-stop}
+use Rattle.problem.proofs.Trace.{trace-fits}
+use Rattle.problem.proofs.Run.{never, first-found, first-where, when-found, next-open, next-shut, kind-found, neighbourhood-complete, run-next}
 
 -- ---- where the slide holds, a cover holds
 
@@ -60,21 +58,6 @@ module _ (P : Problem) {s : State} (F : Fits P s) where
 
 -- ---- so the search comes to a step of a lower kind
 
--- where a step is found, and that nothing is found before
-first-where : (n : ℕ) (f : ℕ → Next) (r : Record) → first n f ≡ Step r → (k : ℕ) × (f k ≡ Step r) × ((j : ℕ) → j < k → f j ≡ Nothing)
-unfolding first
-first-where zero f r e = absurd (never e)
-first-where (suc n) f r e = go (f zero) refl e (first-where n (λ k. f (suc k)) r)
-  where
-    go : (x : Next) → f zero ≡ x → (elim x as (λ y. Next) [ Step r ↦ Step r | Nothing ↦ first n (λ k. f (suc k)) ]) ≡ Step r
-        → (first n (λ k. f (suc k)) ≡ Step r → (k : ℕ) × (f (suc k) ≡ Step r) × ((j : ℕ) → j < k → f (suc j) ≡ Nothing)) → (k : ℕ) × (f k ≡ Step r) × ((j : ℕ) → j < k → f j ≡ Nothing)
-    go (Step x) p e ih = (zero, p ∙ e, λ j l. absurd (not-suc-le-zero l))
-    go Nothing p e ih = let y = ih e in (suc (y .0), y .1, before (y .0) (y .2))
-      where
-        before : (k : ℕ) → ((j : ℕ) → j < k → f (suc j) ≡ Nothing) → (j : ℕ) → j < suc k → f j ≡ Nothing
-        before k h zero l = p
-        before k h (suc j) l = h j (le-of-suc-le-suc l)
-
 -- a record of one of the four kinds below the slide
 abbrev Low : Record → Type 0
 Low r = kindOf r < 5
@@ -90,11 +73,6 @@ module _ (P : Problem) (s : State) where
   kind-low (suc (suc (suc (suc (suc k))))) l r e = absurd (omega arith)
 
 -- ---- the run
-
--- a list with a record in it is not empty
-not-nil : (t u : List Record) (r : Record) → [] ≡ t ++ (r ∷ u) → ⊥
-not-nil [] u r e = let z : _≡_ {A = ℕ} 0 1 = cc in omega arith
-not-nil (x ∷ t) u r e = let z : _≡_ {A = ℕ} 0 1 = cc in omega arith
 
 module _ (P : Problem) where
   -- the search comes to a slide only where it has found no cover, and then no slide holds
@@ -114,21 +92,9 @@ module _ (P : Problem) where
       at k f h (inr l) = late (h 4 (omega arith)) r (kind-found P s k r f)
 
       by-empty : (b : Bool) → noneEmpty P s ≡ b → Low r
-      by-empty true p = let x = first-where kindBound (nextOfKind P s) r (sym (next-open P s p) ∙ e) in at (x .0) (x .1) (x .2) (lt-dec (x .0) 5)
+      by-empty true p = let x = first-where kindBound (nextOfKind P s) r (sym (next-open P s p) ∙ e) in at (x .0) (x .2) (x .3) (lt-dec (x .0) 5)
       by-empty false p = absurd (never (sym (next-shut P s p) ∙ e))
-
-  -- so none of the first f steps is a slide
-  steps-low : (f : ℕ) (s : State) → Fits P s → (t u : List Record) (r : Record) → runFrom f P s ≡ t ++ (r ∷ u) → Low r
-  unfolding runFrom
-  steps-low zero s F t u r e = absurd (not-nil t u r e)
-  steps-low (suc f) s F t u r e = go (next P s) refl (λ q. steps-low f q) t e
-    where
-      go : (x : Next) → next P s ≡ x → ((q : State) → Fits P q → (t u : List Record) (r : Record) → runFrom f P q ≡ t ++ (r ∷ u) → Low r) → (t : List Record) → runFrom (suc f) P s ≡ t ++ (r ∷ u) → Low r
-      go Nothing p ih t e = absurd (not-nil t u r (sym (run-stop P (suc f) s p) ∙ e))
-      go (Step x) p ih [] e = let z = sym (run-step P f s x p) ∙ e in let same : x ≡ r = cc in subst Low same (next-low F x p)
-      go (Step x) p ih (y ∷ t) e = let z = sym (run-step P f s x p) ∙ e in let rest : runFrom f P (after P s x) ≡ t ++ (r ∷ u) = cc in ih (after P s x) (after-fits P F x) t u r rest
 
   -- no record of a run is a slide, whatever state that fits it starts from
   pub run-no-slide : {s : State} → Fits P s → (t u : List Record) (i b a : ℕ) → run P s ≡ t ++ (SnakeSubstitution i b a ∷ u) → ⊥
-  unfolding run
-  run-no-slide {s} F t u i b a e = let l = steps-low (suc (liveCount P s)) s F t u (SnakeSubstitution i b a) e in omega arith
+  run-no-slide {s} F t u i b a e = let l = next-low (trace-fits P F t) (SnakeSubstitution i b a) (run-next P s t (SnakeSubstitution i b a) u e) in omega arith

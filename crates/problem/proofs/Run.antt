@@ -1,7 +1,7 @@
 -- The search for the next step is complete, kind by kind; the run's records are lawful and it goes on until no rule holds. Assumes nothing.
 use mathlib.Core.Path.{_≡_, refl, sym, ap, subst, _∙_}
 use mathlib.Core.Bool.{Bool, true, false}
-use mathlib.Core.List.{List, [], _∷_}
+use mathlib.Core.List.{List, [], _∷_, _++_}
 use mathlib.Core.Logic.{_⊎_, inl, inr}
 use Prim.Native.Nat.{ℕ, zero, suc, _≤_, _<_}
 use native.Mathlib.Nat.{not-suc-le-zero, le-of-suc-le-suc}
@@ -59,7 +59,23 @@ first-each (suc n) f e k h = go (f zero) refl e k h (first-each n (λ k. f (suc 
     go Nothing p e (suc k) h ih = ih e k (le-of-suc-le-suc h)
     go (Step x) p e k h ih = absurd (never-step e)
 
-when-none : (b : Bool) (r : Record) → stepIf b r ≡ Nothing → T b → ⊥
+-- where a step is found, and that nothing is found before
+pub first-where : (n : ℕ) (f : ℕ → Next) (r : Record) → first n f ≡ Step r → (k : ℕ) × (k < n) × (f k ≡ Step r) × ((j : ℕ) → j < k → f j ≡ Nothing)
+unfolding first
+first-where zero f r e = absurd (never e)
+first-where (suc n) f r e = go (f zero) refl e (first-where n (λ k. f (suc k)) r)
+  where
+    go : (x : Next) → f zero ≡ x → (elim x as (λ y. Next) [ Step r ↦ Step r | Nothing ↦ first n (λ k. f (suc k)) ]) ≡ Step r
+        → (first n (λ k. f (suc k)) ≡ Step r → (k : ℕ) × (k < n) × (f (suc k) ≡ Step r) × ((j : ℕ) → j < k → f (suc j) ≡ Nothing))
+        → (k : ℕ) × (k < suc n) × (f k ≡ Step r) × ((j : ℕ) → j < k → f j ≡ Nothing)
+    go (Step x) p e ih = (zero, omega arith, p ∙ e, λ j l. absurd (not-suc-le-zero l))
+    go Nothing p e ih = let y = ih e in (suc (y .0), omega (arith, y .1), y .2, before (y .0) (y .3))
+      where
+        before : (k : ℕ) → ((j : ℕ) → j < k → f (suc j) ≡ Nothing) → (j : ℕ) → j < suc k → f j ≡ Nothing
+        before k h zero l = p
+        before k h (suc j) l = h j (le-of-suc-le-suc l)
+
+pub when-none : (b : Bool) (r : Record) → stepIf b r ≡ Nothing → T b → ⊥
 unfolding stepIf
 when-none true r e t = never-step e
 when-none false r e t = t
@@ -171,6 +187,11 @@ module _ (P : Problem) (s : State) where
 
 -- ---- the run
 
+-- a list with a record in it is not empty
+not-nil : (t u : List Record) (r : Record) → [] ≡ t ++ (r ∷ u) → ⊥
+not-nil [] u r e = let z : _≡_ {A = ℕ} 0 1 = cc in omega arith
+not-nil (x ∷ t) u r e = let z : _≡_ {A = ℕ} 0 1 = cc in omega arith
+
 module _ (P : Problem) where
   pub run-step : (f : ℕ) (s : State) (r : Record) → next P s ≡ Step r → runFrom (suc f) P s ≡ r ∷ runFrom f P (after P s r)
   unfolding runFrom
@@ -199,6 +220,21 @@ module _ (P : Problem) where
       go Nothing e ih = rw (run-stop (suc f) s e) e
       go (Step r) e ih = rw (run-step f s r e) (ih (after P s r) (after-fits P F r) (omega (arith, step-falls P F r (next-lawful P s r e))))
 
+  runFrom-next : (f : ℕ) (s : State) (t : List Record) (r : Record) (u : List Record) → runFrom f P s ≡ t ++ (r ∷ u) → next P (afterTrace P s t) ≡ Step r
+  unfolding runFrom afterTrace
+  runFrom-next zero s t r u e = absurd (not-nil t u r e)
+  runFrom-next (suc f) s t r u e = go (next P s) refl (λ q. runFrom-next f q) t e
+    where
+      go : (x : Next) → next P s ≡ x → ((q : State) (t : List Record) (r : Record) (u : List Record) → runFrom f P q ≡ t ++ (r ∷ u) → next P (afterTrace P q t) ≡ Step r)
+          → (t : List Record) → runFrom (suc f) P s ≡ t ++ (r ∷ u) → next P (afterTrace P s t) ≡ Step r
+      go Nothing p ih t e = absurd (not-nil t u r (sym (run-stop (suc f) s p) ∙ e))
+      go (Step x) p ih [] e = let z = sym (run-step f s x p) ∙ e in let same : x ≡ r = cc in p ∙ ap Step same
+      go (Step x) p ih (y ∷ t) e =
+          let z = sym (run-step f s x p) ∙ e in
+          let same : x ≡ y = cc in
+          let rest : runFrom f P (after P s x) ≡ t ++ (r ∷ u) = cc in
+          subst (λ (w : Record). next P (afterTrace P (after P s w) t) ≡ Step r) same (ih (after P s x) t r u rest)
+
   -- any number of steps that is large enough gives the same run
   pub run-enough : (f g : ℕ) (s : State) → Fits P s → liveCount P s < f → liveCount P s < g → runFrom f P s ≡ runFrom g P s
   run-enough zero g s F h k = absurd (not-suc-le-zero h)
@@ -215,6 +251,11 @@ module _ (P : Problem) where
   pub run-lawful : (s : State) → T (lawfulTrace P s (run P s))
   unfolding run
   run-lawful s = runFrom-lawful (suc (liveCount P s)) s
+
+  -- every record of the run is the next step of the state that it was taken in
+  pub run-next : (s : State) (before : List Record) (r : Record) (rest : List Record) → run P s ≡ before ++ (r ∷ rest) → next P (afterTrace P s before) ≡ Step r
+  unfolding run
+  run-next s = runFrom-next (suc (liveCount P s)) s
 
   -- the run stops only where no record of any kind with any fields is lawful
   pub run-complete : {s : State} → Fits P s → (r : Record) → T (lawful P (afterTrace P s (run P s)) r) → ⊥

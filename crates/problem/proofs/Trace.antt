@@ -1,7 +1,7 @@
 -- What holds of every step, by kind and then of every record; and of every lawful trace, whoever wrote it. Assumes nothing.
 use mathlib.Core.Path.{_≡_, refl, sym, subst}
 use mathlib.Core.Bool.{Bool, true, false, _&&_}
-use mathlib.Core.List.{List, [], _∷_}
+use mathlib.Core.List.{List, [], _∷_, _++_}
 use mathlib.Core.Logic.{_≢_, _↔_}
 use Prim.Native.Nat.{ℕ, zero, suc, _+_, _≤_, _<_}
 use native.Mathlib.Omega.{arith}
@@ -86,6 +86,15 @@ module _ (P : Problem) where
   unfolding afterTrace
   trace-fits F [] = F
   trace-fits F (r ∷ t) = trace-fits (after-fits F r) t
+
+  at-place : (s : State) (before : List Record) (r : Record) (rest : List Record) → T (lawfulTrace P s (before ++ (r ∷ rest))) → T (lawful P (afterTrace P s before) r)
+  unfolding afterTrace
+  at-place s [] r rest h = trace-iff s r rest .0 h .0
+  at-place s (x ∷ before) r rest h = at-place (after P s x) before r rest (trace-iff s x (before ++ (r ∷ rest)) .0 h .1)
+
+  -- every record of a lawful trace is lawful in the state that it was taken in
+  pub trace-at : (s : State) (t : List Record) → T (lawfulTrace P s t) → (before : List Record) (r : Record) (rest : List Record) → t ≡ before ++ (r ∷ rest) → T (lawful P (afterTrace P s before) r)
+  trace-at s t h before r rest e = at-place s before r rest (subst (λ (x : List Record). T (lawfulTrace P s x)) e h)
 
   pub trace-undone : {s : State} → Fits P s → (t : List Record) → T (lawfulTrace P s t) → (p : ℕ → ℕ) → Solution P (afterTrace P s t) p → Solution P s (undoTrace P s t p)
   unfolding undoTrace afterTrace
