@@ -1,11 +1,12 @@
 -- "A [..] hand call [..] with a fault, and no other, is turned away under the one number [..] for its first fault": what each answer of the
 -- hand call says, and for each number its cause. Assumes nothing.
 use mathlib.Core.Path.{_≡_, refl, sym, ap, _∙_, subst}
+use mathlib.Core.Bool.{cond}
 use mathlib.Core.List.{List}
 use mathlib.Core.Logic.{_⊎_, inl, inr, _↔_}
 use Prim.Native.Nat.{ℕ, _≤_, _<_}
 use native.Mathlib.Omega.{arith}
-use lib.Dec.{T}
+use lib.Dec.{T, eqb}
 use Rattle.problem.specs.Problem.{Problem, State, stateFits, snake}
 use Rattle.problem.specs.Manual.{call}
 use Rattle.problem.specs.Masks.{stateOf, Proper}
@@ -16,6 +17,7 @@ use Rattle.problem.proofs.Bridge.{fits-iff}
 use Rattle.problem.proofs.OneCall.{Misfits, Named, SomeEmpty, LowestSnake, CallCause, call-iff}
 use Rattle.sheet.specs.Sheet.{layout, readSheet, sheetNumber, Keeps}
 use Rattle.sheet.specs.Relation.{problemOf}
+use Rattle.sheet.proofs.Refusals.{sheet-number}
 use Rattle.sheet.specs.declared.SheetRefusal.{SheetRefusal}
 use Rattle.sheet.specs.declared.SheetRead.the-variants as read
 use Rattle.jobs.specs.Numbers.{callNumber}
@@ -82,3 +84,36 @@ module _ (s : List ℕ) (st : ManualState) (i : ℕ) where
     -- A hand call answers as it does for its cause and for no other.
     pub called-iff : (o : CallOutcome) → ((callJob s st i) .outcome ≡ o) ↔ Cause o
     called-iff o = (λ e. subst Cause (sym (cause-answers (some-cause .0) (some-cause .1)) ∙ e) (some-cause .1), cause-answers o)
+
+    -- ---- the numbers
+
+    -- the answer that a number from 10 on stands for
+    abbrev numbered : ℕ → CallOutcome
+    numbered k = cond (eqb k 11) (Refused refusal.State) (cond (eqb k 12) (Refused refusal.Item) (cond (eqb k 13) (Refused refusal.Emptied) (Refused refusal.Rule)))
+
+    number-back : (o : CallOutcome) → 10 ≤ callNumber o → numbered (callNumber o) ≡ o
+    number-back (Eliminated v) l = absurd (omega arith)
+    number-back (Refused (refusal.Sheet r)) l = let m = sheet-number r in absurd (omega arith)
+    number-back (Refused refusal.State) l = refl
+    number-back (Refused refusal.Item) l = refl
+    number-back (Refused refusal.Emptied) l = refl
+    number-back (Refused refusal.Rule) l = refl
+
+    by-number : (o : CallOutcome) → 10 ≤ callNumber o → (callNumber ((callJob s st i) .outcome) ≡ callNumber o) ↔ Cause o
+    by-number o l = (
+      λ e. called-iff o .0 (sym (number-back ((callJob s st i) .outcome) (rw e l)) ∙ ap numbered e ∙ number-back o l),
+      λ x. ap callNumber (called-iff o .1 x),
+    )
+
+    pub called-11 : (callNumber ((callJob s st i) .outcome) ≡ 11) ↔ (Keeps layout s × Misfits problem given)
+    called-11 = by-number (Refused refusal.State) (omega arith)
+
+    pub called-12 : (callNumber ((callJob s st i) .outcome) ≡ 12) ↔ (Keeps layout s × (Fits problem given × ((problem .n ≤ i) ⊎ (Active given i → ⊥))))
+    called-12 = by-number (Refused refusal.Item) (omega arith)
+
+    pub called-13 : (callNumber ((callJob s st i) .outcome) ≡ 13) ↔ (Keeps layout s × (Fits problem given × Named problem given i × SomeEmpty problem given))
+    called-13 = by-number (Refused refusal.Emptied) (omega arith)
+
+    pub called-14 : (callNumber ((callJob s st i) .outcome) ≡ 14)
+        ↔ (Keeps layout s × (Fits problem given × Named problem given i × NoneEmpty problem given × ((v : ℕ) → T (snake problem given i v) → ⊥)))
+    called-14 = by-number (Refused refusal.Rule) (omega arith)

@@ -1,4 +1,5 @@
 pub mod Starred
+pub mod Refusals
 pub mod Opened
 pub mod Unaltered
 pub mod Worked

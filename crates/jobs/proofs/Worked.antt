@@ -16,6 +16,8 @@ use Rattle.problem.specs.Extend.{undoTrace}
 use Rattle.problem.specs.declared.Record.{Record}
 use Rattle.problem.specs.declared.Record.the-variants.{Unsupported, Snake, Triangle, Neighbourhood, SnakeSubstitution}
 use Rattle.problem.proofs.Reflect.{full-fits}
+use Rattle.problem.proofs.Published.{Published, run-published}
+use Rattle.problem.proofs.Least.{FirstLawful, run-least}
 use Rattle.problem.proofs.Sound.{Solution, Solvable}
 use Rattle.problem.proofs.Trace.{trace-fits, trace-undone, trace-solvable, lawful-iff}
 use Rattle.problem.proofs.Run.{run-lawful, run-complete, run-short, EndSays, end-says}
@@ -59,6 +61,10 @@ pub record Worked (P : Problem) (t : List Record) (last : State) (b : List ℕ) 
   -- demand 2: each step is lawful in the state reached
   pub reached : last ≡ afterTrace P (full P) t
   pub lawful : T (lawfulTrace P (full P) t)
+  -- under the published rules: each record is published in the state that it was taken in, and is the first lawful one there in the order
+  -- of the steps
+  pub published : (before : List Record) (r : Record) (rest : List Record) → t ≡ before ++ (r ∷ rest) → Published P (afterTrace P (full P) before) r
+  pub least : (before : List Record) (r : Record) (rest : List Record) → t ≡ before ++ (r ∷ rest) → FirstLawful P (afterTrace P (full P) before) r
   -- the end is what the format says of it, and "at the end no rule holds or some item has no setting left"
   pub end : EndSays last (endOf P last)
   pub rest : T (noneEmpty P last) → (r : Record) → T (holds P last r) → ⊥
@@ -83,6 +89,8 @@ run-worked s b K l =
       room = omega (arith, trace-length t, run-short P);
       reached = refl;
       lawful = h;
+      published = run-published (full-fits P);
+      least = run-least (full-fits P);
       end = end-says P (trace-fits P (full-fits P) t);
       rest = λ n r x. run-complete P (full-fits P) r (lawful-iff P (afterTrace P (full P) t) r .1 (n, x));
       plan = trace-solvable P (full-fits P) t h;

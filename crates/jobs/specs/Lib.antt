@@ -5,3 +5,4 @@ pub mod Hand
 pub mod PutBack
 pub mod Print
 pub mod Starred
+pub mod Refusals
