@@ -2,20 +2,20 @@
 -- Assumes nothing.
 use mathlib.Core.Path.{_≡_, refl, sym, ap, _∙_, subst, fun-ext}
 use mathlib.Core.List.{List, [], _∷_}
-use mathlib.Core.Logic.{_↔_, _⊎_, inl, inr}
+use mathlib.Core.Logic.{_↔_}
 use Prim.Native.Nat.{ℕ, zero, suc, _+_, _*_, _/_, _%_, _≤_, _<_}
 use native.Mathlib.Omega.{arith}
 use lib.Dec.{T}
-use lib.ListN.{length, getD, take}
+use lib.ListN.{length, getD, take, replicate, length-replicate}
 use lib.Seq.{take-append-seam}
-use Rattle.bounded.proofs.Truth.{lt-dec}
 use Rattle.bounded.proofs.Table.{length-tab, getD-tab}
 use Rattle.problem.specs.Problem.{Problem, State, full, sizeSum}
 use Rattle.problem.specs.Manual.{finished, arcConsistent}
 use Rattle.problem.specs.Masks.{stateOf, masksOf, Proper}
-use Rattle.problem.specs.Reduce.{run, afterTrace, endOf}
+use Rattle.problem.specs.Reduce.{lawfulTrace, run, afterTrace, endOf}
 use Rattle.problem.specs.Extend.{solvesWhole}
 use Rattle.problem.specs.declared.End.{End}
+use Rattle.problem.specs.declared.End.the-variants as end·
 use Rattle.problem.specs.declared.Masks.{Masks}
 use Rattle.problem.specs.declared.Record.{Record}
 use Rattle.problem.proofs.Reflect.{Active, full-fits}
@@ -24,33 +24,33 @@ use Rattle.problem.proofs.Order.{Alike}
 use Rattle.problem.proofs.Sound.{Solvable}
 use Rattle.problem.proofs.Trace.{trace-fits}
 use Rattle.sheet.specs.Bytes.{numberAt}
-use Rattle.sheet.specs.Sheet.{layout, readSheet, variablesOf, Keeps}
+use Rattle.sheet.specs.Sheet.{layout, variablesOf, Keeps}
 use Rattle.sheet.specs.Relation.{problemOf}
-use Rattle.sheet.specs.declared.SheetRead.{SheetRead}
-use Rattle.sheet.specs.declared.SheetRead.the-variants as read
-use Rattle.sheet.proofs.Accepted.{keeps, problem-bounded}
-use Rattle.jobs.specs.Run.{RunResult, runJob}
+use Rattle.sheet.proofs.Accepted.{problem-bounded}
+use Rattle.jobs.specs.Numbers.{endNumber}
+use Rattle.jobs.specs.Run.{runJob}
 use Rattle.jobs.specs.Hand.{handState, handFits, startJob, callJob, callsJob}
 use Rattle.jobs.specs.PutBack.{PutBackResult, planOf, planFits, putBackJob}
 use Rattle.jobs.specs.Trace.{traceBytes, fronted}
 use Rattle.jobs.specs.declared.Reduced.{Reduced}
 use Rattle.jobs.specs.declared.ReduceOutcome.the-variants as run·
 use Rattle.jobs.specs.declared.ManualState.{ManualState}
-use Rattle.jobs.specs.declared.StartAnswer.{StartAnswer}
 use Rattle.jobs.specs.declared.StartOutcome.the-variants as started
 use Rattle.jobs.specs.declared.CallOutcome.{CallOutcome}
 use Rattle.jobs.specs.declared.CallOutcome.the-variants as called
 use Rattle.jobs.specs.declared.Extended.the-variants as back
 use Rattle.jobs.proofs.HandOrder.{order-does-not-matter, start-meets}
-use Rattle.jobs.proofs.Worked.{run-sheet-refused, run-buffer-refused, Worked, run-worked}
-use Rattle.manual.proofs.Calls.{start-accepted}
+use Rattle.jobs.proofs.Ran.{ran-iff, started-iff}
+use Rattle.jobs.proofs.Worked.{Worked, run-worked}
+use Rattle.extend.proofs.Causes.{BackCause, put-back-iff}
 use Rattle.extend.proofs.Demands.{put-back-accepted, put-back-plan, run-put-back}
+use Rattle.extend.proofs.Ends.{impossible-none, solved-fits}
 use Rattle.embed.specs.State.{stateLength, handStateLength, wordsBytes, masksBytes, masksIn, handBytes, handIn}
 use Rattle.embed.specs.Calls.{RunCall, runCall, HandCall, startCall, handCall, handCalls, putBackCall}
 use Rattle.embed.proofs.Small.{run-small}
 use Rattle.embed.proofs.Calls.{run-says, start-says, hand-says}
 use Rattle.embed.proofs.Crossing.{state-length, hand-bytes-crossed}
-use Rattle.embed.proofs.Answers.{run-unpacked, run-taken, put-back-zero}
+use Rattle.embed.proofs.Answers.{run-unpacked, run-taken, put-back-zero, put-back-taken}
 use Rattle.embed.proofs.States.{run-state, start-state, Held, call-held, call-state}
 
 -- ---- the bytes of a state
@@ -166,7 +166,7 @@ same-bytes s K b e h t C = (
 
 module _ (s b : List ℕ) (K : Keeps layout s) (e : length b ≡ handStateLength) where
   started-is : (startJob s) .outcome ≡ started.Started
-  started-is = ap (λ (y : StartAnswer). y .outcome) (start-accepted s _ _ K)
+  started-is = started-iff s started.Started .1 K
 
   start-leaves : (startCall s b) .state ≡ handBytes ((startJob s) .state)
   start-leaves = sym (ap (λ (y : HandCall). y .state) (start-says s b e _ refl _ started-is))
@@ -201,22 +201,15 @@ sheetLeft x = stateOf (masksIn (x .state))
 abbrev pub Asked : (s t b : List ℕ) → Type 0
 Asked s t b = Keeps layout s × (1 + 5 * sizeSum (problemOf layout s) ≤ length t) × (length b ≡ stateLength)
 
--- a run whose job is done had such a sheet and trace
-done-asked : (s t : List ℕ) (e : End) (k w : ℕ) → (runJob s t) .answer .outcome ≡ run·.Done e k w → Keeps layout s × (1 + 5 * sizeSum (problemOf layout s) ≤ length t)
-done-asked s t e k w o = go (readSheet layout s) refl
-  where
-    by-buffer : Keeps layout s → (length t < 1 + 5 * sizeSum (problemOf layout s)) ⊎ (1 + 5 * sizeSum (problemOf layout s) ≤ length t)
-        → Keeps layout s × (1 + 5 * sizeSum (problemOf layout s) ≤ length t)
-    by-buffer K (inl l) =
-        let q = ap (λ (y : RunResult). y .answer .outcome) (run-buffer-refused s t K l) in
-        let z : _≡_ {A = ℕ} 0 1 = cc in absurd (omega arith)
-    by-buffer K (inr l) = (K, l)
+only-impossible : (x : End) → endNumber x ≡ endNumber end·.Impossible → x ≡ end·.Impossible
+only-impossible end·.Impossible e = refl
+only-impossible end·.Solved e = absurd (omega arith)
+only-impossible end·.Rest e = absurd (omega arith)
 
-    go : (y : SheetRead) → readSheet layout s ≡ y → Keeps layout s × (1 + 5 * sizeSum (problemOf layout s) ≤ length t)
-    go (read.Accepted n m) h = by-buffer (keeps layout s n m h) (lt-dec _ _)
-    go (read.Refused r) h =
-        let q = ap (λ (y : RunResult). y .answer .outcome) (run-sheet-refused s t r h) in
-        let z : _≡_ {A = ℕ} 0 1 = cc in absurd (omega arith)
+only-solved : (x : End) → endNumber x ≡ endNumber end·.Solved → x ≡ end·.Solved
+only-solved end·.Impossible e = absurd (omega arith)
+only-solved end·.Solved e = refl
+only-solved end·.Rest e = absurd (omega arith)
 
 module _ (s t b : List ℕ) where
   -- the sheet's problem, the run's records and the state that they lead to
@@ -274,7 +267,7 @@ module _ (s t b : List ℕ) where
 
   -- "A run [..] with a fault, and no other, is turned away": a caller tells by the answer
   pub run-asked : ((runCall s t b) .answer % 256 ≡ 0) ↔ Asked s t b
-  run-asked = (λ z. let x = run-taken s t b .0 z in let y = done-asked s t (x .1) (x .2) (x .3) (x .4) in (y .0, y .1, x .0), asked-taken)
+  run-asked = (λ z. let x = run-taken s t b .0 z in let y = ran-iff s t (run·.Done (x .1) (x .2) (x .3)) .0 (x .4) in (y .0, y .1 .0, x .0), asked-taken)
 
   -- "each plan of what is left is put back into a plan of the full sheet": wherever the run's answer says no refusal
   pub taken-then-put-back : (runCall s t b) .answer % 256 ≡ 0 → (p r : List ℕ) → length p ≡ variablesOf s → length r ≡ variablesOf s
@@ -282,3 +275,46 @@ module _ (s t b : List ℕ) where
       → ((putBackCall s (traceLeft (runCall s t b)) p r) .answer ≡ 0)
       × T (solvesWhole (problemOf layout s) (planOf ((putBackCall s (traceLeft (runCall s t b)) p r) .result)))
   taken-then-put-back z = run-then-put-back (run-asked .0 z)
+
+  -- ---- what the ends say
+
+  -- the end of an accepted run, as its answer has it in bits 8-15
+  abbrev Ends : End → Type 0
+  Ends e = (k : ℕ) × (w : ℕ) × ((runJob s t) .answer .outcome ≡ run·.Done e k w)
+
+  ended : (n : ℕ) (e : End) → ((x : End) → endNumber x ≡ n → x ≡ e) → (runCall s t b) .answer % 256 ≡ 0 → (runCall s t b) .answer / 256 % 256 ≡ n → Ends e
+  ended n e only z a =
+      let x = run-taken s t b .0 z in
+      let q : x .1 ≡ e = only (x .1) (sym (run-unpacked s t b (x .0) (x .1) (x .2) (x .3) (x .4) .1) ∙ a) in
+      (x .2, x .3, x .4 ∙ ap (λ (y : End). run·.Done y (x .2) (x .3)) q)
+
+  -- impossible: the full sheet has no plan
+  pub run-impossible : (runCall s t b) .answer % 256 ≡ 0 → (runCall s t b) .answer / 256 % 256 ≡ endNumber end·.Impossible → (p : ℕ → ℕ) → T (solvesWhole (problemOf layout s) p) → ⊥
+  run-impossible z a = let x = ended (endNumber end·.Impossible) end·.Impossible only-impossible z a in impossible-none s t (x .0) (x .1) (x .2)
+
+  -- solved: putting back the trace that the run left, with 255 everywhere, gives a plan of the full sheet
+  pub run-solved : (runCall s t b) .answer % 256 ≡ 0 → (runCall s t b) .answer / 256 % 256 ≡ endNumber end·.Solved → (r : List ℕ) → length r ≡ variablesOf s
+      → ((putBackCall s (traceLeft (runCall s t b)) (replicate (variablesOf s) 255) r) .answer ≡ 0)
+      × T (solvesWhole (problemOf layout s) (planOf ((putBackCall s (traceLeft (runCall s t b)) (replicate (variablesOf s) 255) r) .result)))
+  run-solved z a r l =
+      let x = ended (endNumber end·.Solved) end·.Solved only-solved z a in
+      let A = run-asked .0 z in
+      run-then-put-back A (replicate (variablesOf s) 255) r (length-replicate (variablesOf s) 255) l
+      (subst (λ (q : State). T (planFits problem q (replicate (variablesOf s) 255))) (sym (sheet-left A)) (solved-fits s t (x .0) (x .1) (x .2)))
+
+-- ---- whoever wrote the trace
+
+module _ (s t p r : List ℕ) where
+  -- "putting back with a fault, and no other, is turned away": a caller tells by the answer
+  pub put-back-asked : ((putBackCall s t p r) .answer % 256 ≡ 0) ↔ BackCause s t p r back.Done
+  put-back-asked = (λ z. put-back-iff s t p r back.Done .0 (put-back-taken s t p r .0 z), λ x. put-back-taken s t p r .1 (put-back-iff s t p r back.Done .1 x))
+
+  -- "each plan of what is left is put back into a plan of the full sheet, whoever wrote the lawful trace"
+  pub lawful-put-back : (u : List Record) → Keeps layout s → length p ≡ variablesOf s → length r ≡ variablesOf s
+      → t ≡ traceBytes u → T (lawfulTrace (problemOf layout s) (full (problemOf layout s)) u)
+      → T (planFits (problemOf layout s) (afterTrace (problemOf layout s) (full (problemOf layout s)) u) p)
+      → ((putBackCall s t p r) .answer ≡ 0) × T (solvesWhole (problemOf layout s) (planOf ((putBackCall s t p r) .result)))
+  unfolding putBackCall
+  lawful-put-back u K m n e l f =
+      let d : (putBackJob s t p r) .answer ≡ back.Done = put-back-iff s t p r back.Done .1 ((K, (m, n)), (u, e, l, f)) in
+      (put-back-zero s t p r d, put-back-plan (problemOf layout s) t p _ (put-back-accepted s t p r d .3))

@@ -1,19 +1,20 @@
 -- How large the numbers are that a job answers: each fits the bits that its answer has for it. Assumes nothing.
-use mathlib.Core.Path.{_≡_, refl, ap, _∙_}
+use mathlib.Core.Path.{_≡_, refl, sym, ap, _∙_}
 use mathlib.Core.Bool.{Bool, true, false, _&&_}
 use mathlib.Core.List.{List}
-use mathlib.Core.Logic.{_⊎_, inl, inr}
 use Prim.Native.Nat.{ℕ, zero, suc, _+_, _-_, _*_, _≤_, _<_}
 use native.Mathlib.Omega.{arith}
 use lib.Dec.{ltb}
 use lib.ListN.{length}
-use Rattle.bounded.proofs.Truth.{T-of, lt-dec}
+use Rattle.bounded.proofs.Truth.{T-of}
 use Rattle.bounded.proofs.Bounded.{any-iff, lowest-is}
-use Rattle.problem.specs.Problem.{Problem, State, full, sizeSum, stateFits, noneEmpty, anyLive, lowestLive, snake}
+use Rattle.problem.specs.Problem.{Problem, State, full, stateFits, noneEmpty, anyLive, lowestLive, snake}
 use Rattle.problem.specs.Reduce.{run}
 use Rattle.problem.specs.Manual.{call}
 use Rattle.problem.specs.Held.{Bounded}
 use Rattle.problem.proofs.Count.{sizes-most}
+use Rattle.problem.proofs.OneCall.{call-misfit, call-item, call-emptied, call-none, call-done}
+use Rattle.problem.proofs.Run.{run-short}
 use Rattle.problem.specs.declared.End.{End}
 use Rattle.problem.specs.declared.Call.{Call}
 use Rattle.problem.specs.declared.Call.the-variants as outcome
@@ -25,14 +26,15 @@ use Rattle.sheet.specs.declared.SheetRead.the-variants as read
 use Rattle.sheet.proofs.Accepted.{Good, facts, keeps, here, problem-bounded}
 use Rattle.jobs.specs.Hand.{handState, callAnswer, callJob}
 use Rattle.jobs.specs.Trace.{traceBytes}
-use Rattle.jobs.specs.Run.{RunResult, runJob}
+use Rattle.jobs.specs.Run.{runJob}
 use Rattle.jobs.specs.declared.Reduced.{Reduced}
-use Rattle.jobs.specs.declared.ReduceOutcome.the-variants.{Done, Refused}
+use Rattle.jobs.specs.declared.ReduceOutcome.the-variants.{Done}
 use Rattle.jobs.specs.declared.ManualState.{ManualState}
 use Rattle.jobs.specs.declared.CallAnswer.{CallAnswer}
 use Rattle.jobs.specs.declared.CallOutcome.the-variants as called
-use Rattle.jobs.proofs.Worked.{run-sheet-refused, run-buffer-refused, run-worked, trace-length}
-use Rattle.manual.proofs.Calls.{call-misfit, call-item, call-emptied, call-none, call-done, call-refused, call-accepted}
+use Rattle.jobs.proofs.Opened.{call-refused, call-accepted}
+use Rattle.jobs.proofs.Ran.{ran-iff}
+use Rattle.jobs.proofs.Worked.{trace-length}
 
 -- ---- a sheet's variables and blocks
 
@@ -63,26 +65,15 @@ read-small s n m e =
 
 module _ (s b : List ℕ) (x : Reduced) (a : x ≡ (runJob s b) .answer) (e : End) (k w : ℕ) (o : x .outcome ≡ Done e k w) where
   pub run-small : (k ≤ 512) × (w ≤ 2561)
-  run-small = go (readSheet layout s) refl
-    where
-      worked : (K : Keeps layout s) → (length b < 1 + 5 * sizeSum (problemOf layout s)) ⊎ (1 + 5 * sizeSum (problemOf layout s) ≤ length b) → (k ≤ 512) × (w ≤ 2561)
-      worked K (inl l) =
-          let q = ap (λ (y : RunResult). y .answer .outcome) (run-buffer-refused s b K l) in
-          let z : _≡_ {A = ℕ} 0 1 = cc (ap (λ (y : Reduced). y .outcome) a) in absurd (omega arith)
-      worked K (inr l) =
-          let P = problemOf layout s in
-          let W = run-worked s b K l in
-          let q = ap (λ (y : Reduced). y .outcome) a ∙ ap (λ (y : Reduced). y .outcome) (W .answer) in
-          let f = W .few in
-          let c : k ≡ length (run P (full P)) = cc in
-          let d : w ≡ length (traceBytes (run P (full P))) = cc in
-          (omega (arith, sizes-most P (problem-bounded s K)), omega (arith, sizes-most P (problem-bounded s K), trace-length (run P (full P))))
-
-      go : (y : SheetRead) → readSheet layout s ≡ y → (k ≤ 512) × (w ≤ 2561)
-      go (read.Accepted i j) h = let K = keeps layout s i j h in worked K (lt-dec _ _)
-      go (read.Refused r) h =
-          let q = ap (λ (y : RunResult). y .answer .outcome) (run-sheet-refused s b r h) in
-          let z : _≡_ {A = ℕ} 0 1 = cc (ap (λ (y : Reduced). y .outcome) a) in absurd (omega arith)
+  run-small =
+      let P = problemOf layout s in
+      let c = ran-iff s b (Done e k w) .0 (sym (ap (λ (y : Reduced). y .outcome) a) ∙ o) in
+      let few = sizes-most P (problem-bounded s (c .0)) in
+      let steps = run-short P in
+      let bytes = trace-length (run P (full P)) in
+      let p = c .1 .1 .1 .0 in
+      let q = c .1 .1 .1 .1 in
+      (omega arith, omega arith)
 
 -- ---- the value of a hand call
 
@@ -123,7 +114,7 @@ module _ (s : List ℕ) (st : ManualState) (i : ℕ) (x : CallAnswer) (a : x ≡
       by-call K outcome.NoSnake c q = let z : _≡_ {A = ℕ} 0 1 = cc in absurd (omega arith)
 
       go : (y : SheetRead) → readSheet layout s ≡ y → v < 16
-      go (read.Accepted n m) h = by-call (keeps layout s n m h) (call (problemOf layout s) (handState st) i) refl (ap (λ (y : CallAnswer). y .outcome) (a ∙ call-accepted s st i n m h))
+      go (read.Accepted n m) h = by-call (keeps layout s n m h) (call (problemOf layout s) (handState st) i) refl (ap (λ (y : CallAnswer). y .outcome) (a ∙ call-accepted s st i (keeps layout s n m h)))
       go (read.Refused r) h =
           let q = ap (λ (y : CallAnswer). y .outcome) (a ∙ call-refused s st i r h) in
           let z : _≡_ {A = ℕ} 0 1 = cc in absurd (omega arith)

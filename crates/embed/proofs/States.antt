@@ -3,11 +3,8 @@
 use mathlib.Core.Path.{_≡_, refl, sym, ap, _∙_, subst}
 use mathlib.Core.List.{List}
 use mathlib.Core.Logic.{_⊎_, inl, inr}
-use Prim.Native.Nat.{ℕ, _+_, _*_, _≤_, _<_}
-use native.Mathlib.Omega.{arith}
+use Prim.Native.Nat.{ℕ}
 use lib.ListN.{length}
-use Rattle.bounded.proofs.Truth.{lt-dec}
-use Rattle.problem.specs.Problem.{sizeSum}
 use Rattle.problem.specs.Manual.{call}
 use Rattle.problem.specs.Masks.{Proper}
 use Rattle.problem.specs.declared.End.{End}
@@ -16,22 +13,21 @@ use Rattle.problem.specs.declared.Call.the-variants as outcome
 use Rattle.problem.proofs.Bridge.{masks-proper}
 use Rattle.sheet.specs.Sheet.{layout, readSheet, Keeps}
 use Rattle.sheet.specs.Relation.{problemOf}
-use Rattle.sheet.specs.declared.SheetRead.{SheetRead}
+use Rattle.sheet.specs.declared.SheetRefusal.{SheetRefusal}
 use Rattle.sheet.specs.declared.SheetRead.the-variants as read
-use Rattle.sheet.proofs.Accepted.{keeps}
-use Rattle.jobs.specs.Run.{RunResult, runJob}
+use Rattle.jobs.specs.Run.{runJob}
 use Rattle.jobs.specs.Hand.{handState, startJob, callAnswer, callJob}
 use Rattle.jobs.specs.declared.Reduced.{Reduced}
 use Rattle.jobs.specs.declared.ReduceOutcome.the-variants as run
 use Rattle.jobs.specs.declared.ManualState.{ManualState}
-use Rattle.jobs.specs.declared.StartAnswer.{StartAnswer}
 use Rattle.jobs.specs.declared.StartOutcome.the-variants as started
 use Rattle.jobs.specs.declared.CallAnswer.{CallAnswer}
 use Rattle.jobs.specs.declared.CallOutcome.{CallOutcome}
 use Rattle.jobs.specs.declared.CallOutcome.the-variants as called
-use Rattle.jobs.proofs.Worked.{run-sheet-refused, run-buffer-refused, run-worked}
+use Rattle.jobs.proofs.Opened.{sheet-or, call-refused, call-accepted}
+use Rattle.jobs.proofs.Ran.{ran-iff, started-iff}
+use Rattle.jobs.proofs.Worked.{run-worked}
 use Rattle.jobs.proofs.HandOrder.{start-meets}
-use Rattle.manual.proofs.Calls.{start-refused, call-refused, call-accepted}
 use Rattle.embed.specs.State.{stateLength, handStateLength, masksIn, handIn}
 use Rattle.embed.specs.Calls.{RunCall, runCall, HandCall, startCall, handCall}
 use Rattle.embed.proofs.Calls.{run-says, start-says, hand-says}
@@ -41,19 +37,9 @@ use Rattle.embed.proofs.Crossing.{masks-crossed, hand-crossed}
 
 -- the last state of an accepted run is one that the struct can hold
 run-proper : (s t : List ℕ) (e : End) (k w : ℕ) → (runJob s t) .answer .outcome ≡ run.Done e k w → Proper ((runJob s t) .answer .state)
-run-proper s t e k w o = go (readSheet layout s) refl
-  where
-    worked : Keeps layout s → (length t < 1 + 5 * sizeSum (problemOf layout s)) ⊎ (1 + 5 * sizeSum (problemOf layout s) ≤ length t) → Proper ((runJob s t) .answer .state)
-    worked K (inl l) =
-        let q = ap (λ (y : RunResult). y .answer .outcome) (run-buffer-refused s t K l) in
-        let z : _≡_ {A = ℕ} 0 1 = cc in absurd (omega arith)
-    worked K (inr l) = subst (λ (y : Reduced). Proper (y .state)) (sym (run-worked s t K l .answer)) (masks-proper _)
-
-    go : (y : SheetRead) → readSheet layout s ≡ y → Proper ((runJob s t) .answer .state)
-    go (read.Accepted n m) h = worked (keeps layout s n m h) (lt-dec _ _)
-    go (read.Refused r) h =
-        let q = ap (λ (y : RunResult). y .answer .outcome) (run-sheet-refused s t r h) in
-        let z : _≡_ {A = ℕ} 0 1 = cc in absurd (omega arith)
+run-proper s t e k w o =
+    let c = ran-iff s t (run.Done e k w) .0 o in
+    subst (λ (y : Reduced). Proper (y .state)) (sym (run-worked s t (c .0) (c .1 .0) .answer)) (masks-proper _)
 
 pub run-state : (s t b : List ℕ) → length b ≡ stateLength → (e : End) (k w : ℕ) → (runJob s t) .answer .outcome ≡ run.Done e k w → masksIn ((runCall s t b) .state) ≡ (runJob s t) .answer .state
 run-state s t b l e k w o = ap (λ (y : RunCall). masksIn (y .state)) (sym (run-says s t b l _ _ refl refl _ o)) ∙ masks-crossed _ (run-proper s t e k w o)
@@ -61,13 +47,7 @@ run-state s t b l e k w o = ap (λ (y : RunCall). masksIn (y .state)) (sym (run-
 -- ---- taking out by hand
 
 start-proper : (s : List ℕ) → (startJob s) .outcome ≡ started.Started → Proper ((startJob s) .state .masks)
-start-proper s o = go (readSheet layout s) refl
-  where
-    go : (y : SheetRead) → readSheet layout s ≡ y → Proper ((startJob s) .state .masks)
-    go (read.Accepted n m) h = start-meets s (keeps layout s n m h) .0
-    go (read.Refused r) h =
-        let q = ap (λ (y : StartAnswer). y .outcome) (start-refused s r h) in
-        let z : _≡_ {A = ℕ} 0 1 = cc in absurd (omega arith)
+start-proper s o = start-meets s (started-iff s started.Started .0 o) .0
 
 pub start-state : (s b : List ℕ) → length b ≡ handStateLength → (startJob s) .outcome ≡ started.Started → handIn ((startCall s b) .state) ≡ (startJob s) .state
 start-state s b l o = ap (λ (y : HandCall). handIn (y .state)) (sym (start-says s b l _ refl _ o)) ∙ hand-crossed _ (start-proper s o)
@@ -78,7 +58,7 @@ Held st (called.Eliminated v) x = Proper (x .masks)
 Held st (called.Refused r) x = x ≡ st
 
 pub call-held : (s : List ℕ) (st : ManualState) (i : ℕ) → Held st ((callJob s st i) .outcome) ((callJob s st i) .state)
-call-held s st i = go (readSheet layout s) refl
+call-held s st i = by-sheet (sheet-or s)
   where
     by-call : (c : Call) → Held st ((callAnswer (problemOf layout s) st i c) .outcome) ((callAnswer (problemOf layout s) st i c) .state)
     by-call (outcome.Eliminated v) = masks-proper _
@@ -87,9 +67,9 @@ call-held s st i = go (readSheet layout s) refl
     by-call outcome.Emptied = refl
     by-call outcome.NoSnake = refl
 
-    go : (y : SheetRead) → readSheet layout s ≡ y → Held st ((callJob s st i) .outcome) ((callJob s st i) .state)
-    go (read.Accepted n m) h = subst (λ (x : CallAnswer). Held st (x .outcome) (x .state)) (sym (call-accepted s st i n m h)) (by-call (call (problemOf layout s) (handState st) i))
-    go (read.Refused r) h = subst (λ (x : CallAnswer). Held st (x .outcome) (x .state)) (sym (call-refused s st i r h)) refl
+    by-sheet : ((r : SheetRefusal) × (readSheet layout s ≡ read.Refused r)) ⊎ Keeps layout s → Held st ((callJob s st i) .outcome) ((callJob s st i) .state)
+    by-sheet (inl x) = subst (λ (x : CallAnswer). Held st (x .outcome) (x .state)) (sym (call-refused s st i (x .0) (x .1))) refl
+    by-sheet (inr K) = subst (λ (x : CallAnswer). Held st (x .outcome) (x .state)) (sym (call-accepted s st i K)) (by-call (call (problemOf layout s) (handState st) i))
 
 -- refused calls included
 pub call-state : (s b : List ℕ) (i : ℕ) → length b ≡ handStateLength → handIn ((handCall s b i) .state) ≡ (callJob s (handIn b) i) .state

@@ -9,7 +9,7 @@ use Rattle.problem.specs.declared.Masks.{Masks}
 use Rattle.sheet.specs.Sheet.{layout, readSheet, sheetNumber}
 use Rattle.sheet.specs.declared.SheetRead.{SheetRead}
 use Rattle.sheet.specs.declared.SheetRead.the-variants as read
-use Rattle.jobs.specs.Numbers.{reduceNumber, manualNumber, extendNumber, endNumber}
+use Rattle.jobs.specs.Numbers.{reduceNumber, manualNumber, putBackNumber, endNumber}
 use Rattle.jobs.specs.Run.{runJob}
 use Rattle.jobs.specs.Hand.{startJob, callJob}
 use Rattle.jobs.specs.PutBack.{putBackJob}
@@ -20,8 +20,6 @@ use Rattle.jobs.specs.declared.StartOutcome.{StartOutcome}
 use Rattle.jobs.specs.declared.StartOutcome.the-variants as started
 use Rattle.jobs.specs.declared.CallOutcome.{CallOutcome}
 use Rattle.jobs.specs.declared.CallOutcome.the-variants as called
-use Rattle.jobs.specs.declared.Extended.{Extended}
-use Rattle.jobs.specs.declared.Extended.the-variants as back
 use Rattle.embed.specs.State.{stateLength, handStateLength, masksBytes, handBytes, handIn}
 
 -- ---- the boundary's own refusals: a state's buffer is not of the state's length
@@ -113,10 +111,6 @@ pub record PutBackCall : Type 0 where
   pub answer : ℕ
   pub result : List ℕ
 
-abbrev pub extendedNumber : Extended → ℕ
-extendedNumber (back.Refused r) = extendNumber r
-extendedNumber back.Done = 0
-
 -- the sheet s, the trace t, the plan p and the result's buffer b: the buffer is as the job leaves it
 unfoldable pub putBackCall : (s t p b : List ℕ) → PutBackCall
-putBackCall s t p b = record { answer = extendedNumber ((putBackJob s t p b) .answer); result = (putBackJob s t p b) .result }
+putBackCall s t p b = record { answer = putBackNumber ((putBackJob s t p b) .answer); result = (putBackJob s t p b) .result }

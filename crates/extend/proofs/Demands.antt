@@ -1,61 +1,37 @@
 -- Demands 1 and 2 of putting back, over the definition that its contract cites. Assumes nothing.
 use mathlib.Core.Path.{_≡_, refl, sym, ap, _∙_, subst}
-use mathlib.Core.Bool.{Bool, true, false, _||_}
-use mathlib.Core.List.{List}
-use mathlib.Core.Logic.{_↔_, _⊎_, inl, inr, _≢_}
+use mathlib.Core.Bool.{_||_}
+use mathlib.Core.List.{List, _∷_, _++_}
+use mathlib.Core.Logic.{_↔_}
 use Prim.Native.Nat.{ℕ}
-use native.Mathlib.Omega.{arith}
 use lib.Dec.{T, eqb}
 use lib.ListN.{length}
-use borrow.Author.Tests.{eq-eqb, ne-eqb}
 use Rattle.bounded.specs.Bounded.{allBelow}
-use Rattle.bounded.proofs.Truth.{T-of, T-true, and-iff, eq-dec}
+use Rattle.bounded.proofs.Truth.{T-true, and-iff}
 use Rattle.bounded.proofs.Table.{getD-tab}
 use Rattle.problem.specs.Problem.{Problem, full}
 use Rattle.problem.specs.Reduce.{lawfulTrace, afterTrace, run}
 use Rattle.problem.specs.Extend.{solves, solvesWhole, undoTrace}
 use Rattle.problem.specs.declared.Record.{Record}
 use Rattle.problem.proofs.Reflect.{Active, Live, Fits, full-fits}
+use Rattle.problem.proofs.Published.{Published, trace-published}
 use Rattle.problem.proofs.Sound.{Solvable, solves-iff, solvesWhole-iff}
 use Rattle.problem.proofs.Trace.{trace-fits, trace-undone, trace-solvable}
 use Rattle.problem.proofs.Run.{run-lawful}
-use Rattle.sheet.specs.Sheet.{layout, readSheet, variablesOf, Keeps}
+use Rattle.sheet.specs.Sheet.{layout, variablesOf, Keeps}
 use Rattle.sheet.specs.Relation.{problemOf}
-use Rattle.sheet.specs.declared.SheetRefusal.{SheetRefusal}
-use Rattle.sheet.specs.declared.SheetRead.{SheetRead}
-use Rattle.sheet.specs.declared.SheetRead.the-variants as read
-use Rattle.sheet.proofs.Accepted.{keeps}
 use Rattle.jobs.specs.Trace.{traceBytes}
-use Rattle.jobs.specs.PutBack.{PutBackResult, putBackRefused, putBackDone, Checked, Lawful, Fault, checkTrace, planOf, planFits, afterCheck, putBackJob}
-use Rattle.jobs.specs.declared.Extended.the-variants.{Done, Refused}
-use Rattle.jobs.specs.declared.ExtendRefusal.{ExtendRefusal}
-use Rattle.jobs.specs.declared.ExtendRefusal.the-variants.{Sheet, PlanLength, ResultLength, Plan}
+use Rattle.jobs.specs.PutBack.{PutBackResult, putBackDone, Lawful, planOf, planFits, afterCheck, putBackJob}
+use Rattle.jobs.specs.declared.Extended.the-variants.{Done}
+use Rattle.jobs.proofs.Opened.{put-back-checked}
 use Rattle.trace.proofs.Causes.{taken-iff}
-
--- ---- where it is refused: for each cause, in the order of the table
-
-module _ (s t p b : List ℕ) where
-  pub put-back-sheet-refused : (r : SheetRefusal) → readSheet layout s ≡ read.Refused r → putBackJob s t p b ≡ putBackRefused (Sheet r) b
-  unfolding putBackJob
-  put-back-sheet-refused r e = rw (e, putBackJob)
-
-  module _ (K : Keeps layout s) where
-    -- 18
-    pub put-back-plan-length : length p ≢ variablesOf s → putBackJob s t p b ≡ putBackRefused PlanLength b
-    unfolding putBackJob
-    put-back-plan-length d = rw (K, ne-eqb (length p) (variablesOf s) d, putBackJob)
-
-    -- 20
-    pub put-back-result-length : length p ≡ variablesOf s → length b ≢ variablesOf s → putBackJob s t p b ≡ putBackRefused ResultLength b
-    unfolding putBackJob
-    put-back-result-length e d = rw (K, eq-eqb (length p) (variablesOf s) e, ne-eqb (length b) (variablesOf s) d, putBackJob)
-
-    -- then 15, 16 and 17 by the trace, and 19
-    pub put-back-checked : length p ≡ variablesOf s → length b ≡ variablesOf s → putBackJob s t p b ≡ afterCheck (problemOf layout s) p b (checkTrace (problemOf layout s) t)
-    unfolding putBackJob
-    put-back-checked e f = rw (K, eq-eqb (length p) (variablesOf s) e, eq-eqb (length b) (variablesOf s) f, putBackJob)
+use Rattle.extend.proofs.Causes.{put-back-iff}
 
 -- ---- what an accepted call shows
+
+-- the plan of a lawful trace is judged last
+fits-done : (P : Problem) (u : List Record) (p b : List ℕ) → T (planFits P (afterTrace P (full P) u) p) → afterCheck P p b (Lawful u) ≡ putBackDone P u p
+fits-done P u p b h = rw (T-true (planFits P (afterTrace P (full P) u) p) h, afterCheck)
 
 -- P is the sheet's problem
 pub record PutBack (P : Problem) (t p : List ℕ) (x : PutBackResult) : Type 0 where
@@ -63,56 +39,32 @@ pub record PutBack (P : Problem) (t p : List ℕ) (x : PutBackResult) : Type 0 w
   pub records : List Record
   pub bytes : t ≡ traceBytes records
   pub lawful : T (lawfulTrace P (full P) records)
+  -- under the published rules: each is published in the state that it was taken in
+  pub published : (before : List Record) (r : Record) (rest : List Record) → records ≡ before ++ (r ∷ rest) → Published P (afterTrace P (full P) before) r
   -- the plan is one of what is left, with 255 for each item out
   pub plan : T (planFits P (afterTrace P (full P) records) p)
   -- the result: the records undone last first
   pub result : x ≡ putBackDone P records p
 
-refused-not-done : {r : ExtendRefusal} → Refused r ≡ Done → ⊥
-refused-not-done e = let z : _≡_ {A = ℕ} 0 1 = cc in omega arith
-
--- the plan of a lawful trace is judged last
-fits-done : (P : Problem) (u : List Record) (p b : List ℕ) → T (planFits P (afterTrace P (full P) u) p) → afterCheck P p b (Lawful u) ≡ putBackDone P u p
-fits-done P u p b h = rw (T-true (planFits P (afterTrace P (full P) u) p) h, afterCheck)
-
-fits-refused : (P : Problem) (u : List Record) (p b : List ℕ) → planFits P (afterTrace P (full P) u) p ≡ false → afterCheck P p b (Lawful u) ≡ putBackRefused Plan b
-fits-refused P u p b h = rw (h, afterCheck)
-
-checked-done : (P : Problem) (t p b : List ℕ) (c : Checked) → checkTrace P t ≡ c → (afterCheck P p b c) .answer ≡ Done → PutBack P t p (afterCheck P p b c)
-checked-done P t p b (Fault r) e h = absurd (refused-not-done h)
-checked-done P t p b (Lawful u) e h = go (planFits P (afterTrace P (full P) u) p) refl
-  where
-    go : (x : Bool) → planFits P (afterTrace P (full P) u) p ≡ x → PutBack P t p (afterCheck P p b (Lawful u))
-    go true f = let y = taken-iff P t u .0 e in record { records = u; bytes = y .0; lawful = y .1; plan = T-of f; result = fits-done P u p b (T-of f) }
-    go false f = absurd (refused-not-done (sym (ap (λ (x : PutBackResult). x .answer) (fits-refused P u p b f)) ∙ h))
-
 -- the job accepts only where the sheet keeps the layout, the lengths are right, the trace is lawful and the plan is one of what is left
 pub put-back-accepted : (s t p b : List ℕ) → (putBackJob s t p b) .answer ≡ Done
     → Keeps layout s × (length p ≡ variablesOf s) × (length b ≡ variablesOf s) × PutBack (problemOf layout s) t p (putBackJob s t p b)
-put-back-accepted s t p b h = by-sheet (readSheet layout s) refl
-  where
-    All : Type 0
-    All = Keeps layout s × (length p ≡ variablesOf s) × (length b ≡ variablesOf s) × PutBack (problemOf layout s) t p (putBackJob s t p b)
-
-    answers : {r : ExtendRefusal} → putBackJob s t p b ≡ putBackRefused r b → ⊥
-    answers e = refused-not-done (sym (ap (λ (x : PutBackResult). x .answer) e) ∙ h)
-
-    checked : Keeps layout s → (length p ≡ variablesOf s) → (length b ≡ variablesOf s) → All
-    checked K e f =
-        let g = put-back-checked s t p b K e f in
-        (K, e, f, subst (PutBack (problemOf layout s) t p) (sym g) (checked-done (problemOf layout s) t p b (checkTrace (problemOf layout s) t) refl (sym (ap (λ (x : PutBackResult). x .answer) g) ∙ h)))
-
-    by-result : Keeps layout s → (length p ≡ variablesOf s) → (length b ≡ variablesOf s) ⊎ (length b ≢ variablesOf s) → All
-    by-result K e (inl f) = checked K e f
-    by-result K e (inr d) = absurd (answers (put-back-result-length s t p b K e d))
-
-    by-plan : Keeps layout s → (length p ≡ variablesOf s) ⊎ (length p ≢ variablesOf s) → All
-    by-plan K (inl e) = by-result K e (eq-dec (length b) (variablesOf s))
-    by-plan K (inr d) = absurd (answers (put-back-plan-length s t p b K d))
-
-    by-sheet : (x : SheetRead) → readSheet layout s ≡ x → All
-    by-sheet (read.Refused r) e = absurd (answers (put-back-sheet-refused s t p b r e))
-    by-sheet (read.Accepted n m) e = by-plan (keeps layout s n m e) (eq-dec (length p) (variablesOf s))
+put-back-accepted s t p b h =
+    let x = put-back-iff s t p b Done .0 h in
+    let u = x .1 .0 in
+    let P = problemOf layout s in (
+      x .0 .0,
+      x .0 .1 .0,
+      x .0 .1 .1,
+      record {
+        records = u;
+        bytes = x .1 .1;
+        lawful = x .1 .2;
+        published = trace-published (full-fits P) u (x .1 .2);
+        plan = x .1 .3;
+        result = put-back-checked s t p b (x .0 .0) (x .0 .1 .0) (x .0 .1 .1) ∙ ap (afterCheck P p b) (taken-iff P t u .1 (x .1 .1, x .1 .2)) ∙ fits-done P u p b (x .1 .3);
+      },
+    )
 
 -- and it accepts wherever that holds: whoever wrote the lawful trace
 pub put-back-accepts : (s : List ℕ) (u : List Record) (p b : List ℕ) → Keeps layout s → length p ≡ variablesOf s → length b ≡ variablesOf s

@@ -6,3 +6,5 @@ pub mod Undo
 pub mod Back
 pub mod Job
 pub mod Demands
+pub mod Ends
+pub mod Causes

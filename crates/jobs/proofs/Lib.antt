@@ -2,6 +2,7 @@ pub mod Starred
 pub mod Refusals
 pub mod Opened
 pub mod Unaltered
+pub mod Ran
 pub mod Worked
 pub mod HandOrder
 pub mod Called

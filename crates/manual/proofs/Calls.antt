@@ -10,23 +10,15 @@ use Rattle.bounded.specs.Mask.{bit}
 use Rattle.bounded.proofs.Truth.{T-true, T-false, T-of, and-iff, ltb-iff}
 use Rattle.bounded.proofs.Bounded.{lowest-is, lowest-passes, lowest-least, lowest-unique}
 use Rattle.problem.specs.Problem.{Problem, State, stateFits, noneEmpty, anyLive, lowestLive, snake}
-use Rattle.problem.specs.Manual.{start, call}
+use Rattle.problem.specs.Manual.{call}
 use Rattle.problem.specs.Held.{held}
 use Rattle.problem.specs.Masks.{stateOf}
 use Rattle.problem.specs.declared.Masks.{Masks}
-use Rattle.problem.specs.declared.Call.the-variants.{Eliminated, Misfit, NotActive, Emptied, NoSnake}
+use Rattle.problem.specs.declared.Call.the-variants.{Eliminated, NotActive, Emptied, NoSnake}
 use Rattle.problem.proofs.Reflect.{Live, fits-test, anyLive-iff, snake-iff}
 use Rattle.problem.proofs.OneCall.{call-item, call-emptied, call-none, call-done}
 use Rattle.rules.specs.Ready.{Ready}
 use Rattle.rules.proofs.Laws.{live-value, active-32}
-use Rattle.sheet.specs.Sheet.{layout, readSheet}
-use Rattle.sheet.specs.Relation.{problemOf}
-use Rattle.sheet.specs.declared.SheetRefusal.{SheetRefusal}
-use Rattle.sheet.specs.declared.SheetRead.the-variants as read
-use Rattle.jobs.specs.Hand.{handState, startJob, callRefused, callAnswer, callJob}
-use Rattle.jobs.specs.declared.ManualState.{ManualState}
-use Rattle.jobs.specs.declared.ManualRefusal.the-variants as refusal
-use Rattle.manual.specs.Parts.{startRefused, startAnswer}
 
 -- ---- the lowest value
 
@@ -84,21 +76,3 @@ module _ {t : List ℕ} {m : Masks} (R : Ready t m) (i : ℕ) (on : bit (m .acti
 
   pub ready-done : noneEmpty (held t) (stateOf m) ≡ true → lowest 16 (snake (held t) (stateOf m) i) < 16 → call (held t) (stateOf m) i ≡ Eliminated (lowest 16 (snake (held t) (stateOf m) i))
   ready-done e l = call-done (held t) (stateOf m) i (fit R) (active-in R i on) e (snake-some R i l) ∙ ap Eliminated (snake-lowest R i l)
-
--- ---- the jobs, by what reading the sheet finds
-
-pub start-refused : (s : List ℕ) (r : SheetRefusal) → readSheet layout s ≡ read.Refused r → startJob s ≡ startRefused r
-unfolding startJob
-start-refused s r e = rw (e, startJob)
-
-pub start-accepted : (s : List ℕ) (n m : ℕ) → readSheet layout s ≡ read.Accepted n m → startJob s ≡ startAnswer (start (problemOf layout s))
-unfolding startJob
-start-accepted s n m e = rw (e, startJob)
-
-pub call-refused : (s : List ℕ) (st : ManualState) (i : ℕ) (r : SheetRefusal) → readSheet layout s ≡ read.Refused r → callJob s st i ≡ callRefused (refusal.Sheet r) st
-unfolding callJob
-call-refused s st i r e = rw (e, callJob)
-
-pub call-accepted : (s : List ℕ) (st : ManualState) (i n m : ℕ) → readSheet layout s ≡ read.Accepted n m → callJob s st i ≡ callAnswer (problemOf layout s) st i (call (problemOf layout s) (handState st) i)
-unfolding callJob
-call-accepted s st i n m e = rw (e, callJob)

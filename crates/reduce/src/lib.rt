@@ -284,7 +284,7 @@ fn next_of_kind(t: &[u16], m: Masks, kind: usize) -> Next
 }
 
 // The next step: of the lowest kind that holds anywhere, then the lowest fields. None is taken where an active variable has an empty domain.
-pub fn next_step(t: &[u16], m: Masks) -> Next
+fn next_step(t: &[u16], m: Masks) -> Next
     requires { ⌜ Ready (now t) m ⌝ }
     ensures { λ r. ⌜ r ≡ nextOf (held (now (t .entry))) (stateOf m) ⌝ }
 {
@@ -384,7 +384,7 @@ pub fn full_masks(t: &[u16]) -> Masks
 // ---- the end
 
 // How a run ends that ends in this state.
-pub fn end_of(t: &[u16], m: Masks) -> End
+fn end_of(t: &[u16], m: Masks) -> End
     requires { ⌜ Ready (now t) m ⌝ }
     ensures { λ r. ⌜ r ≡ endOf (held (now (t .entry))) (stateOf m) ⌝ }
 {

@@ -30,7 +30,7 @@ use Rattle.jobs.specs.declared.Reduced.{Reduced}
 use Rattle.jobs.specs.declared.ReduceRefusal.{ReduceRefusal}
 use Rattle.jobs.specs.declared.ReduceRefusal.the-variants.{Sheet}
 use Rattle.jobs.specs.declared.ReduceOutcome.the-variants.{Done, Refused}
-use Rattle.jobs.proofs.Worked.{run-sheet-refused, run-accepted}
+use Rattle.jobs.proofs.Opened.{run-sheet-refused, run-accepted}
 use Rattle.trace.specs.Written.{written}
 use Rattle.trace.proofs.Written.{written-front}
 use Rattle.text.proofs.Laws.{Puts, after}

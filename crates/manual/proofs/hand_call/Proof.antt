@@ -2,7 +2,7 @@
 use mathlib.Core.Path.{sym, _∙_}
 use Rattle.sheet.specs.Sheet.{layout}
 use Rattle.sheet.proofs.Accepted.{keeps}
-use Rattle.manual.proofs.Calls.{call-refused, call-accepted}
+use Rattle.jobs.proofs.Opened.{call-refused, call-accepted}
 use borrow.Author.Needs.{needs}
 use Rattle.manual.proofs.hand_call.Statement.{statement}
 use Rattle.manual.proofs.hand_call.Tie as tie
@@ -26,7 +26,7 @@ returns : tie.Need-returns
 returns c = c .refused-call .ensures ∙ sym (call-refused _ _ _ _ (sym (c .before .before .before .before .read-sheet .ensures) ∙ c .before .before .read .given .1))
 
 returns-2 : tie.Need-returns-2
-returns-2 c = c .called .ensures ∙ sym (call-accepted _ _ _ _ _ (sym (c .before .before .before .before .read-sheet .ensures) ∙ c .before .before .read2 .given .1))
+returns-2 c = c .called .ensures ∙ sym (call-accepted _ _ _ (keeps layout _ _ _ (sym (c .before .before .before .before .read-sheet .ensures) ∙ c .before .before .read2 .given .1)))
 
 pub hand-call-spec : {M : Type 1} → statement M
 hand-call-spec =

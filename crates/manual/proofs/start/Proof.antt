@@ -2,7 +2,7 @@
 use mathlib.Core.Path.{sym, _∙_}
 use Rattle.sheet.specs.Sheet.{layout}
 use Rattle.sheet.proofs.Accepted.{keeps}
-use Rattle.manual.proofs.Calls.{start-refused, start-accepted}
+use Rattle.jobs.proofs.Opened.{start-refused, start-accepted}
 use borrow.Author.Needs.{needs}
 use Rattle.manual.proofs.start.Statement.{statement}
 use Rattle.manual.proofs.start.Tie as tie
@@ -26,7 +26,7 @@ returns : tie.Need-returns
 returns c = c .refused-start .ensures ∙ sym (start-refused _ _ (sym (c .before .before .before .before .read-sheet .ensures) ∙ c .before .before .read .given .1))
 
 returns-2 : tie.Need-returns-2
-returns-2 c = c .started .ensures ∙ sym (start-accepted _ _ _ (sym (c .before .before .before .before .read-sheet .ensures) ∙ c .before .before .read2 .given .1))
+returns-2 c = c .started .ensures ∙ sym (start-accepted _ (keeps layout _ _ _ (sym (c .before .before .before .before .read-sheet .ensures) ∙ c .before .before .read2 .given .1)))
 
 pub start-spec : {M : Type 1} → statement M
 start-spec =

@@ -3,7 +3,7 @@ use mathlib.Core.Path.{_≡_, refl, ap, sym, _∙_}
 use Rattle.sheet.specs.Sheet.{layout}
 use Rattle.sheet.proofs.Accepted.{keeps}
 use Rattle.jobs.specs.Run.{RunResult}
-use Rattle.jobs.proofs.Worked.{run-sheet-refused}
+use Rattle.jobs.proofs.Opened.{run-sheet-refused}
 use borrow.Author.Needs.{needs}
 use Rattle.reduce.proofs.reduce.Statement.{statement}
 use Rattle.reduce.proofs.reduce.Tie as tie

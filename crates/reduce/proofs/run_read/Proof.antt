@@ -2,7 +2,7 @@
 use mathlib.Core.Path.{_≡_, refl, ap, sym, _∙_}
 use native.Mathlib.Omega.{arith}
 use Rattle.jobs.specs.Run.{RunResult}
-use Rattle.jobs.proofs.Worked.{run-buffer-refused, run-accepted}
+use Rattle.jobs.proofs.Opened.{run-buffer-refused, run-accepted}
 use borrow.Author.Needs.{needs}
 use Rattle.reduce.proofs.run_read.Statement.{statement}
 use Rattle.reduce.proofs.run_read.Tie as tie

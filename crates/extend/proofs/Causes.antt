@@ -1,0 +1,228 @@
+-- "[..] putting back with a fault, and no other, is turned away under the one number [..] for its first fault": what each answer says, and for
+-- each number its cause. Assumes nothing.
+use mathlib.Core.Path.{_≡_, refl, sym, ap, _∙_, subst}
+use mathlib.Core.Bool.{Bool, true, false, cond, _&&_, _||_, not}
+use mathlib.Core.List.{List, [], _++_}
+use mathlib.Core.Logic.{_⊎_, inl, inr, _≢_, _↔_}
+use Prim.Native.Nat.{ℕ, _≤_, _<_}
+use native.Mathlib.Omega.{arith}
+use lib.Dec.{T, eqb}
+use lib.ListN.{length}
+use Rattle.bounded.specs.Bounded.{imp, allBelow}
+use Rattle.bounded.proofs.Truth.{T-true, T-false, T-dec, eq-dec, and-iff, or-iff, not-iff, imp-fails, eqb-iff}
+use Rattle.bounded.proofs.Bounded.{all-iff, all-or}
+use Rattle.problem.specs.Problem.{Problem, State, full, allOther}
+use Rattle.problem.specs.Reduce.{lawful, lawfulTrace, afterTrace}
+use Rattle.problem.specs.Extend.{solves}
+use Rattle.problem.specs.declared.Record.{Record}
+use Rattle.problem.proofs.Reflect.{Active, Live, Allowed, Fits, full-fits, allActive-or}
+use Rattle.problem.proofs.Sound.{Solution, solves-iff}
+use Rattle.problem.proofs.Trace.{trace-fits}
+use Rattle.sheet.specs.Bytes.{byteAt}
+use Rattle.sheet.specs.Sheet.{layout, readSheet, variablesOf, Keeps}
+use Rattle.sheet.specs.Relation.{problemOf}
+use Rattle.sheet.specs.declared.SheetRefusal.{SheetRefusal}
+use Rattle.sheet.specs.declared.SheetRead.the-variants as read
+use Rattle.sheet.proofs.Refusals.{sheet-number}
+use Rattle.jobs.specs.Numbers.{putBackNumber}
+use Rattle.jobs.specs.Trace.{recordBytes, traceBytes}
+use Rattle.jobs.specs.PutBack.{PutBackResult, putBackRefused, putBackDone, Checked, Lawful, Fault, checkTrace, planOf, planFits, afterCheck, putBackJob}
+use Rattle.jobs.specs.declared.Extended.{Extended}
+use Rattle.jobs.specs.declared.Extended.the-variants.{Done, Refused}
+use Rattle.jobs.specs.declared.ExtendRefusal.{ExtendRefusal}
+use Rattle.jobs.specs.declared.ExtendRefusal.the-variants as refusal
+use Rattle.jobs.proofs.Opened.{sheet-or, put-back-sheet-refused, put-back-plan-length, put-back-result-length, put-back-checked}
+use Rattle.trace.proofs.Causes.{NoRecord, TraceCause, checked-iff}
+
+-- ---- the plan
+
+module _ (P : Problem) (q : State) (p : List ℕ) where
+  -- 19: "an item out not 255, a setting not on, or a barred pair among items left"
+  abbrev pub PlanFault : Type 0
+  PlanFault =
+      ((i : ℕ) × (i < P .n) × (Active q i → ⊥) × (planOf p i ≢ 255))
+      ⊎ (((i : ℕ) × Active q i × (Live q i (planOf p i) → ⊥))
+      ⊎ ((i : ℕ) × (j : ℕ) × Active q i × Active q j × (i ≢ j) × (Allowed P i (planOf p i) j (planOf p j) → ⊥)))
+
+  entry-or : T (allBelow (P .n) (λ i. q .active i || eqb (planOf p i) 255)) ⊎ PlanFault
+  entry-or =
+      elim (all-or (P .n) (λ i. q .active i || eqb (planOf p i) 255)) [
+        | inl t ↦ inl t
+        | inr x ↦
+            let o = or-iff (q .active (x .0)) (eqb (planOf p (x .0)) 255) .1 in
+            inr (inl (x .0, x .1, λ a. x .2 (o (inl a)), λ e. x .2 (o (inr (eqb-iff (planOf p (x .0)) 255 .1 e)))))
+      ]
+
+  solves-or : T (solves P q (planOf p)) ⊎ PlanFault
+  unfolding solves allOther
+  solves-or = go (allActive-or P q (λ i. q .live i (planOf p i) && allOther P q i (λ j. P .allowed i (planOf p i) j (planOf p j))))
+    where
+      by-pair : (i : ℕ) → Active q i → (T (allOther P q i (λ j. P .allowed i (planOf p i) j (planOf p j))) → ⊥) → PlanFault
+      by-pair i a n =
+          elim (allActive-or P q (λ j. imp (not (eqb j i)) (P .allowed i (planOf p i) j (planOf p j)))) [
+            | inl t ↦ absurd (n t)
+            | inr x ↦
+                let y = imp-fails (not (eqb (x .0) i)) (P .allowed i (planOf p i) (x .0) (planOf p (x .0))) (x .2) in
+                inr (inr (i, x .0, a, x .1, λ e. not-iff (eqb (x .0) i) .0 (y .0) (eqb-iff (x .0) i .1 (sym e)), y .1))
+          ]
+
+      by-live : (i : ℕ) → Active q i → (T (q .live i (planOf p i) && allOther P q i (λ j. P .allowed i (planOf p i) j (planOf p j))) → ⊥) → T (q .live i (planOf p i)) ⊎ (T (q .live i (planOf p i)) → ⊥) → PlanFault
+      by-live i a n (inl l) = by-pair i a (λ t. n (and-iff (q .live i (planOf p i)) (allOther P q i (λ j. P .allowed i (planOf p i) j (planOf p j))) .1 (l, t)))
+      by-live i a n (inr l) = inr (inl (i, a, l))
+
+      go : T (solves P q (planOf p)) ⊎ ((i : ℕ) × Active q i × (T (q .live i (planOf p i) && allOther P q i (λ j. P .allowed i (planOf p i) j (planOf p j))) → ⊥)) → T (solves P q (planOf p)) ⊎ PlanFault
+      go (inl t) = inl t
+      go (inr x) = inr (by-live (x .0) (x .1) (x .2) (T-dec (q .live (x .0) (planOf p (x .0)))))
+
+  -- a plan fits, or its fault is found
+  plan-or : T (planFits P q p) ⊎ PlanFault
+  unfolding planFits
+  plan-or = go entry-or solves-or
+    where
+      go : T (allBelow (P .n) (λ i. q .active i || eqb (planOf p i) 255)) ⊎ PlanFault → T (solves P q (planOf p)) ⊎ PlanFault → T (planFits P q p) ⊎ PlanFault
+      go (inr x) y = inr x
+      go (inl t) (inr x) = inr x
+      go (inl t) (inl u) = inl (and-iff (allBelow (P .n) (λ i. q .active i || eqb (planOf p i) 255)) (solves P q (planOf p)) .1 (t, u))
+
+  plan-not : Fits P q → PlanFault → T (planFits P q p) → ⊥
+  unfolding planFits
+  plan-not F x t =
+      let h = and-iff (allBelow (P .n) (λ i. q .active i || eqb (planOf p i) 255)) (solves P q (planOf p)) .0 t in
+      let e = all-iff (P .n) (λ i. q .active i || eqb (planOf p i) 255) .0 (h .0) in
+      go x e (solves-iff F (planOf p) .0 (h .1))
+    where
+      go : PlanFault → ((i : ℕ) → i < P .n → T (q .active i || eqb (planOf p i) 255)) → Solution P q (planOf p) → ⊥
+      go (inl x) e A = elim (or-iff (q .active (x .0)) (eqb (planOf p (x .0)) 255) .0 (e (x .0) (x .1))) [ inl a ↦ x .2 a | inr o ↦ x .3 (eqb-iff (planOf p (x .0)) 255 .0 o) ]
+      go (inr (inl x)) e A = x .2 (A .live (x .0) (x .1))
+      go (inr (inr x)) e A = x .5 (A .ok (x .0) (x .1) (x .2) (x .3) (x .4))
+
+-- ---- why putting back answers as it does
+
+-- the sheet's problem
+module _ (s t p b : List ℕ) where
+  abbrev problem : Problem
+  problem = problemOf layout s
+
+  -- the state that records lead to
+  abbrev left : List Record → State
+  left u = afterTrace problem (full problem) u
+
+  -- the sheet keeps the layout, and plan and result have a byte an item
+  abbrev pub Sized : Type 0
+  Sized = Keeps layout s × ((length p ≡ variablesOf s) × (length b ≡ variablesOf s))
+
+  abbrev pub BackCause : Extended → Type 0
+  -- the sheet's own fault
+  BackCause (Refused (refusal.Sheet r)) = readSheet layout s ≡ read.Refused r
+  -- 18: "plan is not n bytes"
+  BackCause (Refused refusal.PlanLength) = Keeps layout s × (length p ≢ variablesOf s)
+  -- 20: "result buffer is not n bytes"
+  BackCause (Refused refusal.ResultLength) = Keeps layout s × ((length p ≡ variablesOf s) × (length b ≢ variablesOf s))
+  -- 15: "no byte, or byte 0 is not 1"
+  BackCause (Refused refusal.TraceFront) = Sized × ((t ≡ []) ⊎ (byteAt t 0 ≢ 1))
+  -- 16: after the bytes of lawful records u, bytes that begin with no record's
+  BackCause (Refused refusal.Malformed) =
+      Sized × ((u : List Record) × (more : List ℕ) × (t ≡ traceBytes u ++ more) × T (lawfulTrace problem (full problem) u) × NoRecord more)
+  -- 17: after the bytes of lawful records u, those of a record that is not lawful in the state reached
+  BackCause (Refused refusal.Unlawful) =
+      Sized
+      × ((u : List Record) × (r : Record) × (more : List ℕ) × (t ≡ traceBytes u ++ (recordBytes r ++ more)) × T (lawfulTrace problem (full problem) u)
+      × (T (lawful problem (left u) r) → ⊥))
+  -- 19: the trace is lawful, and the plan is not one of what it leaves
+  BackCause (Refused refusal.Plan) =
+      Sized × ((u : List Record) × (t ≡ traceBytes u) × T (lawfulTrace problem (full problem) u) × PlanFault problem (left u) p)
+  -- accepted: the trace is lawful, and the plan is one of what it leaves
+  BackCause Done = Sized × ((u : List Record) × (t ≡ traceBytes u) × T (lawfulTrace problem (full problem) u) × T (planFits problem (left u) p))
+
+  abbrev planned : List Record → Bool → PutBackResult
+  planned u x = elim x [ true ↦ putBackDone problem u p | false ↦ putBackRefused refusal.Plan b ]
+
+  checks : Sized → (c : Checked) → TraceCause problem t c → (putBackJob s t p b) .answer ≡ (afterCheck problem p b c) .answer
+  checks Z c x = ap (λ (y : PutBackResult). y .answer) (put-back-checked s t p b (Z .0) (Z .1 .0) (Z .1 .1)) ∙ ap (λ (y : Checked). (afterCheck problem p b y) .answer) (checked-iff problem t c .1 x)
+
+  cause-answers : (o : Extended) → BackCause o → (putBackJob s t p b) .answer ≡ o
+  cause-answers (Refused (refusal.Sheet r)) e = ap (λ (y : PutBackResult). y .answer) (put-back-sheet-refused s t p b r e)
+  cause-answers (Refused refusal.PlanLength) (K, d) = ap (λ (y : PutBackResult). y .answer) (put-back-plan-length s t p b K d)
+  cause-answers (Refused refusal.ResultLength) (K, (e, d)) = ap (λ (y : PutBackResult). y .answer) (put-back-result-length s t p b K e d)
+  cause-answers (Refused refusal.TraceFront) (Z, x) = checks Z (Fault refusal.TraceFront) x
+  cause-answers (Refused refusal.Malformed) (Z, x) = checks Z (Fault refusal.Malformed) x
+  cause-answers (Refused refusal.Unlawful) (Z, x) = checks Z (Fault refusal.Unlawful) x
+  cause-answers (Refused refusal.Plan) (Z, (u, e, l, x)) =
+      checks Z (Lawful u) (e, l)
+      ∙ ap (λ (y : Bool). (planned u y) .answer) (T-false (planFits problem (left u) p) (plan-not problem (left u) p (trace-fits problem (full-fits problem) u) x))
+  cause-answers Done (Z, (u, e, l, x)) = checks Z (Lawful u) (e, l) ∙ ap (λ (y : Bool). (planned u y) .answer) (T-true (planFits problem (left u) p) x)
+
+  some-cause : (o : Extended) × BackCause o
+  some-cause = by-sheet (sheet-or s)
+    where
+      by-check : Sized → (c : Checked) → TraceCause problem t c → (o : Extended) × BackCause o
+      by-check Z (Lawful u) x = elim (plan-or problem (left u) p) [ inl y ↦ (Done, (Z, (u, x .0, x .1, y))) | inr y ↦ (Refused refusal.Plan, (Z, (u, x .0, x .1, y))) ]
+      by-check Z (Fault refusal.TraceFront) x = (Refused refusal.TraceFront, (Z, x))
+      by-check Z (Fault refusal.Malformed) x = (Refused refusal.Malformed, (Z, x))
+      by-check Z (Fault refusal.Unlawful) x = (Refused refusal.Unlawful, (Z, x))
+      by-check Z (Fault (refusal.Sheet r)) x = absurd x
+      by-check Z (Fault refusal.PlanLength) x = absurd x
+      by-check Z (Fault refusal.ResultLength) x = absurd x
+      by-check Z (Fault refusal.Plan) x = absurd x
+
+      by-result : Keeps layout s → length p ≡ variablesOf s → (length b ≡ variablesOf s) ⊎ (length b ≢ variablesOf s) → (o : Extended) × BackCause o
+      by-result K e (inl f) = by-check (K, (e, f)) (checkTrace problem t) (checked-iff problem t (checkTrace problem t) .0 refl)
+      by-result K e (inr d) = (Refused refusal.ResultLength, (K, (e, d)))
+
+      by-plan : Keeps layout s → (length p ≡ variablesOf s) ⊎ (length p ≢ variablesOf s) → (o : Extended) × BackCause o
+      by-plan K (inl e) = by-result K e (eq-dec (length b) (variablesOf s))
+      by-plan K (inr d) = (Refused refusal.PlanLength, (K, d))
+
+      by-sheet : ((r : SheetRefusal) × (readSheet layout s ≡ read.Refused r)) ⊎ Keeps layout s → (o : Extended) × BackCause o
+      by-sheet (inl x) = (Refused (refusal.Sheet (x .0)), x .1)
+      by-sheet (inr K) = by-plan K (eq-dec (length p) (variablesOf s))
+
+  -- Putting back answers as it does for its cause and for no other.
+  pub put-back-iff : (o : Extended) → ((putBackJob s t p b) .answer ≡ o) ↔ BackCause o
+  put-back-iff o = (λ e. subst BackCause (sym (cause-answers (some-cause .0) (some-cause .1)) ∙ e) (some-cause .1), cause-answers o)
+
+  -- ---- the numbers
+
+  -- the answer that a number from 15 on stands for
+  abbrev numbered : ℕ → Extended
+  numbered k =
+      cond (eqb k 18) (Refused refusal.PlanLength)
+      (cond (eqb k 20) (Refused refusal.ResultLength)
+      (cond (eqb k 15) (Refused refusal.TraceFront)
+      (cond (eqb k 16) (Refused refusal.Malformed)
+      (cond (eqb k 17) (Refused refusal.Unlawful)
+      (Refused refusal.Plan)))))
+
+  number-back : (o : Extended) → 10 ≤ putBackNumber o → numbered (putBackNumber o) ≡ o
+  number-back Done l = absurd (omega arith)
+  number-back (Refused (refusal.Sheet r)) l = let m = sheet-number r in absurd (omega arith)
+  number-back (Refused refusal.PlanLength) l = refl
+  number-back (Refused refusal.ResultLength) l = refl
+  number-back (Refused refusal.TraceFront) l = refl
+  number-back (Refused refusal.Malformed) l = refl
+  number-back (Refused refusal.Unlawful) l = refl
+  number-back (Refused refusal.Plan) l = refl
+
+  by-number : (o : Extended) → 10 ≤ putBackNumber o → (putBackNumber ((putBackJob s t p b) .answer) ≡ putBackNumber o) ↔ BackCause o
+  by-number o l = (
+    λ e. put-back-iff o .0 (sym (number-back ((putBackJob s t p b) .answer) (rw e l)) ∙ ap numbered e ∙ number-back o l),
+    λ x. ap putBackNumber (put-back-iff o .1 x),
+  )
+
+  pub put-back-18 : (putBackNumber ((putBackJob s t p b) .answer) ≡ 18) ↔ BackCause (Refused refusal.PlanLength)
+  put-back-18 = by-number (Refused refusal.PlanLength) (omega arith)
+
+  pub put-back-20 : (putBackNumber ((putBackJob s t p b) .answer) ≡ 20) ↔ BackCause (Refused refusal.ResultLength)
+  put-back-20 = by-number (Refused refusal.ResultLength) (omega arith)
+
+  pub put-back-15 : (putBackNumber ((putBackJob s t p b) .answer) ≡ 15) ↔ BackCause (Refused refusal.TraceFront)
+  put-back-15 = by-number (Refused refusal.TraceFront) (omega arith)
+
+  pub put-back-16 : (putBackNumber ((putBackJob s t p b) .answer) ≡ 16) ↔ BackCause (Refused refusal.Malformed)
+  put-back-16 = by-number (Refused refusal.Malformed) (omega arith)
+
+  pub put-back-17 : (putBackNumber ((putBackJob s t p b) .answer) ≡ 17) ↔ BackCause (Refused refusal.Unlawful)
+  put-back-17 = by-number (Refused refusal.Unlawful) (omega arith)
+
+  pub put-back-19 : (putBackNumber ((putBackJob s t p b) .answer) ≡ 19) ↔ BackCause (Refused refusal.Plan)
+  put-back-19 = by-number (Refused refusal.Plan) (omega arith)
