@@ -6,3 +6,4 @@ pub mod Ran
 pub mod Worked
 pub mod HandOrder
 pub mod Called
+pub mod Printed

@@ -1,19 +1,16 @@
--- `reduce_sheet::main`: the bytes that are written stand in the buffer. Assumes nothing.
+-- `reduce_sheet::print_run`: the bytes that are written stand in the buffer. Assumes nothing.
 use mathlib.Core.Path.{sym}
 use native.Mathlib.Omega.{arith}
 use lib.Seq.{length-take-le}
 use borrow.Author.Needs.{needs}
-use Rattle.reduce_sheet.proofs.main.Statement.{statement}
-use Rattle.reduce_sheet.proofs.main.Tie as tie
-
-slice-aggregate-read-full : tie.Need-slice-aggregate-read-full
-slice-aggregate-read-full c = search needs
+use Rattle.reduce_sheet.proofs.print_run.Statement.{statement}
+use Rattle.reduce_sheet.proofs.print_run.Tie as tie
 
 read-full-requires : tie.Need-read-full-requires
 read-full-requires c κs = search needs
 
-array-share-prefix-sheet : tie.Need-array-share-prefix-sheet
-array-share-prefix-sheet c = search needs
+slice-reshare-prefix-report : tie.Need-slice-reshare-prefix-report
+slice-reshare-prefix-report c = search needs
 
 slice-aggregate-report : tie.Need-slice-aggregate-report
 slice-aggregate-report c = search needs
@@ -33,20 +30,23 @@ slice-aggregate-write-all c = let r = c .before .before .report in sym (length-t
 write-all-requires : tie.Need-write-all-requires
 write-all-requires c κs = search needs
 
+same-length : tie.Need-same-length
+same-length c = search needs
+
 returns : tie.Need-returns
 returns c = search needs
 
-pub main-spec : {M : Type 1} → statement M
-main-spec =
+pub print-run-spec : {M : Type 1} → statement M
+print-run-spec =
     tie.close
     (tie.spec
-    slice-aggregate-read-full
     read-full-requires
-    array-share-prefix-sheet
+    slice-reshare-prefix-report
     slice-aggregate-report
     slice-aggregate-report-2
     report-requires
     array-share-prefix-out
     slice-aggregate-write-all
     write-all-requires
+    same-length
     returns)
