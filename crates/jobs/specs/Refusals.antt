@@ -34,6 +34,7 @@ abbrev pub AllNumbered : List Numbered → Type 0
 AllNumbered [] = Unit {0}
 AllNumbered (r ∷ l) = (numberOf (r .call) ≡ r .number) × AllNumbered l
 
+-- Most rows have a later fault too, so that the order is pinned with the numbers.
 abbrev pub rows : List Numbered
 rows =
     -- the buffer: 21 bytes are needed
@@ -41,29 +42,30 @@ rows =
     ∷ record { number = 0; call = Run sheetB 21 }
     ∷ record { number = 0; call = Start sheetB }
     -- item 2 is in and not below 2; item 1 is out and has a setting on; setting 2 is on and not below 2
-    ∷ record { number = 11; call = Hand sheetB 7 (3 ∷ 3 ∷ 0 ∷ []) 0 }
-    ∷ record { number = 11; call = Hand sheetB 1 (3 ∷ 3 ∷ []) 0 }
-    ∷ record { number = 11; call = Hand sheetB 3 (7 ∷ 3 ∷ []) 0 }
+    ∷ record { number = 11; call = Hand sheetB 7 (3 ∷ 3 ∷ 0 ∷ []) 9 }
+    ∷ record { number = 11; call = Hand sheetB 1 (0 ∷ 3 ∷ []) 0 }
+    ∷ record { number = 11; call = Hand sheetB 3 (7 ∷ 0 ∷ []) 0 }
     -- item 2 is not below 2; item 0 is out
-    ∷ record { number = 12; call = Hand sheetB 3 (3 ∷ 3 ∷ []) 2 }
-    ∷ record { number = 12; call = Hand sheetB 2 (0 ∷ 3 ∷ []) 0 }
-    -- item 1, which is not the one named, has no setting on
-    ∷ record { number = 13; call = Hand sheetB 3 (3 ∷ 0 ∷ []) 0 }
+    ∷ record { number = 12; call = Hand sheetB 3 (3 ∷ 0 ∷ []) 2 }
+    ∷ record { number = 12; call = Hand sheetB 2 (0 ∷ 0 ∷ []) 0 }
+    -- item 2, which is not the one named, has no setting on
+    ∷ record { number = 13; call = Hand sheetC 7 (3 ∷ 3 ∷ 0 ∷ []) 0 }
     ∷ record { number = 14; call = Hand sheetC 7 (3 ∷ 3 ∷ 3 ∷ []) 0 }
     ∷ record { number = 0; call = Hand sheetB 3 (3 ∷ 3 ∷ []) 0 }
-    -- no byte; byte 0 is not 1
-    ∷ record { number = 15; call = Back sheetA [] (0 ∷ []) 1 }
-    ∷ record { number = 15; call = Back sheetA (2 ∷ []) (0 ∷ []) 1 }
-    -- cut short; an unknown kind; the length byte of another kind
-    ∷ record { number = 16; call = Back sheetA (1 ∷ 3 ∷ 2 ∷ 0 ∷ []) (0 ∷ []) 1 }
-    ∷ record { number = 16; call = Back sheetA (1 ∷ 3 ∷ 6 ∷ 0 ∷ 0 ∷ []) (0 ∷ []) 1 }
-    ∷ record { number = 16; call = Back sheetA (1 ∷ 4 ∷ 2 ∷ 0 ∷ 0 ∷ 0 ∷ []) (0 ∷ []) 1 }
-    -- setting 2 of item 0, which has two; a record once item 0 has no setting on
-    ∷ record { number = 17; call = Back sheetA (1 ∷ 3 ∷ 2 ∷ 0 ∷ 2 ∷ []) (0 ∷ []) 1 }
-    ∷ record { number = 17; call = Back sheetD (1 ∷ 4 ∷ 1 ∷ 0 ∷ 0 ∷ 1 ∷ 4 ∷ 1 ∷ 1 ∷ 0 ∷ 0 ∷ []) (0 ∷ 0 ∷ []) 2 }
     -- two bytes of plan, or of result, for one item
-    ∷ record { number = 18; call = Back sheetA (1 ∷ []) (0 ∷ 0 ∷ []) 1 }
-    ∷ record { number = 20; call = Back sheetA (1 ∷ []) (0 ∷ []) 2 }
+    ∷ record { number = 18; call = Back sheetA [] (9 ∷ 9 ∷ []) 2 }
+    ∷ record { number = 20; call = Back sheetA [] (9 ∷ []) 2 }
+    -- no byte; byte 0 is not 1
+    ∷ record { number = 15; call = Back sheetA [] (9 ∷ []) 1 }
+    ∷ record { number = 15; call = Back sheetA (2 ∷ 0 ∷ []) (9 ∷ []) 1 }
+    -- cut short; an unknown kind; the length byte of another kind
+    ∷ record { number = 16; call = Back sheetA (1 ∷ 3 ∷ 2 ∷ 0 ∷ []) (9 ∷ []) 1 }
+    ∷ record { number = 16; call = Back sheetA (1 ∷ 3 ∷ 6 ∷ 0 ∷ 0 ∷ []) (9 ∷ []) 1 }
+    ∷ record { number = 16; call = Back sheetA (1 ∷ 4 ∷ 2 ∷ 0 ∷ 0 ∷ 0 ∷ []) (9 ∷ []) 1 }
+    -- setting 2 of item 0, which has two; a record once item 0 has no setting on; an unlawful record before a malformed one
+    ∷ record { number = 17; call = Back sheetA (1 ∷ 3 ∷ 2 ∷ 0 ∷ 2 ∷ []) (9 ∷ []) 1 }
+    ∷ record { number = 17; call = Back sheetD (1 ∷ 4 ∷ 1 ∷ 0 ∷ 0 ∷ 1 ∷ 4 ∷ 1 ∷ 1 ∷ 0 ∷ 0 ∷ []) (0 ∷ 0 ∷ []) 2 }
+    ∷ record { number = 17; call = Back sheetA (1 ∷ 3 ∷ 2 ∷ 0 ∷ 2 ∷ 3 ∷ []) (9 ∷ []) 1 }
     -- item 0 is out and not 255; setting 2 is not on; the pair is barred
     ∷ record { number = 19; call = Back sheetA (1 ∷ 3 ∷ 2 ∷ 0 ∷ 0 ∷ []) (0 ∷ []) 1 }
     ∷ record { number = 19; call = Back sheetA (1 ∷ []) (2 ∷ []) 1 }
