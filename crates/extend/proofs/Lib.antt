@@ -1,6 +1,7 @@
 pub mod Range
 pub mod First
 pub mod Walk
+pub mod Turn
 pub mod Plan
 pub mod Undo
 pub mod Back

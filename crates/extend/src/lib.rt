@@ -19,7 +19,7 @@ ghost use Rattle.sheet.specs.Sheet.{Keeps, layout, variablesOf};
 ghost use Rattle.sheet.specs.Relation.{problemOf};
 ghost use Rattle.rules.specs.Ready.{Ready, Value};
 ghost use Rattle.jobs.specs.PutBack.{planOf, planFits, checkTrace, afterCheck, putBackJob};
-ghost use Rattle.extend.specs.Walk.{checkedFrom, ended, faulty, lawfulEnd};
+ghost use Rattle.extend.specs.Walk.{checkedFrom, ended, faulty, lawfulEnd, goingOn, stoppedWith, checkedTurn};
 ghost use Rattle.extend.specs.Plan.{entryFits, Entries, pairFits, pairsOf};
 ghost use Rattle.extend.specs.Undone.{mended as mendedAt, Left, Undoable, UndoableFrom, undoneBy};
 use bounded::has16;
@@ -31,6 +31,9 @@ use problem::Masks;
 use problem::Record;
 use problem::empty_masks;
 use sheet::SheetRead;
+use trace::moved;
+use trace::peek;
+use trace::placed;
 use trace::read_at;
 
 // What checking a trace finds.
@@ -148,34 +151,62 @@ fn fault(e: ExtendRefusal) -> TraceEnd
     }
 }
 
-// Record by record from the place after the front, each in the state that the records before it lead to.
+// A check on its way: its answer so far, and whether it goes on.
+struct Checking {
+    pub end: TraceEnd,
+    pub on: bool,
+}
+
+// On, in a state that lawful records lead to.
+fn going(m: Masks) -> Checking
+    ensures { λ r. ⌜ r ≡ goingOn m ⌝ }
+{
+    let end = TraceEnd {
+        check: TraceCheck::Lawful,
+        state: m,
+    };
+    Checking { end, on: true }
+}
+
+// At its end, with its answer.
+fn stopped(end: TraceEnd) -> Checking
+    ensures { λ r. ⌜ r ≡ stoppedWith end ⌝ }
+{
+    Checking { end, on: false }
+}
+
+// One turn: what the reader found, in the state so far.
+fn check_record(t: &[u16], c: Checking, x: RecordRead) -> Checking
+    requires { ⌜ Ready (now t) (c .end .state) ⌝ }
+    ensures { λ r. ⌜ r ≡ checkedTurn (held (now (t .entry))) c x ⌝ }
+{
+    let end = c.end;
+    let m = end.state;
+    match x {
+        RecordRead::Read { record, next: _ } => {
+            if lawful(t, m, record) {
+                going(apply(t, m, record))
+            } else {
+                stopped(fault(ExtendRefusal::Unlawful))
+            }
+        }
+        RecordRead::End => stopped(end),
+        RecordRead::Malformed => stopped(fault(ExtendRefusal::Malformed)),
+    }
+}
+
+// Record by record from the place after the front, each in the state that the records before it lead to: one reader, which each turn moves.
 fn check_records(t: &[u16], trace: &[u8], first: Masks) -> TraceEnd
     requires { ⌜ Ready (now t) first ⌝ }
     ensures { λ r. ⌜ r ≡ ended (held (now (t .entry))) (stateOf first) (checkedFrom (held (now (t .entry))) (now (trace .entry)) (stateOf first) 1) ⌝ }
 {
-    let mut m = first;
-    let mut at: usize = 1;
-    loop {
-        let found = read_at(trace, at);
-        match found {
-            RecordRead::Read { record, next } => {
-                if !lawful(t, m, record) {
-                    return fault(ExtendRefusal::Unlawful);
-                }
-                m = apply(t, m, record);
-                at = next;
-            }
-            RecordRead::End => {
-                return TraceEnd {
-                    check: TraceCheck::Lawful,
-                    state: m,
-                };
-            }
-            RecordRead::Malformed => {
-                return fault(ExtendRefusal::Malformed);
-            }
-        }
+    let mut r = placed(trace, 1);
+    let mut c = going(first);
+    while c.on {
+        c = check_record(t, c, peek(r));
+        r = moved(r);
     }
+    c.end
 }
 
 // The whole trace from the first state: its front, then its records.
