@@ -5,5 +5,7 @@ pub mod Turn
 pub mod Plan
 pub mod Undo
 pub mod Back
+pub mod Found
+pub mod Again
 pub mod Job
 pub mod Demands

@@ -22,6 +22,7 @@ ghost use Rattle.jobs.specs.PutBack.{planOf, planFits, checkTrace, afterCheck, 
 ghost use Rattle.extend.specs.Walk.{checkedFrom, ended, faulty, lawfulEnd, goingOn, stoppedWith, checkedTurn};
 ghost use Rattle.extend.specs.Plan.{entryFits, Entries, pairFits, pairsOf};
 ghost use Rattle.extend.specs.Undone.{mended as mendedAt, Left, Undoable, UndoableFrom, undoneBy};
+ghost use Rattle.extend.specs.Found.{isRecord, LawfulFound, afterFound, UndoableFound, undoneFound};
 use bounded::has16;
 use bounded::has32;
 use jobs::ExtendRefusal;
@@ -31,10 +32,10 @@ use problem::Masks;
 use problem::Record;
 use problem::empty_masks;
 use sheet::SheetRead;
+use trace::Reader;
 use trace::moved;
 use trace::peek;
 use trace::placed;
-use trace::read_at;
 
 // What checking a trace finds.
 enum TraceCheck {
@@ -440,21 +441,59 @@ fn undo_record(t: &[u16], m: Masks, r: Record, out: &mut [u8])
     }
 }
 
-// The records from a place on undone, last first: each call keeps the state before its record until the later ones are undone.
-fn undo_from(t: &[u16], m: Masks, trace: &[u8], at: usize, out: &mut [u8])
-    requires { ⌜ Ready (now t) m × (UndoableFrom (now t) (now trace) m at (now out)) ⌝ }
-    ensures { λ _. ⌜ now (out .exit) ≡ undoneBy (held (now (t .entry))) (stateOf m) (checkedFrom (held (now (t .entry))) (now (trace .entry)) (stateOf m) at) (now (out .entry)) ⌝ }
+// A whole record was found.
+fn is_record(x: RecordRead) -> bool
+    ensures { λ r. ⌜ r ≡ isRecord x ⌝ }
 {
-    let found = read_at(trace, at);
-    match found {
-        RecordRead::Read { record, next } => {
-            let later = apply(t, m, record);
-            undo_from(t, later, trace, next, out);
-            undo_record(t, m, record, out);
-        }
+    match x {
+        RecordRead::Read { record: _, next: _ } => true,
+        RecordRead::End => false,
+        RecordRead::Malformed => false,
+    }
+}
+
+// The state after what was found: a lawful record's, and otherwise the same.
+fn after_found(t: &[u16], m: Masks, x: RecordRead) -> Masks
+    requires { ⌜ Ready (now t) m × LawfulFound (now t) m x ⌝ }
+    ensures { λ r. ⌜ r ≡ afterFound (held (now (t .entry))) m x ⌝ }
+{
+    match x {
+        RecordRead::Read { record, next: _ } => apply(t, m, record),
+        RecordRead::End => m,
+        RecordRead::Malformed => m,
+    }
+}
+
+// What was found undone: a record, and otherwise nothing.
+fn undo_found(t: &[u16], m: Masks, x: RecordRead, out: &mut [u8])
+    requires { ⌜ Ready (now t) m × UndoableFound (now t) m x (now out) ⌝ }
+    ensures { λ _. ⌜ now (out .exit) ≡ undoneFound (held (now (t .entry))) (stateOf m) x (now (out .entry)) ⌝ }
+{
+    match x {
+        RecordRead::Read { record, next: _ } => undo_record(t, m, record, out),
         RecordRead::End => {}
         RecordRead::Malformed => {}
     }
+}
+
+// The records from the reader's place on undone, last first: each call keeps the state before its record until the later ones are undone.
+fn undo_from<'a>(t: &[u16], m: Masks, r: Reader<'a>, out: &mut [u8])
+    requires { ⌜ Ready (now t) m × (UndoableFrom (now t) (now (r .src)) m (r .at) (now out)) ⌝ }
+    ensures { λ _. ⌜ now (out .exit) ≡ undoneBy (held (now (t .entry))) (stateOf m) (checkedFrom (held (now (t .entry))) (now (r .entry .src)) (stateOf m) (r .entry .at)) (now (out .entry)) ⌝ }
+{
+    let x = peek(r);
+    if is_record(x) {
+        undo_from(t, after_found(t, m, x), moved(r), out);
+        undo_found(t, m, x, out);
+    }
+}
+
+// The whole trace undone from the first state, by one reader: plain parameters, so that its caller needs no walk.
+fn undo_all(t: &[u16], first: Masks, trace: &[u8], out: &mut [u8])
+    requires { ⌜ Ready (now t) first × (UndoableFrom (now t) (now trace) first 1 (now out)) ⌝ }
+    ensures { λ _. ⌜ now (out .exit) ≡ undoneBy (held (now (t .entry))) (stateOf first) (checkedFrom (held (now (t .entry))) (now (trace .entry)) (stateOf first) 1) (now (out .entry)) ⌝ }
+{
+    undo_from(t, first, placed(trace, 1), out);
 }
 
 // ---- the job
@@ -487,7 +526,7 @@ fn finish(
         return Extended::Refused(ExtendRefusal::Plan);
     }
     copy(plan, out);
-    undo_from(t, first, trace, 1, out);
+    undo_all(t, first, trace, out);
     Extended::Done
 }
 

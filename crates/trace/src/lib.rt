@@ -128,13 +128,6 @@ pub fn moved<'a>(r: Reader<'a>) -> Reader<'a>
     Reader { src: r.src, at }
 }
 
-// What a reader of these bytes finds at a place: plain parameters, so that its callers need no walk.
-pub fn read_at(s: &[u8], at: usize) -> RecordRead
-    ensures { λ r. ⌜ r ≡ recordAt (now (s .entry)) at ⌝ }
-{
-    peek(placed(s, at))
-}
-
 // ---- writing
 
 // A record of three bytes after its length byte; the place after it.
