@@ -124,8 +124,10 @@ pub fn peek<'a>(r: Reader<'a>) -> RecordRead
 pub fn moved<'a>(r: Reader<'a>) -> Reader<'a>
     ensures { λ q. ⌜ (q .src ≡ r .entry .src) × (q .at ≡ placeAfter (now (r .entry .src)) (r .entry .at)) ⌝ }
 {
-    let at = place_after(r.src, r.at);
-    Reader { src: r.src, at }
+    Reader {
+        src: r.src,
+        at: place_after(r.src, r.at),
+    }
 }
 
 // ---- writing

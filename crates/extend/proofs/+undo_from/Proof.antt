@@ -6,7 +6,7 @@
 --     method        the contract where a number of bytes is left, from the contract where fewer are
 -- Assumes nothing.
 use mathlib.Core.Path.{_≡_, refl, sym, ap, subst, _∙_}
-use mathlib.Core.Bool.{Bool, true, false, not}
+use mathlib.Core.Bool.{Bool}
 use Prim.Native.Nat.{ℕ, _-_, _<_, _^_}
 use mathlib.Core.List.{List, [], _∷_}
 use lib.Dec.{T as Holds}
@@ -51,6 +51,7 @@ use denote.Triple.Table.{cited}
 use denote.Triple.Walked.{says, needs, Stays, stay-none, stay-none-slice, stay-slice, walkOf, goes-none, goes-none-slice, goes-slice, ends-at, walked-at, walk-meets-at}
 use denote.Exit.{yes}
 use denote.Triple.Clauses.{Lasts, ensured, lasts}
+use Rattle.bounded.proofs.Truth.{T-true, T-false, not-iff}
 use Rattle.problem.specs.Held.{held}
 use Rattle.problem.specs.Masks.{stateOf}
 use Rattle.problem.specs.declared.Masks.{Masks}
@@ -101,14 +102,6 @@ B κs = T.the-row (namedLft 3 1 tt κs)
 
 abbrev stayed : Stays (undo.ended .signature .params) (undo.ended .kept)
 stayed = (stay-none-slice (0 ∷ []) tt (plain (λ _. u16)) yes, (stay-none (λ _. N.the-row) yes, (stay-none B yes, (stay-slice (2 ∷ []) tt (plain (λ _. u8)), tt))))
-
-on-true : (b : Bool) → Holds b → b ≡ true
-on-true true h = refl
-on-true false h = absurd h
-
-off-false : (b : Bool) → Holds (not b) → b ≡ false
-off-false true h = absurd h
-off-false false h = refl
 
 -- the machine value of a state
 abbrev f : Masks → Val
@@ -355,24 +348,24 @@ module _ {M : Type 1} (𝓤 : URA M) (H : Heap 𝓤) (A : Atoms 𝓤) (W : Given
         land ! (from ! (stop !)) (init ! 16 refl (rd-typed 𝓤 H A W κr s iss p′ ok′)) $
         assigns ! (addr ! (from ! (fld ! refl (hop ! (look-in ! 28 (sub ! 0 refl (whole !))) (stop !))))) (from ! (stop !)) (init ! 12 refl (tt, tt)) $
         assigns ! (agg ! (and-then ! (load ! (from ! (stop !)) (look ! 12 refl)) (and-then ! (load ! (from ! (fld ! refl (stop !))) (look-in ! 28 (sub ! 1 refl (whole !)))) (no-more !)))) (from ! (stop !)) (init ! 10 refl (tt, (tt, (record { fits = room .0 }, tt)))) $
-        calls-self 𝓤 H A W mem run κt κr κo qt qr qo t s b o γ n ! fm m′ p′ ys ism′ ok′ refl room (later-ready (able .0) (now s) p (able .1) (on-true _ on)) (later-undoable (able .0) (now s) p (able .1) (on-true _ on))
-        (λ ν δ. self (to-self 𝓤 H A W mem run κt κr κo qt qr qo t s b o γ n (ν ∷ []) fullShare δ m′ p′ ys) (nearer (able .0) (now s) p (able .1) (on-true _ on)))
+        calls-self 𝓤 H A W mem run κt κr κo qt qr qo t s b o γ n ! fm m′ p′ ys ism′ ok′ refl room (later-ready (able .0) (now s) p (able .1) (T-true (isRecord y) on)) (later-undoable (able .0) (now s) p (able .1) (T-true (isRecord y) on))
+        (λ ν δ. self (to-self 𝓤 H A W mem run κt κr κo qt qr qo t s b o γ n (ν ∷ []) fullShare δ m′ p′ ys) (nearer (able .0) (now s) p (able .1) (T-true (isRecord y) on)))
         (λ ν δ. and-then ! (load ! (from ! (stop !)) (look ! 32 refl)) (and-then ! (load ! (from ! (stop !)) (look ! 16 refl)) (and-then ! (load ! (from ! (stop !)) (look ! 14 refl)) (and-then ! (load ! (from ! (stop !)) (look ! 8 refl)) (no-more !))))) (λ zs ez lz.
         land ! (from ! (stop !)) (init ! 20 refl (tt, tt)) $
         assigns ! (addr ! (from ! (fld ! refl (hop ! (look-in ! 28 (sub ! 0 refl (whole !))) (stop !))))) (from ! (stop !)) (init ! 8 refl (tt, tt)) $
         assigns ! (agg ! (and-then ! (load ! (from ! (stop !)) (look ! 8 refl)) (and-then ! (load ! (from ! (fld ! refl (stop !))) (look-in ! 28 (sub ! 1 refl (whole !)))) (no-more !)))) (from ! (stop !)) (init ! 6 refl (tt, (tt, (record { fits = room .0 }, tt)))) $
-        calls-found 𝓤 H A W mem run κt κr κo qt qr qo t s b o γ n ! fm known-found m y u zs ism is lz room (able .0) (found-undoable (able .0) (now s) p (able .1) (on-true _ on) zs ez)
+        calls-found 𝓤 H A W mem run κt κr κo qt qr qo t s b o γ n ! fm known-found m y u zs ism is lz room (able .0) (found-undoable (able .0) (now s) p (able .1) (T-true (isRecord y) on) zs ez)
         (λ ν δ. and-then ! (load ! (from ! (stop !)) (look ! 33 refl)) (and-then ! (load ! (from ! (stop !)) (look ! 31 refl)) (and-then ! (load ! (from ! (stop !)) (look ! 25 refl)) (and-then ! (load ! (from ! (stop !)) (look ! 5 refl)) (no-more !))))) (λ us eu lu.
         land-last ! (from ! (stop !)) (store ! 20 refl (tt, tt)) $ exec ! C Λ _ mir.t-5 (atRet _ Ends) $
         assigns ! (of-opd ! (unit-lit !)) (from ! (stop !)) (init ! 36 refl (tt, tt)) $
         returns ! (look ! 36 refl) $ forget ! 6 refl $ forget ! 8 refl $ forget ! 10 refl $ forget ! 12 refl $ forget ! 14 refl $ forget ! 16 refl $ forget ! 18 refl $ forget ! 20 refl $ forget ! 22 refl $ forget ! 24 refl $ forget ! 26 refl $ forget ! 28 refl $ forget ! 30 refl $ forget ! 32 refl $ forget ! 34 refl $ forget ! 36 refl $
         move ! (36 ∷ 37 ∷ []) $ free1 ! $ move ! (34 ∷ 35 ∷ []) $ free1 ! $ move ! (32 ∷ 33 ∷ []) $ free1 ! $ move ! (30 ∷ 31 ∷ []) $ free1 ! $ move ! (28 ∷ 29 ∷ []) $ free1 ! $ move ! (26 ∷ 27 ∷ []) $ free1 ! $ move ! (24 ∷ 25 ∷ []) $ free1 ! $ move ! (22 ∷ 23 ∷ []) $ free1 ! $ move ! (20 ∷ 21 ∷ []) $ free1 ! $ move ! (18 ∷ 19 ∷ []) $ free1 ! $ move ! (16 ∷ 17 ∷ []) $ free1 ! $ move ! (14 ∷ 15 ∷ []) $ free1 ! $ move ! (12 ∷ 13 ∷ []) $ free1 ! $ move ! (10 ∷ 11 ∷ []) $ free1 ! $ move ! (8 ∷ 9 ∷ []) $ free1 ! $ move ! (6 ∷ 7 ∷ []) $ free1 ! $ free0 ! $
-        by ! (exits ism ok us (found-undone (able .0) (now s) p (able .1) (on-true _ on) zs ez us eu) lu))))))
+        by ! (exits ism ok us (found-undone (able .0) (now s) p (able .1) (T-true (isRecord y) on) zs ez us eu) lu))))))
         (λ off. skips ! $ exec ! C Λ _ mir.t-5 (atRet _ Ends) $
         assigns ! (of-opd ! (unit-lit !)) (from ! (stop !)) (init ! 36 refl (tt, tt)) $
         returns ! (look ! 36 refl) $ forget ! 22 refl $ forget ! 24 refl $ forget ! 26 refl $ forget ! 28 refl $ forget ! 30 refl $ forget ! 32 refl $ forget ! 34 refl $ forget ! 36 refl $
         move ! (36 ∷ 37 ∷ []) $ free1 ! $ move ! (34 ∷ 35 ∷ []) $ free1 ! $ move ! (32 ∷ 33 ∷ []) $ free1 ! $ move ! (30 ∷ 31 ∷ []) $ free1 ! $ move ! (28 ∷ 29 ∷ []) $ free1 ! $ move ! (26 ∷ 27 ∷ []) $ free1 ! $ move ! (24 ∷ 25 ∷ []) $ free1 ! $ move ! (22 ∷ 23 ∷ []) $ free1 ! $ move ! (20 ∷ 21 ∷ []) $ free1 ! $ move ! (18 ∷ 19 ∷ []) $ free1 ! $ move ! (16 ∷ 17 ∷ []) $ free1 ! $ move ! (14 ∷ 15 ∷ []) $ free1 ! $ move ! (12 ∷ 13 ∷ []) $ free1 ! $ move ! (10 ∷ 11 ∷ []) $ free1 ! $ move ! (8 ∷ 9 ∷ []) $ free1 ! $ move ! (6 ∷ 7 ∷ []) $ free1 ! $ free0 ! $
-        by ! (exits ism ok ys (none-undone (able .0) (now s) p (able .1) (off-false _ off)) refl))))))))))))))))))))
+        by ! (exits ism ok ys (none-undone (able .0) (now s) p (able .1) (T-false (isRecord y) (not-iff (isRecord y) .0 off))) refl))))))))))))))))))))
 
 module _ {M : Type 1} (𝓤 : URA M) (H : Heap 𝓤) (A : Atoms 𝓤) (W : Given 𝓤 H A) (mem : Memory → SProp 𝓤) (run : Routine → Fun 𝓤) (𝓣 : Tables 𝓤 H) where
   method : Triple 𝓤 (𝓣 .C #trace·peek) (Peek 𝓤 H A mem run) → Triple 𝓤 (𝓣 .C #extend·is-record) (Tested 𝓤 H A mem run) → Triple 𝓤 (𝓣 .C #extend·after-found) (After 𝓤 H A mem run)

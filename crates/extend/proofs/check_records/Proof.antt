@@ -5,7 +5,6 @@
 --     looped      the loop and the rest of the body. In one declaration with `walk` the two take too many steps
 -- Assumes nothing.
 use mathlib.Core.Path.{_≡_, refl, subst}
-use mathlib.Core.Bool.{Bool, true, false, not}
 use mathlib.Core.WellFounded.{WellFounded, InvImage·wf}
 use Prim.Native.Nat.{ℕ, _<_, _^_}
 use mathlib.Core.List.{List, [], _∷_}
@@ -43,6 +42,7 @@ use denote.Triple.Table.{entered, cited}
 use denote.Triple.Walked.{says, needs, Stays, stay-none, stay-none-slice, walkOf, goes-none, goes-none-slice, ends-at, walked, walk-meets}
 use denote.Exit.{yes}
 use denote.Triple.Clauses.{ensured, lasts}
+use Rattle.bounded.proofs.Truth.{T-true, T-false, not-iff}
 use Rattle.jobs.specs.Trace.{recordAt}
 use Rattle.jobs.specs.declared.RecordRead.{RecordRead}
 use Rattle.jobs.proofs.RecordRead as S
@@ -90,14 +90,6 @@ use Rattle.extend.proofs.check_records.Code.Mir as mir
 
 abbrev stayed : Stays (records.ended .signature .params) (records.ended .kept)
 stayed = (stay-none-slice (0 ∷ []) tt (plain (λ _. u16)) yes, (stay-none-slice (1 ∷ []) tt (plain (λ _. u8)) yes, (stay-none (λ _. K.the-row) yes, tt)))
-
-on-true : (b : Bool) → Holds b → b ≡ true
-on-true true h = refl
-on-true false h = absurd h
-
-off-false : (b : Bool) → Holds (not b) → b ≡ false
-off-false true h = absurd h
-off-false false h = refl
 
 -- a check on its way that the machine holds, with the place of its reader, and that is right so far
 record Turn (t s : List ℕ) (m : Masks) : Type 0 where
@@ -249,13 +241,13 @@ module _ {M : Type 1} (𝓤 : URA M) (H : Heap 𝓤) (A : Atoms 𝓤) (W : Given
           returns ! (look ! 22 refl) $ forget ! 10 refl $ forget ! 12 refl $ forget ! 14 refl $ forget ! 16 refl $ forget ! 18 refl $ forget ! 20 refl $ forget ! 22 refl $
           move ! (22 ∷ 23 ∷ []) $ free1 ! $ move ! (20 ∷ 21 ∷ []) $ free1 ! $ move ! (18 ∷ 19 ∷ []) $ free1 ! $ move ! (16 ∷ 17 ∷ []) $ free1 ! $ move ! (14 ∷ 15 ∷ []) $ free1 ! $
           move ! (12 ∷ 13 ∷ []) $ free1 ! $ move ! (10 ∷ 11 ∷ []) $ free1 ! $ move ! (8 ∷ 9 ∷ []) $ free1 ! $ move ! (6 ∷ 7 ∷ []) $ free1 ! $ move ! (4 ∷ 5 ∷ []) $ free1 ! $ free0 ! $
-          by ! (exits (k .c) known-m (end-is (k .c) (k .is)) (good-off (now t) (now s) m (k .c) (k .p) (k .good) (off-false (k .c .on) off))))
+          by ! (exits (k .c) known-m (end-is (k .c) (k .is)) (good-off (now t) (now s) m (k .c) (k .p) (k .good) (T-false (k .c .on) (not-iff (k .c .on) .0 off)))))
         where
           ready : Holds (k .c .on) → Ready (now t) (k .c .end .state)
-          ready on = good-on (now t) (now s) m (k .c) (k .p) (k .good) (on-true (k .c .on) on) .0
+          ready on = good-on (now t) (now s) m (k .c) (k .p) (k .good) (T-true (k .c .on) on) .0
 
           kept : Holds (k .c .on) → Good (now t) (now s) m (c′ k) (p′ k) × (turns-left (now t) (now s) m (c′ k) (p′ k) < turns-left (now t) (now s) m (k .c) (k .p))
-          kept on = turn-good (now t) (now s) m (k .c) (k .p) (k .good) (on-true (k .c .on) on)
+          kept on = turn-good (now t) (now s) m (k .c) (k .p) (k .good) (T-true (k .c .on) on)
 
       looped : (k : Step) → Sq W (At k) (runs C Λ En mir.t-3 (atRet En Post))
       looped k = first ! $ blocks ! $ loops ! 𝓣 (Nearer (now t) (now s) m) (Nearer-wf (now t) (now s) m) At turns k
