@@ -1,3 +1,4 @@
 pub mod Walk
 pub mod Plan
 pub mod Undone
+pub mod Found

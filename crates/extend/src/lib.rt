@@ -19,9 +19,10 @@ ghost use Rattle.sheet.specs.Sheet.{Keeps, layout, variablesOf};
 ghost use Rattle.sheet.specs.Relation.{problemOf};
 ghost use Rattle.rules.specs.Ready.{Ready, Value};
 ghost use Rattle.jobs.specs.PutBack.{planOf, planFits, checkTrace, afterCheck, putBackJob};
-ghost use Rattle.extend.specs.Walk.{checkedFrom, ended, faulty, lawfulEnd};
+ghost use Rattle.extend.specs.Walk.{checkedFrom, ended, faulty, lawfulEnd, goingOn, stoppedWith, checkedTurn};
 ghost use Rattle.extend.specs.Plan.{entryFits, Entries, pairFits, pairsOf};
 ghost use Rattle.extend.specs.Undone.{mended as mendedAt, Left, Undoable, UndoableFrom, undoneBy};
+ghost use Rattle.extend.specs.Found.{isRecord, LawfulFound, afterFound, UndoableFound, undoneFound};
 use bounded::has16;
 use bounded::has32;
 use jobs::ExtendRefusal;
@@ -31,7 +32,10 @@ use problem::Masks;
 use problem::Record;
 use problem::empty_masks;
 use sheet::SheetRead;
-use trace::read_at;
+use trace::Reader;
+use trace::moved;
+use trace::peek;
+use trace::placed;
 
 // What checking a trace finds.
 enum TraceCheck {
@@ -148,34 +152,62 @@ fn fault(e: ExtendRefusal) -> TraceEnd
     }
 }
 
-// Record by record from the place after the front, each in the state that the records before it lead to.
+// A check on its way: its answer so far, and whether it goes on.
+struct Checking {
+    pub end: TraceEnd,
+    pub on: bool,
+}
+
+// On, in a state that lawful records lead to.
+fn going(m: Masks) -> Checking
+    ensures { λ r. ⌜ r ≡ goingOn m ⌝ }
+{
+    let end = TraceEnd {
+        check: TraceCheck::Lawful,
+        state: m,
+    };
+    Checking { end, on: true }
+}
+
+// At its end, with its answer.
+fn stopped(end: TraceEnd) -> Checking
+    ensures { λ r. ⌜ r ≡ stoppedWith end ⌝ }
+{
+    Checking { end, on: false }
+}
+
+// One turn: what the reader found, in the state so far.
+fn check_record(t: &[u16], c: Checking, x: RecordRead) -> Checking
+    requires { ⌜ Ready (now t) (c .end .state) ⌝ }
+    ensures { λ r. ⌜ r ≡ checkedTurn (held (now (t .entry))) c x ⌝ }
+{
+    let end = c.end;
+    let m = end.state;
+    match x {
+        RecordRead::Read { record, next: _ } => {
+            if lawful(t, m, record) {
+                going(apply(t, m, record))
+            } else {
+                stopped(fault(ExtendRefusal::Unlawful))
+            }
+        }
+        RecordRead::End => stopped(end),
+        RecordRead::Malformed => stopped(fault(ExtendRefusal::Malformed)),
+    }
+}
+
+// Record by record from the place after the front, each in the state that the records before it lead to: one reader, which each turn moves.
 fn check_records(t: &[u16], trace: &[u8], first: Masks) -> TraceEnd
     requires { ⌜ Ready (now t) first ⌝ }
     ensures { λ r. ⌜ r ≡ ended (held (now (t .entry))) (stateOf first) (checkedFrom (held (now (t .entry))) (now (trace .entry)) (stateOf first) 1) ⌝ }
 {
-    let mut m = first;
-    let mut at: usize = 1;
-    loop {
-        let found = read_at(trace, at);
-        match found {
-            RecordRead::Read { record, next } => {
-                if !lawful(t, m, record) {
-                    return fault(ExtendRefusal::Unlawful);
-                }
-                m = apply(t, m, record);
-                at = next;
-            }
-            RecordRead::End => {
-                return TraceEnd {
-                    check: TraceCheck::Lawful,
-                    state: m,
-                };
-            }
-            RecordRead::Malformed => {
-                return fault(ExtendRefusal::Malformed);
-            }
-        }
+    let mut r = placed(trace, 1);
+    let mut c = going(first);
+    while c.on {
+        c = check_record(t, c, peek(r));
+        r = moved(r);
     }
+    c.end
 }
 
 // The whole trace from the first state: its front, then its records.
@@ -409,21 +441,59 @@ fn undo_record(t: &[u16], m: Masks, r: Record, out: &mut [u8])
     }
 }
 
-// The records from a place on undone, last first: each call keeps the state before its record until the later ones are undone.
-fn undo_from(t: &[u16], m: Masks, trace: &[u8], at: usize, out: &mut [u8])
-    requires { ⌜ Ready (now t) m × (UndoableFrom (now t) (now trace) m at (now out)) ⌝ }
-    ensures { λ _. ⌜ now (out .exit) ≡ undoneBy (held (now (t .entry))) (stateOf m) (checkedFrom (held (now (t .entry))) (now (trace .entry)) (stateOf m) at) (now (out .entry)) ⌝ }
+// A whole record was found.
+fn is_record(x: RecordRead) -> bool
+    ensures { λ r. ⌜ r ≡ isRecord x ⌝ }
 {
-    let found = read_at(trace, at);
-    match found {
-        RecordRead::Read { record, next } => {
-            let later = apply(t, m, record);
-            undo_from(t, later, trace, next, out);
-            undo_record(t, m, record, out);
-        }
+    match x {
+        RecordRead::Read { record: _, next: _ } => true,
+        RecordRead::End => false,
+        RecordRead::Malformed => false,
+    }
+}
+
+// The state after what was found: a lawful record's, and otherwise the same.
+fn after_found(t: &[u16], m: Masks, x: RecordRead) -> Masks
+    requires { ⌜ Ready (now t) m × LawfulFound (now t) m x ⌝ }
+    ensures { λ r. ⌜ r ≡ afterFound (held (now (t .entry))) m x ⌝ }
+{
+    match x {
+        RecordRead::Read { record, next: _ } => apply(t, m, record),
+        RecordRead::End => m,
+        RecordRead::Malformed => m,
+    }
+}
+
+// What was found undone: a record, and otherwise nothing.
+fn undo_found(t: &[u16], m: Masks, x: RecordRead, out: &mut [u8])
+    requires { ⌜ Ready (now t) m × UndoableFound (now t) m x (now out) ⌝ }
+    ensures { λ _. ⌜ now (out .exit) ≡ undoneFound (held (now (t .entry))) (stateOf m) x (now (out .entry)) ⌝ }
+{
+    match x {
+        RecordRead::Read { record, next: _ } => undo_record(t, m, record, out),
         RecordRead::End => {}
         RecordRead::Malformed => {}
     }
+}
+
+// The records from the reader's place on undone, last first: each call keeps the state before its record until the later ones are undone.
+fn undo_from<'a>(t: &[u16], m: Masks, r: Reader<'a>, out: &mut [u8])
+    requires { ⌜ Ready (now t) m × (UndoableFrom (now t) (now (r .src)) m (r .at) (now out)) ⌝ }
+    ensures { λ _. ⌜ now (out .exit) ≡ undoneBy (held (now (t .entry))) (stateOf m) (checkedFrom (held (now (t .entry))) (now (r .entry .src)) (stateOf m) (r .entry .at)) (now (out .entry)) ⌝ }
+{
+    let x = peek(r);
+    if is_record(x) {
+        undo_from(t, after_found(t, m, x), moved(r), out);
+        undo_found(t, m, x, out);
+    }
+}
+
+// The whole trace undone from the first state, by one reader: plain parameters, so that its caller needs no walk.
+fn undo_all(t: &[u16], first: Masks, trace: &[u8], out: &mut [u8])
+    requires { ⌜ Ready (now t) first × (UndoableFrom (now t) (now trace) first 1 (now out)) ⌝ }
+    ensures { λ _. ⌜ now (out .exit) ≡ undoneBy (held (now (t .entry))) (stateOf first) (checkedFrom (held (now (t .entry))) (now (trace .entry)) (stateOf first) 1) (now (out .entry)) ⌝ }
+{
+    undo_from(t, first, placed(trace, 1), out);
 }
 
 // ---- the job
@@ -456,7 +526,7 @@ fn finish(
         return Extended::Refused(ExtendRefusal::Plan);
     }
     copy(plan, out);
-    undo_from(t, first, trace, 1, out);
+    undo_all(t, first, trace, out);
     Extended::Done
 }
 

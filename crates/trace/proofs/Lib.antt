@@ -3,3 +3,6 @@ pub mod Read
 pub mod Back
 pub mod Turns
 pub mod Causes
+pub mod Place
+pub mod Steps
+pub mod Moves

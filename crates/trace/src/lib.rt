@@ -8,6 +8,7 @@ ghost use lib.ListN.{length};
 ghost use Rattle.sheet.specs.Bytes.{byteAt};
 ghost use Rattle.jobs.specs.Trace.{recordBytes, lengthByte, recordOf, recordAt};
 ghost use Rattle.trace.specs.Written.{written, Small};
+ghost use Rattle.trace.specs.Place.{placeAfter};
 
 // ---- reading
 
@@ -84,32 +85,49 @@ pub fn record_at(s: &[u8], at: usize) -> RecordRead
     }
 }
 
-// ---- the format's reader: it holds the lent bytes and its place, and is thin over `record_at`
+// The place after the record that stands at a place, by its length byte; at the end and where it is cut short, the place itself.
+fn place_after(s: &[u8], at: usize) -> usize
+    ensures { λ r. ⌜ r ≡ placeAfter (now (s .entry)) at ⌝ }
+{
+    if s.len() <= at {
+        return at;
+    }
+    let n = byte(s, at);
+    if n < s.len() - at {
+        return at + 1 + n;
+    }
+    at
+}
 
-struct Reader<'a> {
+// ---- the format's reader: it holds the lent bytes and its place, and is thin over `record_at` and `place_after`
+
+pub struct Reader<'a> {
     src: &'a [u8],
     at: usize,
 }
 
 // A reader of these bytes that stands at a place.
-fn placed<'a>(src: &'a [u8], at: usize) -> Reader<'a>
+pub fn placed<'a>(src: &'a [u8], at: usize) -> Reader<'a>
     ensures { λ r. ⌜ (r .src ≡ src .entry) × (r .at ≡ at) ⌝ }
 {
     Reader { src, at }
 }
 
 // What stands where the reader stands.
-fn next<'a>(r: Reader<'a>) -> RecordRead
+pub fn peek<'a>(r: Reader<'a>) -> RecordRead
     ensures { λ x. ⌜ x ≡ recordAt (now (r .entry .src)) (r .entry .at) ⌝ }
 {
     record_at(r.src, r.at)
 }
 
-// What a reader of these bytes finds at a place: plain parameters, so that its callers need no walk.
-pub fn read_at(s: &[u8], at: usize) -> RecordRead
-    ensures { λ r. ⌜ r ≡ recordAt (now (s .entry)) at ⌝ }
+// The reader moved past the record that it stands at.
+pub fn moved<'a>(r: Reader<'a>) -> Reader<'a>
+    ensures { λ q. ⌜ (q .src ≡ r .entry .src) × (q .at ≡ placeAfter (now (r .entry .src)) (r .entry .at)) ⌝ }
 {
-    next(placed(s, at))
+    Reader {
+        src: r.src,
+        at: place_after(r.src, r.at),
+    }
 }
 
 // ---- writing
