@@ -1,4 +1,4 @@
-//! The bench sheets of document 01, by the wrappers, with their bytes and the expected bytes written out.
+//! The bench sheets of docs/FORMAT.md, "Bench sheets", by the wrappers, with their bytes and what is expected written out.
 
 use zomuwedli::boundary::{
     hand_call, put_back, read, run, start, End, HandCall, PutBack, Read, Refusal, Run, Start, State, HAND_STATE_LENGTH, STATE_LENGTH,
