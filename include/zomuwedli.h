@@ -1,15 +1,17 @@
-/* Zomuwedli for C: every job of the proved library, over numbers and byte buffers.
+/* Zomuwedli for C: every job of the proved library, over numbers and byte buffers. What each job does is in docs/FORMAT.md; the answers and
+ * the bytes of a state are under "The state's bytes and the C boundary".
  *
  * Link target/staticlib/libembed.a, which `rt staticlib embed` writes for x86-64 Linux. It allocates nothing, keeps nothing between calls,
- * so that threads need no lock, and calls nothing of the C library but memset and memcpy.
+ * so that threads need no lock, and calls nothing of the C library but memset and memcpy (tests/callers looks at the archive).
  *
  * Buffers. Each is an address and then a length in bytes. It is read, and written, within that length only. An address is not followed
- * where the length is 0. A buffer that a call writes overlaps no other buffer of that call. Nothing checks that the lengths are those of
- * the caller's memory: that part is the caller's.
+ * where the length is 0. The caller's part, which nothing checks: the lengths are those of its memory, and a buffer that a call writes
+ * overlaps no other buffer of that call.
  *
  * Answers. Each call answers one number. Its low byte, zomuwedli_number(answer), is 0 where the job was done, and otherwise the one number
- * of the call's first fault: 1 to 20 as in the table of refusals (README.md), 200 and 201 as below. A refused call changes no byte of any
- * buffer. The other fields of an answer are 0 where the call was refused; the functions after each declaration take them out.
+ * of the call's first fault: 1 to 20 as in the table of docs/FORMAT.md, "Where each thing is turned away", 200 and 201 as below. A refused
+ * call changes no byte of any buffer. The other fields of an answer are 0 where the call was refused; the functions after each declaration
+ * take them out.
  */
 #ifndef ZOMUWEDLI_H
 #define ZOMUWEDLI_H
@@ -45,7 +47,8 @@ extern "C" {
 #define ZOMUWEDLI_SOLVED 1     /* no item is in: the full sheet has a plan, and putting back gives one */
 #define ZOMUWEDLI_REST 2       /* items are in and no rule holds: a search decides */
 
-/* The stack that a call uses at most, and that putting back uses: it keeps a state for each record of the trace. Measured, not proved. */
+/* Stack to leave for a call, and for putting back, which keeps a state for each record of the trace. No contract speaks of the stack:
+ * these are above what tests/stack.c measured, on sheets of 32 items of 16 settings and a trace of 512 records. */
 #define ZOMUWEDLI_STACK (40 * 1024)
 #define ZOMUWEDLI_PUT_BACK_STACK (256 * 1024)
 
@@ -72,8 +75,8 @@ static inline unsigned zomuwedli_steps(uint64_t answer) { return (unsigned)(answ
 static inline unsigned zomuwedli_written(uint64_t answer) { return (unsigned)(answer >> 32 & 0xffff); }
 
 /* ---- Starting to take out by hand. Refused: 201, then 1 to 9.
- * Writes the state with all items in and the largest sets of settings in which each has a partner at every other item. (Document 01 gives
- * a refused start the state without items; here the buffer is left as it was.) */
+ * Writes the state with all items in and the largest sets of settings in which each has a partner at every other item. (By docs/FORMAT.md,
+ * "Taking out by hand", a refused start answers the state without items; here the buffer is left as it was.) */
 uint64_t zomuwedli_start(const uint8_t *sheet, size_t sheet_length, uint8_t *state, size_t state_length);
 
 /* ---- One hand call: takes the named item out under the snake rule. Refused: 201, then 1 to 9, then 11, 12, 13, 14.

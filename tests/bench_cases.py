@@ -1,12 +1,15 @@
 #!/usr/bin/env python3
-"""Writes crates/bench_sheets/stdin and stdout: the bench cases and the answers that document 01 gives for them.
+"""Writes the bench cases and the answers that docs/FORMAT.md gives for them: crates/bench_sheets/stdin and stdout.
+usage: bench_cases.py [DIRECTORY], which writes the two files there instead.
 
-The expected answers come from how each case is built (which faults were put in), and are held against a reader written here from
-document 01 alone. The gate does not need this script: it runs the program on the committed files."""
+For the read check the answers come from how each case is built (which faults were put in), and are held against the reader written here;
+for the other jobs they come from the jobs written here. Both follow docs/FORMAT.md alone. The gate runs the program bench_sheets on the
+committed files; tests/tidy compares them with what this script writes."""
 import os
 import random
+import sys
 
-ROOT = os.path.join(os.path.dirname(os.path.abspath(__file__)), "..", "crates", "bench_sheets")
+ROOT = sys.argv[1] if len(sys.argv) == 2 else os.path.join(os.path.dirname(os.path.abspath(__file__)), "..", "crates", "bench_sheets")
 
 
 def sheet(sizes, blocks, version=1, stated=None, n=None, m=None, extra=b""):
@@ -190,7 +193,7 @@ assert len(longest) == 16904
 reading("the longest sheet", longest, (32, 496))
 reading("the longest sheet and a byte", longest + b"\0", 3)
 
-# ---- document 01's jobs, written here for the expected answers. A state is (set of items in, list of sets of settings on).
+# ---- The jobs, written here for the expected answers. A state is (set of items in, list of sets of settings on).
 
 
 class Problem:
@@ -394,7 +397,7 @@ def put_back_job(s, trace, plan, out):
 
 # ---- the run
 
-RUNS = {  # the traces that document 01 gives, byte for byte
+RUNS = {  # the traces that docs/FORMAT.md gives under "Bench sheets", byte for byte
     "A": "0103020000", "B": "010302000003020100", "C": "01", "D": "010401000001",
     "F": "0103020001" "03020100" "03020200", "G": "0103030300", "H": "010404000002",
 }

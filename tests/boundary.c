@@ -88,17 +88,19 @@ static void run_refused(const uint8_t *sheet, size_t sheet_length, size_t trace_
 
 static void start_and_call(void)
 {
-    uint8_t *state = lent(ZOMUWEDLI_HAND_STATE_LENGTH);
+    uint8_t *state = lent(ZOMUWEDLI_HAND_STATE_LENGTH), started[ZOMUWEDLI_HAND_STATE_LENGTH];
     EXPECT(zomuwedli_start(sheet_b, 15, state, ZOMUWEDLI_HAND_STATE_LENGTH) == 3);
     EXPECT(as_lent(state, ZOMUWEDLI_HAND_STATE_LENGTH));
     EXPECT(zomuwedli_start(sheet_c, sizeof sheet_c, state, ZOMUWEDLI_HAND_STATE_LENGTH) == 0);
     EXPECT(zomuwedli_items_in(state) == 7);
     EXPECT(zomuwedli_settings_on(state, 2) == 3);
     EXPECT(zomuwedli_settings_on(state, 3) == 0);
+    memcpy(started, state, sizeof started);
     EXPECT(zomuwedli_hand_call(sheet_c, sizeof sheet_c, state, ZOMUWEDLI_HAND_STATE_LENGTH, 0) == 14);
     EXPECT(zomuwedli_hand_call(sheet_c, sizeof sheet_c, state, ZOMUWEDLI_HAND_STATE_LENGTH, UINT64_MAX) == 12);
     EXPECT(zomuwedli_hand_call(sheet_b, sizeof sheet_b, state, ZOMUWEDLI_HAND_STATE_LENGTH, 0) == 11);
-    EXPECT(zomuwedli_items_in(state) == 7);
+    EXPECT(zomuwedli_hand_call(sheet_b, 15, state, ZOMUWEDLI_HAND_STATE_LENGTH, 0) == 3);
+    EXPECT(memcmp(state, started, sizeof started) == 0);
     EXPECT(zomuwedli_start(sheet_b, sizeof sheet_b, state, ZOMUWEDLI_HAND_STATE_LENGTH) == 0);
     uint64_t answer = zomuwedli_hand_call(sheet_b, sizeof sheet_b, state, ZOMUWEDLI_HAND_STATE_LENGTH, 1);
     EXPECT(zomuwedli_number(answer) == 0);

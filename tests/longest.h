@@ -1,5 +1,5 @@
 /* The longest trace there is: on 32 items of 16 settings without a block, 480 covers leave setting 0 of each item, and 32 snakes take the
- * items out. No lawful trace has more records, and none takes more stack to put back. */
+ * items out. No lawful trace has more records, since each uses up a setting that was on; putting back keeps a state for each. */
 #ifndef LONGEST_H
 #define LONGEST_H
 

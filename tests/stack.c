@@ -1,6 +1,7 @@
 /* Measures the stack that each exported function uses and fails above the limits that include/zomuwedli.h states: no contract speaks of
- * the stack. Each job runs in a thread whose stack was filled with a pattern; what is no longer the pattern was used.
- * usage: stack LONGEST-SHEET */
+ * the stack. Each call runs in a thread whose stack was filled with a pattern; what is no longer the pattern was used. A job is measured
+ * on several sheets and the most counts. A thread that does not start, a call that does not answer as expected, and a figure too small to
+ * be one of a call that was made are failures. */
 #define _POSIX_C_SOURCE 200809L
 #include <pthread.h>
 #include <stdio.h>
@@ -8,72 +9,252 @@
 
 #include "longest.h"
 
-enum { STACK = 1 << 20, PATTERN = 0xa5 };
+/* A call that used less than LEAST bytes was not made. */
+enum { STACK = 1 << 20, PATTERN = 0xa5, LEAST = 64, ITEMS = ZOMUWEDLI_MAX_ITEMS, SETTINGS = ZOMUWEDLI_MAX_SETTINGS };
 
-static uint8_t sheet[ZOMUWEDLI_MAX_SHEET], trace[ZOMUWEDLI_MAX_TRACE], state[ZOMUWEDLI_STATE_LENGTH];
-static uint8_t small_sheet[LONGEST_SHEET], long_trace[LONGEST_TRACE], plan[32], result[32];
+/* ---- The sheets: 32 items of 16 settings, without a block, or with one block for each pair by one relation. */
+struct sheet {
+    const char *name;
+    size_t length;
+    uint8_t bytes[ZOMUWEDLI_MAX_SHEET];
+};
 
-/* Each job answers 0 where it was done; a hand call of the longest sheet is refused with 14, after all of its work. */
-static void *nothing(void *done) { return done; }
+static struct sheet no_block = {.name = "no block"}, unequal = {.name = "unequal"}, less = {.name = "less"},
+                    parity = {.name = "unlike parity"}, equal = {.name = "equal"};
 
-static void *read_check(void *done) { return zomuwedli_number(zomuwedli_read(sheet, sizeof sheet)) == 0 ? done : NULL; }
+static unsigned is_unequal(unsigned a, unsigned b) { return a != b; }
+static unsigned is_less(unsigned a, unsigned b) { return a < b; }
+static unsigned is_of_unlike_parity(unsigned a, unsigned b) { return (a + b) % 2; }
+static unsigned is_equal(unsigned a, unsigned b) { return a == b; }
 
-static void *run(void *done)
+static uint8_t *fill_block(uint8_t *at, unsigned i, unsigned j, unsigned (*allowed)(unsigned, unsigned))
 {
-    return zomuwedli_number(zomuwedli_run(sheet, sizeof sheet, trace, sizeof trace, state, sizeof state)) == 0 ? done : NULL;
+    *at++ = (uint8_t)i;
+    *at++ = (uint8_t)j;
+    for (unsigned a = 0; a < SETTINGS; a++) {
+        unsigned row = 0;
+        for (unsigned b = 0; b < SETTINGS; b++) {
+            row |= allowed(a, b) << b;
+        }
+        *at++ = (uint8_t)(row >> 8);
+        *at++ = (uint8_t)row;
+    }
+    return at;
 }
 
-static void *start(void *done) { return zomuwedli_start(sheet, sizeof sheet, state, sizeof state) == 0 ? done : NULL; }
-
-static void *hand_call(void *done) { return zomuwedli_hand_call(sheet, sizeof sheet, state, sizeof state, 31) == 14 ? done : NULL; }
-
-static void *put_back(void *done)
+static void fill_pairs(struct sheet *sheet, unsigned (*allowed)(unsigned, unsigned))
 {
-    memset(plan, ZOMUWEDLI_OUT, sizeof plan);
-    return zomuwedli_put_back(small_sheet, sizeof small_sheet, long_trace, sizeof long_trace, plan, 32, result, 32) == 0 ? done : NULL;
+    static const uint8_t front[8] = {1, 0, 0, ZOMUWEDLI_MAX_SHEET >> 8, ZOMUWEDLI_MAX_SHEET & 0xff, ITEMS, 496 >> 8, 496 & 0xff};
+    uint8_t *at = sheet->bytes + 8 + ITEMS;
+    memcpy(sheet->bytes, front, 8);
+    memset(sheet->bytes + 8, SETTINGS, ITEMS);
+    for (unsigned i = 0; i < ITEMS; i++) {
+        for (unsigned j = i + 1; j < ITEMS; j++) {
+            at = fill_block(at, i, j, allowed);
+        }
+    }
+    sheet->length = (size_t)(at - sheet->bytes);
 }
 
-/* The bytes that a job uses beyond the thread's own, or STACK where it did not do its work. */
-static size_t used(void *(*job)(void *))
+/* ---- The jobs. Each answers what the function answers, and a figure of what was written, so that a call that did nothing shows. */
+static uint8_t trace[ZOMUWEDLI_MAX_TRACE], state[ZOMUWEDLI_STATE_LENGTH], plan[ITEMS], result[ITEMS];
+static uint8_t long_trace[LONGEST_TRACE];
+static size_t written;
+
+static void prepare_nothing(const struct sheet *sheet) { (void)sheet; }
+
+static uint64_t nothing(const struct sheet *sheet)
+{
+    (void)sheet;
+    return 0;
+}
+
+static uint64_t read_check(const struct sheet *sheet) { return zomuwedli_read(sheet->bytes, sheet->length); }
+
+static uint64_t run(const struct sheet *sheet)
+{
+    return zomuwedli_run(sheet->bytes, sheet->length, trace, sizeof trace, state, sizeof state);
+}
+
+static void prepare_start(const struct sheet *sheet)
+{
+    (void)sheet;
+    memset(state, 0, sizeof state);
+}
+
+/* The items then in stand above the answer. */
+static uint64_t start(const struct sheet *sheet)
+{
+    uint64_t answer = zomuwedli_start(sheet->bytes, sheet->length, state, sizeof state);
+    return answer | (uint64_t)zomuwedli_items_in(state) << 32;
+}
+
+static void prepare_hand_call(const struct sheet *sheet)
+{
+    memset(state, 0, sizeof state);
+    zomuwedli_start(sheet->bytes, sheet->length, state, sizeof state);
+}
+
+static uint64_t hand_call(const struct sheet *sheet)
+{
+    uint64_t answer = zomuwedli_hand_call(sheet->bytes, sheet->length, state, sizeof state, ITEMS - 1);
+    return answer | (uint64_t)zomuwedli_items_in(state) << 32;
+}
+
+/* The run's own trace, with the highest setting for each item left; for the sheet without a block the longest trace there is. */
+static void prepare_put_back(const struct sheet *sheet)
+{
+    memset(result, PATTERN, sizeof result);
+    written = zomuwedli_written(run(sheet));
+    memset(plan, zomuwedli_items_in(state) == 0 ? ZOMUWEDLI_OUT : SETTINGS - 1, sizeof plan);
+    if (sheet == &no_block) {
+        memcpy(trace, long_trace, sizeof long_trace);
+        written = sizeof long_trace;
+    }
+}
+
+/* The sum of the result's bytes stands above the answer. */
+static uint64_t put_back(const struct sheet *sheet)
+{
+    uint64_t sum = 0;
+    uint64_t answer = zomuwedli_put_back(sheet->bytes, sheet->length, trace, written, plan, sizeof plan, result, sizeof result);
+    for (unsigned i = 0; i < ITEMS; i++) {
+        sum += result[i];
+    }
+    return answer | sum << 32;
+}
+
+/* ---- What is measured, and what each call answers. */
+#define READ_ANSWER(blocks) ((uint64_t)ITEMS << 8 | (uint64_t)(blocks) << 16)
+#define RUN_ANSWER(end, steps, bytes) ((uint64_t)(end) << 8 | (uint64_t)(steps) << 16 | (uint64_t)(bytes) << 32)
+#define AND(answer, figure) ((uint64_t)(answer) | (uint64_t)(figure) << 32)
+
+enum { MOST_CALLS = 5 };
+
+struct job {
+    const char *name;
+    size_t limit;
+    void (*prepare)(const struct sheet *);
+    uint64_t (*call)(const struct sheet *);
+    struct {
+        const struct sheet *sheet;
+        uint64_t answer;
+    } on[MOST_CALLS];
+};
+
+static const struct job baseline = {"a thread alone", STACK, prepare_nothing, nothing, {{&no_block, 0}}};
+
+/* The runs take steps of kinds 2, none, 1, 4 and 3; kind 5 never comes up in a run. */
+static const struct job jobs[] = {
+    {"read", ZOMUWEDLI_STACK, prepare_nothing, read_check, {{&no_block, READ_ANSWER(0)}, {&unequal, READ_ANSWER(496)}}},
+    {"run",
+     ZOMUWEDLI_STACK,
+     prepare_nothing,
+     run,
+     {{&no_block, RUN_ANSWER(ZOMUWEDLI_SOLVED, 32, 1 + 4 * 32)},
+      {&unequal, RUN_ANSWER(ZOMUWEDLI_REST, 0, 1)},
+      {&less, RUN_ANSWER(ZOMUWEDLI_IMPOSSIBLE, 241, 1 + 5 * 241)},
+      {&parity, RUN_ANSWER(ZOMUWEDLI_REST, 448, 1 + 5 * 448)},
+      {&equal, RUN_ANSWER(ZOMUWEDLI_SOLVED, 32, 1 + 4 * 32)}}},
+    {"start",
+     ZOMUWEDLI_STACK,
+     prepare_start,
+     start,
+     {{&no_block, AND(0, UINT32_MAX)}, {&unequal, AND(0, UINT32_MAX)}, {&less, AND(0, UINT32_MAX)}, {&parity, AND(0, UINT32_MAX)}}},
+    {"hand call",
+     ZOMUWEDLI_STACK,
+     prepare_hand_call,
+     hand_call,
+     {{&no_block, AND(0, UINT32_MAX >> 1)}, {&unequal, AND(14, UINT32_MAX)}, {&less, AND(13, UINT32_MAX)}, {&parity, AND(14, UINT32_MAX)}}},
+    {"put back",
+     ZOMUWEDLI_PUT_BACK_STACK,
+     prepare_put_back,
+     put_back,
+     {{&no_block, AND(0, 0)}, {&parity, AND(19, ITEMS * PATTERN)}, {&equal, AND(0, 0)}}},
+};
+
+/* ---- Measuring. */
+struct call {
+    const struct job *job;
+    const struct sheet *sheet;
+    uint64_t answer;
+};
+
+static void *perform(void *argument)
+{
+    struct call *call = argument;
+    call->answer = call->job->call(call->sheet);
+    return NULL;
+}
+
+static _Noreturn void fail(const struct call *call, const char *what, uint64_t figure)
+{
+    printf("stack: %s on %s: %s (%#llx)\n", call->job->name, call->sheet->name, what, (unsigned long long)figure);
+    exit(1);
+}
+
+/* The bytes of its stack that a thread used which made this call. */
+static size_t used(struct call *call, uint64_t expected)
 {
     uint8_t *stack = aligned_alloc(4096, STACK);
-    void *answer = NULL;
     pthread_attr_t attributes;
     pthread_t thread;
+    size_t untouched = 0;
+    int error;
     if (stack == NULL) {
-        return STACK;
+        fail(call, "no memory", STACK);
     }
     memset(stack, PATTERN, STACK);
-    pthread_attr_init(&attributes);
-    if (pthread_attr_setstack(&attributes, stack, STACK) != 0 || pthread_create(&thread, &attributes, job, stack) != 0) {
-        return STACK;
+    call->job->prepare(call->sheet);
+    if ((error = pthread_attr_init(&attributes)) != 0 || (error = pthread_attr_setstack(&attributes, stack, STACK)) != 0
+        || (error = pthread_create(&thread, &attributes, perform, call)) != 0) {
+        fail(call, "the thread does not start", (uint64_t)error);
     }
-    pthread_join(thread, &answer);
-    size_t untouched = 0;
+    if ((error = pthread_join(thread, NULL)) != 0) {
+        fail(call, "the thread does not end", (uint64_t)error);
+    }
+    pthread_attr_destroy(&attributes);
+    if (call->answer != expected) {
+        fail(call, "another answer than expected", call->answer);
+    }
     while (untouched < STACK && stack[untouched] == PATTERN) {
         untouched++;
     }
     free(stack);
-    return answer == NULL ? STACK : STACK - untouched;
+    return STACK - untouched;
 }
 
-static int within(const char *name, void *(*job)(void *), size_t limit)
+/* The most bytes that a job uses on its sheets beyond those of a thread that does nothing. */
+static size_t most_used(const struct job *job, size_t own)
 {
-    size_t bytes = used(job), own = used(nothing);
-    printf("stack: %s %zu bytes, limit %zu\n", name, bytes - own, limit);
-    return bytes - own <= limit;
-}
-
-int main(int argc, char **argv)
-{
-    FILE *file = argc == 2 ? fopen(argv[1], "rb") : NULL;
-    if (file == NULL || fread(sheet, 1, sizeof sheet, file) != sizeof sheet) {
-        fprintf(stderr, "usage: %s LONGEST-SHEET\n", argv[0]);
-        return 2;
+    size_t most = 0;
+    for (unsigned k = 0; k < MOST_CALLS && job->on[k].sheet != NULL; k++) {
+        struct call call = {job, job->on[k].sheet, ~job->on[k].answer};
+        size_t bytes = used(&call, job->on[k].answer);
+        if (bytes < own + LEAST) {
+            fail(&call, "too few bytes for a call that was made", bytes > own ? bytes - own : 0);
+        }
+        most = bytes - own > most ? bytes - own : most;
     }
-    fclose(file);
-    fill_longest(small_sheet, long_trace);
-    int fine = within("read", read_check, ZOMUWEDLI_STACK) & within("run", run, ZOMUWEDLI_STACK) & within("start", start, ZOMUWEDLI_STACK)
-               & within("hand call", hand_call, ZOMUWEDLI_STACK) & within("put back", put_back, ZOMUWEDLI_PUT_BACK_STACK);
-    return fine ? 0 : 1;
+    return most;
+}
+
+int main(void)
+{
+    int within = 1;
+    fill_longest(no_block.bytes, long_trace);
+    no_block.length = LONGEST_SHEET;
+    fill_pairs(&unequal, is_unequal);
+    fill_pairs(&less, is_less);
+    fill_pairs(&parity, is_of_unlike_parity);
+    fill_pairs(&equal, is_equal);
+    struct call alone = {&baseline, &no_block, 1};
+    size_t own = used(&alone, 0);
+    for (unsigned k = 0; k < sizeof jobs / sizeof jobs[0]; k++) {
+        size_t most = most_used(&jobs[k], own);
+        int fits = most <= jobs[k].limit;
+        printf("stack: %s %zu bytes, limit %zu%s\n", jobs[k].name, most, jobs[k].limit, fits ? "" : ": too much");
+        within = within && fits;
+    }
+    return within ? 0 : 1;
 }

@@ -15,7 +15,7 @@ pub const MOST_ITEMS: usize = 32;
 /// The most settings an item has.
 pub const MOST_SETTINGS: usize = 16;
 
-/// Why a call is turned away: one case for each number of document 01, and the two of the boundary.
+/// Why a call is turned away: one case for each number of docs/FORMAT.md, "Where each thing is turned away", and the two of the boundary.
 #[derive(Clone, Copy, PartialEq, Eq, PartialOrd, Ord, Debug)]
 #[repr(u8)]
 pub enum Refusal {

@@ -1,4 +1,5 @@
-//! The five jobs written for speed, from document 01: sets as bit masks, and the rows of every pair both ways in one dense table.
+//! The five jobs written for speed, from docs/FORMAT.md: sets as bit masks, and the rows of every pair both ways in one dense table. The
+//! enums, the limits and the state with its bytes are those of the boundary; all else is written here.
 //!
 //! Two facts save most of the work, and neither changes the trace. A state only ever shrinks, so a value that covers another at an item
 //! covers it there for good: for each two values one mark, the lowest item at which the one may fail to cover the other, only moves up

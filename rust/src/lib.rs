@@ -18,8 +18,10 @@
 //! assert_eq!(plan, [0, 1]);
 //! ```
 //!
-//! [`boundary`] wraps the five functions of the proved library. [`reference`] and [`fast`] are two further implementations, one for clarity
-//! and one for speed, that share no code with it or with each other: the tests compare all three. [`generate`] makes what they compare on.
+//! [`boundary`] wraps the five functions of the proved library. [`mod@reference`] and [`fast`] are two further implementations, one for
+//! clarity and one for speed: the tests compare all three. Each has its own reading, rules and jobs; both answer with the enums of
+//! [`boundary`], and [`fast`] keeps its states in the type there. [`generate`] makes what is compared on, lawful traces by the reference's
+//! rules.
 
 pub mod boundary;
 pub mod fast;

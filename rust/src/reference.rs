@@ -1,7 +1,7 @@
-//! The five jobs written from document 01 alone, for clarity: lists of items and settings, one function for each rule, and the sentence
-//! of the document over it. Nothing here is shared with the other implementations but the enums and the lengths of the boundary.
+//! The five jobs written from docs/FORMAT.md alone, for clarity: lists of items and settings, one function for each rule, and the
+//! sentence of that paper over it. The enums and the limits are those of the boundary; all else is written here.
 //!
-//! Document 01's words and ours: item, setting = variable, value; in, on = active, live; partner = support; plan = solution;
+//! Its words and ours ("Terms" there): item, setting = variable, value; in, on = active, live; partner = support; plan = solution;
 //! covers = substitutes; bare, snake, fold, cover, slide = unsupported, snake, triangle, neighbourhood, snake substitution.
 
 use crate::boundary::{End, HandCall, PutBack, Read, Refusal, Run, Start, HAND_STATE_LENGTH, MOST_ITEMS, MOST_SETTINGS, STATE_LENGTH};

@@ -1,4 +1,4 @@
-//! The bench sheets of document 01, by the wrappers, with their bytes and the expected bytes written out.
+//! The bench sheets of docs/FORMAT.md, "Bench sheets", by the wrappers, with their bytes and what is expected written out.
 
 use zomuwedli::boundary::{
     hand_call, put_back, read, run, start, End, HandCall, PutBack, Read, Refusal, Run, Start, State, HAND_STATE_LENGTH, STATE_LENGTH,
@@ -47,6 +47,10 @@ const H: [u8; 33] = [
 /// What the old bytes of a buffer are.
 const OLD: u8 = 0xa5;
 
+fn untouched(buffer: &[u8]) -> bool {
+    buffer.iter().all(|&byte| byte == OLD)
+}
+
 /// Runs a sheet in a buffer that is three bytes longer than asked for, and answers the end, the last state and the whole buffer.
 fn worked(sheet: &[u8], sum_of_sizes: usize) -> (Run, State, Vec<u8>) {
     let mut trace = vec![OLD; 1 + 5 * sum_of_sizes + 3];
@@ -60,7 +64,7 @@ fn runs(sheet: &[u8], sum_of_sizes: usize, end: End, steps: u16, trace: &[u8]) -
     let (answer, state, buffer) = worked(sheet, sum_of_sizes);
     assert_eq!(answer, Run::Done { end, steps, written: trace.len() as u16 });
     assert_eq!(buffer[..trace.len()], *trace);
-    assert!(buffer[trace.len()..].iter().all(|&byte| byte == OLD));
+    assert!(untouched(&buffer[trace.len()..]));
     state
 }
 
@@ -74,6 +78,7 @@ fn started(sheet: &[u8]) -> [u8; HAND_STATE_LENGTH] {
     state
 }
 
+/// A hand call from the start is refused so and leaves the state as it was.
 fn hand_refused(sheet: &[u8], item: u64, refusal: Refusal) {
     let mut state = started(sheet);
     let given = state;
@@ -81,13 +86,19 @@ fn hand_refused(sheet: &[u8], item: u64, refusal: Refusal) {
     assert_eq!(state, given);
 }
 
+/// Every job refuses the sheet with this number and writes to no buffer.
 fn refused(sheet: &[u8], number: u8) {
     let refusal = Refusal::from_number(number).unwrap();
-    let mut state = [OLD; STATE_LENGTH];
+    let (mut trace, mut state, mut result) = ([OLD; 21], [OLD; STATE_LENGTH], [OLD; 2]);
     assert_eq!(read(sheet), Read::Refused(refusal));
+    assert_eq!(run(sheet, &mut trace, &mut state), Run::Refused(refusal));
+    assert!(untouched(&trace) && untouched(&state));
     assert_eq!(start(sheet, &mut state), Start::Refused(refusal));
-    assert_eq!(run(sheet, &mut [OLD; 21], &mut state), Run::Refused(refusal));
-    assert_eq!(state, [OLD; STATE_LENGTH]);
+    assert!(untouched(&state));
+    assert_eq!(hand_call(sheet, &mut state, 0), HandCall::Refused(refusal));
+    assert!(untouched(&state));
+    assert_eq!(put_back(sheet, &[1], &[0, 0], &mut result), PutBack::Refused(refusal));
+    assert!(untouched(&result));
 }
 
 #[test]
@@ -111,7 +122,7 @@ fn b_buffers() {
     let (mut exact, mut short) = ([OLD; 21], [OLD; 20]);
     let mut state = [OLD; STATE_LENGTH];
     assert_eq!(run(&B, &mut short, &mut state), Run::Refused(Refusal::TraceBuffer));
-    assert_eq!((short, state), ([OLD; 20], [OLD; STATE_LENGTH]));
+    assert!(untouched(&short) && untouched(&state));
     assert_eq!(run(&B, &mut exact, &mut state), Run::Done { end: End::Solved, steps: 2, written: 9 });
 }
 
@@ -164,6 +175,7 @@ fn f_setting_0_does_not_serve() {
     assert_eq!(plan, [1, 0, 0]);
     let other = [1, 3, 2, 0, 0];
     assert_eq!(put_back(&F, &other, &[255, 0, 0], &mut plan), PutBack::Refused(Refusal::RecordUnlawful));
+    assert_eq!(plan, [1, 0, 0]);
     let mut by_hand = started(&F);
     assert_eq!(hand_call(&F, &mut by_hand, 0), HandCall::Taken { setting: 1 });
     assert_eq!(State::from_bytes(&by_hand), state(6, &[0, 7, 7]));
@@ -189,7 +201,7 @@ fn i_by_hand() {
 fn j_barred_plan() {
     let mut result = [OLD; 3];
     assert_eq!(put_back(&C, &[1], &[0, 1, 0], &mut result), PutBack::Refused(Refusal::PlanUnfit));
-    assert_eq!(result, [OLD; 3]);
+    assert!(untouched(&result));
 }
 
 #[test]
@@ -211,11 +223,15 @@ fn every_refusal_has_its_number() {
 #[test]
 fn state_lengths() {
     for length in [0, 67, 69, 136] {
-        let mut wrong = vec![OLD; length];
-        assert_eq!(run(&[], &mut [], &mut wrong), Run::Refused(Refusal::RunStateLength));
-        assert_eq!(start(&[], &mut wrong), Start::Refused(Refusal::HandStateLength));
-        assert_eq!(hand_call(&[], &mut wrong, 0), HandCall::Refused(Refusal::HandStateLength));
-        assert_eq!(wrong, vec![OLD; length]);
+        for sheet in [&B[..], &[]] {
+            let (mut trace, mut wrong) = ([OLD; 21], vec![OLD; length]);
+            assert_eq!(run(sheet, &mut trace, &mut wrong), Run::Refused(Refusal::RunStateLength));
+            assert!(untouched(&trace) && untouched(&wrong));
+            assert_eq!(start(sheet, &mut wrong), Start::Refused(Refusal::HandStateLength));
+            assert!(untouched(&wrong));
+            assert_eq!(hand_call(sheet, &mut wrong, 0), HandCall::Refused(Refusal::HandStateLength));
+            assert!(untouched(&wrong));
+        }
     }
 }
 
@@ -228,5 +244,15 @@ fn every_plan(n: u32, settings: usize) -> Vec<Vec<u8>> {
 /// Whether the empty trace takes this plan for the full sheet, as it must exactly where it is one.
 fn is_plan(sheet: &[u8], plan: &[u8]) -> bool {
     let mut result = vec![OLD; plan.len()];
-    put_back(sheet, &[1], plan, &mut result) == PutBack::Done && result == plan
+    match put_back(sheet, &[1], plan, &mut result) {
+        PutBack::Done => {
+            assert_eq!(result, plan);
+            true
+        }
+        PutBack::Refused(refusal) => {
+            assert_eq!(refusal, Refusal::PlanUnfit);
+            assert!(untouched(&result));
+            false
+        }
+    }
 }

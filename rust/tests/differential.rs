@@ -1,6 +1,6 @@
 //! Compares every job of the proved library with the reference and with the fast implementation: answers, and each lent byte afterwards.
 //!
-//! ZOMUWEDLI_SEED: the seed. ZOMUWEDLI_PART: a divisor of the sizes; above 1 the least counts are printed but not demanded.
+//! ZOMUWEDLI_SEED: the seed. ZOMUWEDLI_PART: a divisor of the sizes and of the least counts.
 
 use std::collections::BTreeMap;
 use std::fmt::Debug;
@@ -18,7 +18,7 @@ const LARGE_SHEETS: u64 = 200;
 const HAND_LISTS: u64 = 14_000;
 const TRACES: u64 = 12_000;
 
-/// The least counts.
+/// The least counts. Of each: of each answer that a job can give, of each end, of each kind.
 const LEAST_SHEETS: u64 = 100_000;
 const LEAST_CALLS: u64 = 20_000;
 const LEAST_OF_EACH: u64 = 100;
@@ -30,6 +30,9 @@ const LONGEST_SHEET: usize = 16_904;
 const JOBS: [&str; 5] = ["read", "run", "start", "hand call", "put back"];
 const KINDS: [&str; 5] = ["bare", "snake", "fold", "cover", "slide"];
 
+/// The refusals that each job has beside those of the sheet, 1 to 9, which all have.
+const OWN_REFUSALS: [&[u8]; 5] = [&[], &[10, 200], &[201], &[11, 12, 13, 14, 201], &[15, 16, 17, 18, 19, 20]];
+
 fn main() {
     let seed = generate::from_environment("ZOMUWEDLI_SEED", SEED);
     let divisor = generate::from_environment("ZOMUWEDLI_PART", 1).max(1);
@@ -40,12 +43,22 @@ fn main() {
     comparison.part("large sheets", LARGE_SHEETS / divisor, large_case);
     comparison.part("large sheets put back", LARGE_SHEETS / 4 / divisor, large_trace_case);
     comparison.counts.print();
-    let missing = comparison.counts.missing();
-    missing.iter().for_each(|line| println!("{}: {line}", if divisor == 1 { "too few" } else { "not demanded of a part" }));
+    let (missing, strange) = (comparison.counts.missing(divisor), comparison.counts.strange());
+    missing.iter().for_each(|line| println!("too few: {line}"));
+    strange.iter().for_each(|line| println!("cannot be: {line}"));
     println!("differential: {} calls compared, 0 differences", comparison.counts.calls());
-    if divisor == 1 && !missing.is_empty() {
+    if !missing.is_empty() || !strange.is_empty() {
         std::process::exit(1);
     }
+}
+
+/// Every answer by its number, 0 for accepted.
+fn numbers() -> impl Iterator<Item = u8> {
+    std::iter::once(0).chain(Refusal::ALL.map(Refusal::number))
+}
+
+fn can_answer(job: usize, number: u8) -> bool {
+    number <= 9 || OWN_REFUSALS[job].contains(&number)
 }
 
 // ---- Counts -------------------------------------------------------------------------------------------------------------------------
@@ -85,8 +98,8 @@ impl Counts {
         self.answers.iter().filter(|(key, _)| key.0 == job && !(1..=9).contains(&key.1)).map(|(_, count)| count).sum()
     }
 
-    fn of_number(&self, number: u8) -> u64 {
-        self.answers.iter().filter(|(key, _)| key.1 == number).map(|(_, count)| count).sum()
+    fn of_answer(&self, job: usize, number: u8) -> u64 {
+        *self.answers.get(&(job, number)).unwrap_or(&0)
     }
 
     fn print(&self) {
@@ -96,9 +109,9 @@ impl Counts {
         println!("accepted by items: {}", [(1, 3), (4, 6), (7, 12), (13, 31), (32, 32)].map(of_items).join(", "));
         println!("accepted with 32 items of 16 settings and 496 blocks: {}", self.fullest_sheets);
         println!("{:>10} {}", "answer", JOBS.map(|job| format!("{job:>10}")).join(" "));
-        for number in std::iter::once(0).chain(Refusal::ALL.map(Refusal::number)) {
+        for number in numbers() {
             let name = if number == 0 { "accepted".to_string() } else { number.to_string() };
-            let count = |job: usize| format!("{:>10}", self.answers.get(&(job, number)).unwrap_or(&0));
+            let count = |job: usize| format!("{:>10}", self.of_answer(job, number));
             println!("{name:>10} {}", [0, 1, 2, 3, 4].map(count).join(" "));
         }
         println!("{:>10} {}", "all", [0, 1, 2, 3, 4].map(|job| format!("{:>10}", self.of_job(job))).join(" "));
@@ -117,10 +130,12 @@ impl Counts {
     }
 
     /// What falls short of its least count.
-    fn missing(&self) -> Vec<String> {
+    fn missing(&self, divisor: u64) -> Vec<String> {
         let jobs = [3, 4].map(|job| (JOBS[job].to_string(), self.past_the_sheet(job), LEAST_CALLS));
-        let refusals =
-            Refusal::ALL.map(|refusal| (format!("refusal {}", refusal.number()), self.of_number(refusal.number()), LEAST_OF_EACH));
+        let of_job = |job| numbers().filter(move |&number| can_answer(job, number)).map(move |number| (job, number));
+        let of_answer =
+            |(job, number): (usize, u8)| (format!("{}, answer {number}", JOBS[job]), self.of_answer(job, number), LEAST_OF_EACH);
+        let answers = (0..JOBS.len()).flat_map(of_job).map(of_answer);
         let ends = [0, 1, 2].map(|end| (format!("end {end}"), *self.ends.get(&end).unwrap_or(&0), LEAST_OF_EACH));
         let steps = [1, 2, 3, 4].map(|kind| (format!("steps of runs of kind {kind}"), self.run_steps[kind], LEAST_OF_EACH));
         let records = [1, 2, 3, 4, 5].map(|kind| (format!("lent records of kind {kind}"), self.lent_records[kind], LEAST_OF_EACH));
@@ -133,8 +148,17 @@ impl Counts {
             ("sheets of 32 items of 16 settings, 496 blocks".to_string(), self.fullest_sheets, LEAST_FULLEST),
             ("settings changed when put back".to_string(), self.changed_when_undone, LEAST_OF_EACH),
         ];
-        let all = jobs.into_iter().chain(refusals).chain(ends).chain(steps).chain(records).chain(others);
-        all.filter(|(_, count, least)| count < least).map(|(name, count, least)| format!("{name}: {count}, least {least}")).collect()
+        let all = jobs.into_iter().chain(answers).chain(ends).chain(steps).chain(records).chain(others);
+        let scaled = all.map(|(name, count, least)| (name, count, least / divisor));
+        scaled.filter(|(_, count, least)| count < least).map(|(name, count, least)| format!("{name}: {count}, least {least}")).collect()
+    }
+
+    /// What must not come up: an answer that the job cannot give, and a slide in a run, since a cover holds wherever a slide does.
+    fn strange(&self) -> Vec<String> {
+        let answers = self.answers.iter().filter(|((job, number), _)| !can_answer(*job, *number));
+        let answers = answers.map(|((job, number), count)| format!("{}, answer {number}: {count}", JOBS[*job]));
+        let slides = (self.run_steps[5] > 0).then(|| format!("slides in runs: {}", self.run_steps[5]));
+        answers.chain(slides).collect()
     }
 }
 

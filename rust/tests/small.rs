@@ -1,8 +1,8 @@
-//! Demands 2 and 3 by brute force on very small sheets: over all plans, and over all lists of hand calls.
+//! Demands 2 and 3 by brute force on very small sheets: all plans of what a trace leaves, and all lists of hand calls from a few states.
 //!
 //! The wrappers do the jobs; the reference says which rule holds; the plans are counted out here.
 //!
-//! ZOMUWEDLI_PART: one sheet in so many is checked.
+//! ZOMUWEDLI_PART: one sheet in so many is checked, and the least counts are divided by it.
 
 use std::collections::btree_map::{BTreeMap, Entry};
 
@@ -14,26 +14,38 @@ const SEED: u64 = 4_711;
 const RANDOM_SHEETS: usize = 1_500;
 const LAWFUL_TRACES: usize = 4;
 
+/// How many sheets there are, of two items of 1 to 3 settings, of two items of 1 or 2, and of three items of 2; and how many are checked.
+const PAIR_SHEETS: usize = 2 + 4 + 8 + 4 + 16 + 64 + 8 + 64 + 512;
+const SMALLEST_SHEETS: usize = 2 + 4 + 4 + 16;
+const TRIPLE_SHEETS: usize = 1 << 12;
+const SHEETS: u64 = (PAIR_SHEETS + TRIPLE_SHEETS + RANDOM_SHEETS) as u64;
+
 fn main() {
     let mut counts = Counts::default();
     let mut random = Random::new(SEED);
     let (pairs, triples) = (pair_sheets(), triple_sheets());
     let others: Vec<Vec<u8>> = (0..RANDOM_SHEETS).map(|_| generate::small_draft(&mut random).bytes()).collect();
-    println!(
-        "sheets: {} of two items up to 3 settings, {} of three items of 2 (all there are), {} random",
-        pairs.len(),
-        triples.len(),
-        others.len()
-    );
-    let part = generate::from_environment("ZOMUWEDLI_PART", 1).max(1) as usize;
-    for sheet in pairs.iter().chain(&triples).chain(&others).step_by(part) {
+    let smallest: Vec<&Vec<u8>> = pairs.iter().filter(|sheet| sheet[8] <= 2 && sheet[9] <= 2).collect();
+    assert_eq!((pairs.len(), smallest.len(), triples.len()), (PAIR_SHEETS, SMALLEST_SHEETS, TRIPLE_SHEETS));
+    let part = generate::from_environment("ZOMUWEDLI_PART", 1).max(1);
+    let share = if part == 1 { String::new() } else { format!("1/{part} of ") };
+    let all = if part == 1 { "all " } else { &share };
+    println!("sheets: {all}{PAIR_SHEETS} of two items up to 3 settings, {all}{TRIPLE_SHEETS} of three of 2, {share}{RANDOM_SHEETS} random");
+    for sheet in pairs.iter().chain(&triples).chain(&others).step_by(part as usize) {
         Case::new(sheet).demand_two(&mut random, &mut counts);
         Case::new(sheet).demand_three(&mut random, &mut counts);
     }
-    for sheet in pairs.iter().filter(|sheet| sheet[8] <= 2 && sheet[9] <= 2).step_by(part) {
+    // From the last one, which bars nothing and has hundreds of traces: the first has three.
+    for sheet in smallest.iter().rev().step_by(part as usize) {
         Case::new(sheet).every_trace(&mut counts);
     }
     counts.print();
+    let missing = counts.missing(part);
+    missing.iter().for_each(|line| println!("too few: {line}"));
+    if !missing.is_empty() {
+        std::process::exit(1);
+    }
+    println!("small: all as demanded");
 }
 
 /// All sheets of two items of 1 to 3 settings.
@@ -57,6 +69,7 @@ struct Counts {
     runs: u64,
     steps: u64,
     lent_traces: u64,
+    searched_sheets: u64,
     all_traces: u64,
     solvable: u64,
     unsolvable: u64,
@@ -74,7 +87,10 @@ struct Counts {
 impl Counts {
     fn print(&self) {
         println!("runs: {}, steps in them: {}, all lawful", self.runs, self.steps);
-        println!("other lawful traces: {} random, {} that are all of their sheets", self.lent_traces, self.all_traces);
+        println!(
+            "other lawful traces: {} random, and {} that are all there are of {} sheets of two items up to 2 settings",
+            self.lent_traces, self.all_traces, self.searched_sheets
+        );
         println!("sheets left: {} with a plan, {} without, each as its full sheet", self.solvable, self.unsolvable);
         println!(
             "plans: {} of what is left, put back into a plan of the full sheet; {} that are none, refused",
@@ -88,7 +104,31 @@ impl Counts {
             "states reached by lists: {}, finished: {}; orders of calling: {}",
             self.reached_states, self.finished_states, self.orders
         );
-        println!("small: all as demanded");
+    }
+
+    /// What falls short of its least count: what each sheet has one or four of, exactly; of the rest, half of what the seed gives.
+    fn missing(&self, part: u64) -> Vec<String> {
+        let least = [
+            ("runs", self.runs, SHEETS),
+            ("steps of runs", self.steps, 12_000),
+            ("random traces", self.lent_traces, SHEETS * LAWFUL_TRACES as u64),
+            ("sheets of which all traces were gone through", self.searched_sheets, SMALLEST_SHEETS as u64),
+            ("all traces of a sheet", self.all_traces, 2_500),
+            ("sheets left with a plan", self.solvable, 12_000),
+            ("sheets left without", self.unsolvable, 5_500),
+            ("plans put back", self.plans_put_back, 18_000),
+            ("plans refused", self.plans_refused, 25_000),
+            ("starts", self.start_states, SHEETS),
+            ("consistent states", self.consistent_states, SHEETS),
+            ("states that fit", self.fitting_states, SHEETS),
+            ("states reached", self.reached_states, 39_000),
+            ("finished states", self.finished_states, 9_000),
+            ("hand calls", self.hand_calls, 170_000),
+            ("orders", self.orders, 125_000),
+        ];
+        let scaled = least.map(|(name, count, least)| (name, count, (least / part).max(1)));
+        let short = scaled.iter().filter(|(_, count, least)| count < least);
+        short.map(|(name, count, least)| format!("{name}: {count}, least {least}")).collect()
     }
 }
 
@@ -201,6 +241,7 @@ impl Case<'_> {
 
     /// All lawful traces there are, each with all plans of what it leaves.
     fn every_trace(&self, counts: &mut Counts) {
+        counts.searched_sheets += 1;
         self.traces_from(&State::full(&self.problem), &mut Vec::new(), counts);
     }
 
