@@ -1,11 +1,9 @@
--- The job's cases, in the order of its tests. Assumes nothing.
+-- After the trace is checked, and over the table of a sheet. Assumes nothing.
 use mathlib.Core.Path.{_≡_, sym, ap, _∙_, subst}
 use mathlib.Core.Bool.{Bool, true, false}
 use mathlib.Core.List.{List}
 use Prim.Native.Nat.{ℕ}
-use lib.Dec.{eqb}
 use lib.ListN.{length}
-use borrow.Author.Tests.{eq-eqb, ne-eqb}
 use Rattle.bounded.specs.Table.{tab}
 use Rattle.problem.specs.Problem.{Problem, State, full}
 use Rattle.problem.specs.Reduce.{afterTrace}
@@ -20,13 +18,11 @@ use Rattle.problem.proofs.Trace.{trace-fits}
 use Rattle.problem.proofs.HeldTable.{held-same, table-rows}
 use Rattle.sheet.specs.Sheet.{layout, readSheet, variablesOf, Keeps}
 use Rattle.sheet.specs.Relation.{problemOf}
-use Rattle.sheet.specs.declared.SheetRead.{SheetRead}
 use Rattle.sheet.specs.declared.SheetRead.the-variants as read
-use Rattle.sheet.specs.declared.SheetRefusal.{SheetRefusal}
 use Rattle.sheet.proofs.Accepted.{keeps, problem-bounded}
-use Rattle.jobs.specs.PutBack.{Checked, Lawful as Records, planOf, planFits, checkTrace, PutBackResult, putBackRefused, putBackDone, afterCheck, putBackJob}
-use Rattle.jobs.specs.declared.Extended.the-variants.{Done, Refused}
-use Rattle.jobs.specs.declared.ExtendRefusal.the-variants.{Sheet, PlanLength, ResultLength, Plan}
+use Rattle.jobs.specs.PutBack.{Checked, Lawful as Records, planOf, planFits, checkTrace, PutBackResult, putBackRefused, putBackDone, afterCheck}
+use Rattle.jobs.specs.declared.Extended.the-variants.{Done}
+use Rattle.jobs.specs.declared.ExtendRefusal.the-variants.{Plan}
 use Rattle.rules.specs.Ready.{Ready}
 use Rattle.rules.proofs.After.{state-held, ready-held}
 use Rattle.extend.specs.Walk.{checkedFrom, ended, lawfulEnd}
@@ -107,39 +103,6 @@ pub sheet-variables : (s t : List ℕ) → held t ≡ problemOf layout s → var
 unfolding problemOf
 sheet-variables s t e = ap (λ (P : Problem). P .n) (sym e)
 
--- ---- the tests before
-
-abbrev sized : Bool → Bool → List ℕ → PutBackResult → PutBackResult
-sized x y b r = elim x [ false ↦ putBackRefused PlanLength b | true ↦ elim y [ false ↦ putBackRefused ResultLength b | true ↦ r ] ]
-
-abbrev opened : List ℕ → List ℕ → List ℕ → List ℕ → SheetRead → PutBackResult
-opened s t p b x =
-    elim x [
-      | read.Refused r ↦ putBackRefused (Sheet r) b
-      | read.Accepted n m ↦ sized (eqb (length p) (variablesOf s)) (eqb (length b) (variablesOf s)) b (afterCheck (problemOf layout s) p b (checkTrace (problemOf layout s) t))
-    ]
-
 -- the variables that an accepted sheet answers are its own
 pub answered : (s : List ℕ) (n m : ℕ) → readSheet layout s ≡ read.Accepted n m → (Keeps layout s) × (n ≡ variablesOf s)
 answered s n m e = let k = keeps layout s n m e in (k, cc)
-
-module _ (s t p b : List ℕ) where
-  pub job-sheet : (r : SheetRefusal) → readSheet layout s ≡ read.Refused r → putBackRefused (Sheet r) b ≡ putBackJob s t p b
-  unfolding putBackJob
-  job-sheet r e = sym (ap (opened s t p b) e)
-
-  module _ (n m : ℕ) (e : readSheet layout s ≡ read.Accepted n m) where
-    abbrev over : PutBackResult
-    over = afterCheck (problemOf layout s) p b (checkTrace (problemOf layout s) t)
-
-    pub job-plan : (length p ≡ variablesOf s → ⊥) → putBackRefused PlanLength b ≡ putBackJob s t p b
-    unfolding putBackJob
-    job-plan h = sym (ap (opened s t p b) e ∙ ap (λ (x : Bool). sized x (eqb (length b) (variablesOf s)) b over) (ne-eqb (length p) (variablesOf s) h))
-
-    pub job-result : length p ≡ variablesOf s → (length b ≡ variablesOf s → ⊥) → putBackRefused ResultLength b ≡ putBackJob s t p b
-    unfolding putBackJob
-    job-result g h = sym (ap (opened s t p b) e ∙ (λ i. sized (eq-eqb (length p) (variablesOf s) g i) (ne-eqb (length b) (variablesOf s) h i) b over))
-
-    pub job-rest : length p ≡ variablesOf s → length b ≡ variablesOf s → over ≡ putBackJob s t p b
-    unfolding putBackJob
-    job-rest g h = sym (ap (opened s t p b) e ∙ (λ i. sized (eq-eqb (length p) (variablesOf s) g i) (eq-eqb (length b) (variablesOf s) h i) b over))

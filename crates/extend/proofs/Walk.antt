@@ -22,6 +22,7 @@ use Rattle.jobs.specs.declared.RecordRead.the-variants as record·
 use Rattle.jobs.specs.declared.ExtendRefusal.{ExtendRefusal}
 use Rattle.jobs.specs.declared.ExtendRefusal.the-variants.{TraceFront, Malformed, Unlawful}
 use Rattle.trace.proofs.Back.{next-after}
+use Rattle.trace.proofs.Causes.{records-iff, check-fuel}
 use Rattle.extend.specs.Walk.{checkedFrom, ended, lawfulEnd}
 use Rattle.extend.specs.declared.TraceEnd.{TraceEnd}
 use Rattle.extend.specs.declared.TraceCheck.the-variants.{Fault}
@@ -49,19 +50,6 @@ parts true r (Faulty x) ts e = let z : _≡_ {A = ℕ} 0 1 = cc in absurd (omega
 parts false r c ts e = let z : _≡_ {A = ℕ} 0 1 = cc in absurd (omega arith)
 
 module _ (P : Problem) (t : List ℕ) where
-  -- more turns than bytes are left never run out: the place moves on by a byte at least
-  check-fuel : (f g : ℕ) (s : State) (p : ℕ) → length t - p < f → length t - p < g → checkFrom f P t s p ≡ checkFrom g P t s p
-  unfolding checkFrom
-  check-fuel zero g s p h k = absurd (omega arith)
-  check-fuel (suc f) zero s p h k = absurd (omega arith)
-  check-fuel (suc f) (suc g) s p h k = go (recordAt t p) refl (check-fuel f g)
-    where
-      go : (x : RecordRead) → recordAt t p ≡ x → ((s : State) (p : ℕ) → length t - p < f → length t - p < g → checkFrom f P t s p ≡ checkFrom g P t s p)
-          → judged P s (λ r q. checkFrom f P t (after P s r) q) x ≡ judged P s (λ r q. checkFrom g P t (after P s r) q) x
-      go record·.End e ih = refl
-      go record·.Malformed e ih = refl
-      go (record·.Read r q) e ih = let n = next-after t p r q e in ap (λ (c : Checked). ruled (lawful P s r) r c) (ih (after P s r) q (omega arith) (omega arith))
-
   -- ---- one place
 
   module _ (s : State) (p : ℕ) where
@@ -78,7 +66,7 @@ module _ (P : Problem) (t : List ℕ) where
     checked-read r q e =
         let n = next-after t p r q e in
         ap (judged P s (λ r q. checkFrom (length t - p) P t (after P s r) q)) e
-        ∙ ap (λ (c : Checked). ruled (lawful P s r) r c) (check-fuel (length t - p) (suc (length t - q)) (after P s r) q (omega arith) (omega arith))
+        ∙ ap (λ (c : Checked). ruled (lawful P s r) r c) (check-fuel P t (length t - p) (suc (length t - q)) (after P s r) q (omega arith) (omega arith))
 
     pub checked-unlawful : (r : Record) (q : ℕ) → recordAt t p ≡ record·.Read r q → lawful P s r ≡ false → checkedFrom P t s p ≡ Faulty Unlawful
     checked-unlawful r q e h = checked-read r q e ∙ ap (λ (b : Bool). ruled b r (checkedFrom P t (after P s r) q)) h
@@ -93,29 +81,9 @@ module _ (P : Problem) (t : List ℕ) where
 
   -- ---- the whole trace
 
-  check-lawful : (f : ℕ) (s : State) (p : ℕ) (ts : List Record) → checkFrom f P t s p ≡ Records ts → T (lawfulTrace P s ts)
-  unfolding checkFrom lawfulTrace
-  check-lawful zero s p ts e = let z : _≡_ {A = ℕ} 0 1 = cc in absurd (omega arith)
-  check-lawful (suc f) s p ts e = go (recordAt t p) e (check-lawful f)
-    where
-      none : (ts : List Record) → [] ≡ ts → T (lawfulTrace P s ts)
-      none [] q = tt
-      none (r ∷ ts) q = let z : _≡_ {A = ℕ} 0 1 = cc in absurd (omega arith)
-
-      more : (r : Record) (ts rest : List Record) → ts ≡ r ∷ rest → T (lawfulTrace P s (r ∷ rest)) → T (lawfulTrace P s ts)
-      more r ts rest q h = rw q h
-
-      go : (x : RecordRead) → judged P s (λ r q. checkFrom f P t (after P s r) q) x ≡ Records ts
-          → ((s : State) (p : ℕ) (ts : List Record) → checkFrom f P t s p ≡ Records ts → T (lawfulTrace P s ts)) → T (lawfulTrace P s ts)
-      go record·.End e ih = none ts (cc)
-      go record·.Malformed e ih = let z : _≡_ {A = ℕ} 0 1 = cc in absurd (omega arith)
-      go (record·.Read r q) e ih =
-          let y = parts (lawful P s r) r (checkFrom f P t (after P s r) q) ts e in
-          more r ts (y .1 .0) (y .1 .2) (trace-iff P s r (y .1 .0) .1 (T-of (y .0), ih (after P s r) q (y .1 .0) (y .1 .1)))
-
   pub checked-trace : (s : State) (p : ℕ) (ts : List Record) → checkedFrom P t s p ≡ Records ts → T (lawfulTrace P s ts)
   unfolding checkedFrom
-  checked-trace s p ts e = check-lawful (suc (length t - p)) s p ts e
+  checked-trace s p ts e = records-iff P t (suc (length t - p)) s p (omega arith) (Records ts) .0 e .1
 
   pub no-front : length t ≡ 0 → checkTrace P t ≡ Faulty TraceFront
   unfolding checkTrace
@@ -129,7 +97,7 @@ module _ (P : Problem) (t : List ℕ) where
   unfolding checkTrace checkedFrom
   right-front n e =
       (λ i. fronted P t (lt-ltb 0 (length t) (omega arith) i && eq-eqb (byteAt t 0) 1 e i))
-      ∙ check-fuel (suc (length t)) (suc (length t - 1)) (full P) 1 (omega arith) (omega arith)
+      ∙ check-fuel P t (suc (length t)) (suc (length t - 1)) (full P) 1 (omega arith) (omega arith)
 
   -- a lawful trace has its front
   pub front-lawful : (ts : List Record) → checkTrace P t ≡ Records ts → checkedFrom P t (full P) 1 ≡ Records ts
@@ -137,7 +105,7 @@ module _ (P : Problem) (t : List ℕ) where
   front-lawful ts e = go (ltb 0 (length t) && eqb (byteAt t 0) 1) e
     where
       go : (b : Bool) → fronted P t b ≡ Records ts → checkFrom (suc (length t - 1)) P t (full P) 1 ≡ Records ts
-      go true h = check-fuel (suc (length t - 1)) (suc (length t)) (full P) 1 (omega arith) (omega arith) ∙ h
+      go true h = check-fuel P t (suc (length t - 1)) (suc (length t)) (full P) 1 (omega arith) (omega arith) ∙ h
       go false h = let z : _≡_ {A = ℕ} 0 1 = cc in absurd (omega arith)
 
 -- one record more leads to the same end from the state after it

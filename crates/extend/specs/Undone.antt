@@ -40,7 +40,9 @@ pub record UndoableFrom (t trace : List ℕ) (m : Masks) (p : ℕ) (plan : List 
   pub checks : checkedFrom (held t) trace (stateOf m) p ≡ Records records
   pub solved : Solution (held t) (afterTrace (held t) (stateOf m) records) (planOf plan)
 
--- the plan with the records undone
+-- The plan with the records undone,
+-- last first, each against the state before it.
+-- A fault leaves the plan as it is.
 abbrev pub undoneBy : Problem → State → Checked → List ℕ → List ℕ
 undoneBy P s (Records ts) p = tab (P .n) (undoTrace P s ts (planOf p))
 undoneBy P s (Faulty e) p = p
