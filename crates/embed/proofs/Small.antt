@@ -5,7 +5,6 @@ use mathlib.Core.List.{List}
 use Prim.Native.Nat.{ℕ, zero, suc, _+_, _-_, _*_, _≤_, _<_}
 use native.Mathlib.Omega.{arith}
 use lib.Dec.{ltb}
-use lib.ListN.{length}
 use Rattle.bounded.proofs.Truth.{T-of}
 use Rattle.bounded.proofs.Bounded.{any-iff, lowest-is}
 use Rattle.problem.specs.Problem.{Problem, State, full, stateFits, noneEmpty, anyLive, lowestLive, snake}
@@ -25,7 +24,6 @@ use Rattle.sheet.specs.declared.SheetRead.{SheetRead}
 use Rattle.sheet.specs.declared.SheetRead.the-variants as read
 use Rattle.sheet.proofs.Accepted.{Good, facts, keeps, here, problem-bounded}
 use Rattle.jobs.specs.Hand.{handState, callAnswer, callJob}
-use Rattle.jobs.specs.Trace.{traceBytes}
 use Rattle.jobs.specs.Run.{runJob}
 use Rattle.jobs.specs.declared.Reduced.{Reduced}
 use Rattle.jobs.specs.declared.ReduceOutcome.the-variants.{Done}

@@ -29,7 +29,6 @@ use Rattle.jobs.specs.Trace.{recordBytes, traceBytes}
 use Rattle.jobs.specs.PutBack.{PutBackResult, putBackRefused, putBackDone, Checked, Lawful, Fault, checkTrace, planOf, planFits, afterCheck, putBackJob}
 use Rattle.jobs.specs.declared.Extended.{Extended}
 use Rattle.jobs.specs.declared.Extended.the-variants.{Done, Refused}
-use Rattle.jobs.specs.declared.ExtendRefusal.{ExtendRefusal}
 use Rattle.jobs.specs.declared.ExtendRefusal.the-variants as refusal
 use Rattle.jobs.proofs.Opened.{sheet-or, put-back-sheet-refused, put-back-plan-length, put-back-result-length, put-back-checked}
 use Rattle.trace.proofs.Causes.{NoRecord, TraceCause, checked-iff}

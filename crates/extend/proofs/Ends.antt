@@ -3,7 +3,7 @@ use mathlib.Core.Path.{_≡_, sym, ap, _∙_, subst}
 use mathlib.Core.Bool.{_||_}
 use mathlib.Core.List.{List}
 use mathlib.Core.Logic.{inr}
-use Prim.Native.Nat.{ℕ, _<_}
+use Prim.Native.Nat.{ℕ}
 use lib.Dec.{T, eqb}
 use lib.ListN.{length, take, replicate, length-replicate, getD-replicate}
 use lib.Seq.{take-at}
@@ -11,16 +11,16 @@ use Rattle.bounded.specs.Bounded.{allBelow}
 use Rattle.bounded.proofs.Truth.{and-iff, or-iff, eqb-iff}
 use Rattle.bounded.proofs.Bounded.{all-iff}
 use Rattle.problem.specs.Problem.{Problem, State, full}
-use Rattle.problem.specs.Reduce.{afterTrace, run, endOf}
+use Rattle.problem.specs.Reduce.{afterTrace, run}
 use Rattle.problem.specs.Extend.{solves, solvesWhole}
 use Rattle.problem.specs.declared.Record.{Record}
 use Rattle.problem.specs.declared.End.{End}
 use Rattle.problem.specs.declared.End.the-variants.{Impossible, Solved}
-use Rattle.problem.proofs.Reflect.{Active, full-fits}
+use Rattle.problem.proofs.Reflect.{full-fits}
 use Rattle.problem.proofs.Run.{EndSays}
-use Rattle.problem.proofs.Sound.{Solution, solves-iff, solvesWhole-iff}
+use Rattle.problem.proofs.Sound.{solves-iff, solvesWhole-iff}
 use Rattle.problem.proofs.Trace.{trace-fits}
-use Rattle.sheet.specs.Sheet.{layout, variablesOf, Keeps}
+use Rattle.sheet.specs.Sheet.{layout, variablesOf}
 use Rattle.sheet.specs.Relation.{problemOf}
 use Rattle.jobs.specs.Run.{runJob}
 use Rattle.jobs.specs.Trace.{traceBytes}

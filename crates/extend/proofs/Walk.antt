@@ -2,16 +2,14 @@
 use mathlib.Core.Path.{_≡_, refl, sym, ap, _∙_}
 use mathlib.Core.Bool.{Bool, true, false, _&&_}
 use mathlib.Core.List.{List, [], _∷_}
-use Prim.Native.Nat.{ℕ, zero, suc, _-_, _<_}
+use Prim.Native.Nat.{ℕ, suc, _-_}
 use native.Mathlib.Omega.{arith}
 use lib.Dec.{T, ltb, eqb}
 use lib.ListN.{length}
 use borrow.Author.Tests.{lt-ltb, le-ltb, eq-eqb, ne-eqb}
-use Rattle.bounded.proofs.Truth.{T-of}
 use Rattle.problem.specs.Problem.{Problem, State, full}
 use Rattle.problem.specs.Reduce.{lawful, after, lawfulTrace, afterTrace}
 use Rattle.problem.specs.declared.Record.{Record}
-use Rattle.problem.proofs.Trace.{trace-iff}
 use Rattle.problem.specs.Masks.{masksOf}
 use Rattle.problem.specs.declared.Masks.{Masks}
 use Rattle.sheet.specs.Bytes.{byteAt}

@@ -1,6 +1,6 @@
 -- A trace checked from a place on, and what the code answers of it.
 use mathlib.Core.Bool.{Bool, true, false}
-use mathlib.Core.List.{List, []}
+use mathlib.Core.List.{List}
 use Prim.Native.Nat.{ℕ, suc, _-_}
 use lib.ListN.{length}
 use Rattle.problem.specs.Problem.{Problem, State}

@@ -4,18 +4,18 @@ use mathlib.Core.Path.{_≡_, refl, sym, ap, _∙_, subst}
 use mathlib.Core.Bool.{cond}
 use mathlib.Core.List.{List}
 use mathlib.Core.Logic.{_⊎_, inl, inr, _↔_}
-use Prim.Native.Nat.{ℕ, _≤_, _<_}
+use Prim.Native.Nat.{ℕ, _≤_}
 use native.Mathlib.Omega.{arith}
 use lib.Dec.{T, eqb}
-use Rattle.problem.specs.Problem.{Problem, State, stateFits, snake}
+use Rattle.problem.specs.Problem.{Problem, State, snake}
 use Rattle.problem.specs.Manual.{call}
-use Rattle.problem.specs.Masks.{stateOf, Proper}
+use Rattle.problem.specs.Masks.{Proper}
 use Rattle.problem.specs.declared.Call.{Call}
 use Rattle.problem.specs.declared.Call.the-variants as outcome
 use Rattle.problem.proofs.Reflect.{Active, Fits, NoneEmpty}
 use Rattle.problem.proofs.Bridge.{fits-iff}
 use Rattle.problem.proofs.OneCall.{Misfits, Named, SomeEmpty, LowestSnake, CallCause, call-iff}
-use Rattle.sheet.specs.Sheet.{layout, readSheet, sheetNumber, Keeps}
+use Rattle.sheet.specs.Sheet.{layout, readSheet, Keeps}
 use Rattle.sheet.specs.Relation.{problemOf}
 use Rattle.sheet.proofs.Refusals.{sheet-number}
 use Rattle.sheet.specs.declared.SheetRefusal.{SheetRefusal}

@@ -1,15 +1,13 @@
 -- Demand 3, over the definition that the hand call's contract cites, and what stands beside it. Assumes nothing.
 use mathlib.Core.Path.{_≡_, refl, sym, ap, _∙_, subst}
-use mathlib.Core.Bool.{Bool, true, false}
 use mathlib.Core.List.{List, [], _∷_}
-use mathlib.Core.Logic.{_↔_, _⊎_, inl, inr}
-use Prim.Native.Nat.{ℕ, _≤_, _<_}
+use mathlib.Core.Logic.{_↔_}
+use Prim.Native.Nat.{ℕ, _≤_}
 use lib.Dec.{T}
 use lib.ListN.{length}
-use Rattle.problem.specs.Problem.{Problem, State, full, stateFits, eliminate}
+use Rattle.problem.specs.Problem.{State, full, stateFits}
 use Rattle.problem.specs.Manual.{start, call, stateAfter, callState, callsState, finished, arcConsistent}
-use Rattle.problem.specs.Masks.{stateOf, masksOf, Proper}
-use Rattle.problem.specs.Held.{Bounded}
+use Rattle.problem.specs.Masks.{Proper}
 use Rattle.problem.specs.declared.Call.{Call}
 use Rattle.problem.specs.declared.Call.the-variants as outcome
 use Rattle.problem.proofs.Reflect.{Active, Fits, fits-test, arcConsistent-iff, eliminate-fits}
@@ -17,11 +15,11 @@ use Rattle.problem.proofs.Bridge.{state-back, fits-iff, masks-proper}
 use Rattle.problem.proofs.Sound.{Solution, Solvable}
 use Rattle.problem.proofs.Start.{start-fits, start-consistent, start-keeps}
 use Rattle.problem.proofs.Order.{call-fits, call-solvable, finished-exists, Alike, demand-three}
-use Rattle.sheet.specs.Sheet.{layout, readSheet, Keeps}
+use Rattle.sheet.specs.Sheet.{layout, Keeps}
 use Rattle.sheet.specs.Relation.{problemOf}
 use Rattle.sheet.specs.declared.SheetRead.the-variants as read
 use Rattle.sheet.proofs.Accepted.{problem-bounded}
-use Rattle.jobs.specs.Hand.{handState, handOf, handFits, startJob, callAnswer, callJob, callsJob}
+use Rattle.jobs.specs.Hand.{handState, handFits, startJob, callAnswer, callJob, callsJob}
 use Rattle.jobs.specs.declared.ManualState.{ManualState}
 use Rattle.jobs.specs.declared.StartAnswer.{StartAnswer}
 use Rattle.jobs.specs.declared.StartOutcome.the-variants as started

@@ -5,7 +5,7 @@ use mathlib.Core.Logic.{_⊎_, inl, inr, _≢_}
 use Prim.Native.Nat.{ℕ, _+_, _*_, _≤_, _<_}
 use lib.ListN.{length}
 use borrow.Author.Tests.{lt-ltb, le-ltb, eq-eqb, ne-eqb}
-use Rattle.problem.specs.Problem.{Problem, sizeSum}
+use Rattle.problem.specs.Problem.{sizeSum}
 use Rattle.problem.specs.Manual.{start, call}
 use Rattle.problem.specs.Masks.{emptyMasks}
 use Rattle.sheet.specs.Sheet.{layout, readSheet, variablesOf, Keeps}

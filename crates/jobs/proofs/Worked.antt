@@ -1,14 +1,11 @@
 -- Demands 1 and 2 of the run, over the definition that the run's contract cites. Assumes nothing.
-use mathlib.Core.Path.{_≡_, refl, sym, ap, _∙_, subst}
-use mathlib.Core.Bool.{Bool, true, false}
+use mathlib.Core.Path.{_≡_, refl, ap}
 use mathlib.Core.List.{List, [], _∷_, _++_}
-use mathlib.Core.Logic.{_↔_, _⊎_, inl, inr}
-use Prim.Native.Nat.{ℕ, zero, suc, _+_, _*_, _≤_, _<_}
+use mathlib.Core.Logic.{_↔_}
+use Prim.Native.Nat.{ℕ, _+_, _*_, _≤_}
 use native.Mathlib.Omega.{arith}
 use lib.Dec.{T}
 use lib.ListN.{length, length-append}
-use borrow.Author.Tests.{lt-ltb, le-ltb}
-use Rattle.bounded.proofs.Truth.{lt-dec}
 use Rattle.problem.specs.Problem.{Problem, State, full, sizeSum, noneEmpty}
 use Rattle.problem.specs.Reduce.{holds, lawfulTrace, afterTrace, run, endOf}
 use Rattle.problem.specs.Masks.{masksOf}
@@ -21,12 +18,11 @@ use Rattle.problem.proofs.Least.{FirstLawful, run-least}
 use Rattle.problem.proofs.Sound.{Solution, Solvable}
 use Rattle.problem.proofs.Trace.{trace-fits, trace-undone, trace-solvable, lawful-iff}
 use Rattle.problem.proofs.Run.{run-lawful, run-complete, run-short, EndSays, end-says}
-use Rattle.sheet.specs.Sheet.{layout, readSheet, Keeps}
+use Rattle.sheet.specs.Sheet.{layout, Keeps}
 use Rattle.sheet.specs.Relation.{problemOf}
-use Rattle.sheet.specs.declared.SheetRefusal.{SheetRefusal}
 use Rattle.sheet.specs.declared.SheetRead.the-variants as read
 use Rattle.jobs.specs.Trace.{recordBytes, recordsBytes, traceBytes, fronted}
-use Rattle.jobs.specs.Run.{RunResult, runRefused, runDone, bufferShort, runJob}
+use Rattle.jobs.specs.Run.{RunResult, runDone, runJob}
 use Rattle.jobs.specs.declared.ReduceOutcome.the-variants.{Done}
 use Rattle.jobs.proofs.Opened.{run-accepted}
 

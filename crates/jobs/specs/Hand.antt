@@ -1,5 +1,5 @@
 -- Taking out by hand as jobs: starting, one hand call, and lists of hand calls.
-use mathlib.Core.Bool.{Bool, true, false}
+use mathlib.Core.Bool.{Bool}
 use mathlib.Core.List.{List, [], _∷_}
 use Prim.Native.Nat.{ℕ}
 use Rattle.problem.specs.Problem.{Problem, State, stateFits, eliminate}

@@ -1,5 +1,5 @@
 -- docs/FORMAT.md, "What the program prints", as bytes.
-use mathlib.Core.Bool.{Bool, true, false}
+use mathlib.Core.Bool.{true, false}
 use mathlib.Core.List.{List, [], _∷_, _++_}
 use Prim.Native.Nat.{ℕ, zero, suc, _+_, _/_, _%_}
 use lib.Dec.{ltb}
@@ -11,7 +11,7 @@ use Rattle.problem.specs.declared.Record.{Record}
 use Rattle.problem.specs.declared.Record.the-variants.{Unsupported, Snake, Triangle, Neighbourhood, SnakeSubstitution}
 use Rattle.problem.specs.declared.End.{End}
 use Rattle.problem.specs.declared.End.the-variants.{Impossible, Solved, Rest}
-use Rattle.sheet.specs.Sheet.{layout, readSheet, sheetNumber, variablesOf}
+use Rattle.sheet.specs.Sheet.{layout, readSheet, sheetNumber}
 use Rattle.sheet.specs.Relation.{problemOf}
 use Rattle.sheet.specs.declared.SheetRead.the-variants as read
 

@@ -3,10 +3,10 @@
 use mathlib.Core.Path.{_≡_}
 use mathlib.Core.Bool.{Bool, true, false}
 use mathlib.Core.List.{List, [], _∷_, _++_}
-use Prim.Native.Nat.{ℕ, zero, suc, _-_}
+use Prim.Native.Nat.{ℕ, _-_}
 use lib.ListN.{length, replicate}
 use Rattle.problem.specs.Problem.{Problem, State, full, snake}
-use Rattle.problem.specs.Reduce.{run, afterTrace}
+use Rattle.problem.specs.Reduce.{afterTrace}
 use Rattle.problem.specs.Manual.{start}
 use Rattle.problem.specs.Solutions.{solutionCount, solvable}
 use Rattle.problem.specs.declared.Masks.{Masks}

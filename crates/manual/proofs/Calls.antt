@@ -9,7 +9,7 @@ use Rattle.bounded.specs.Bounded.{lowest}
 use Rattle.bounded.specs.Mask.{bit}
 use Rattle.bounded.proofs.Truth.{T-true, T-false, T-of, and-iff, ltb-iff}
 use Rattle.bounded.proofs.Bounded.{lowest-is, lowest-passes, lowest-least, lowest-unique}
-use Rattle.problem.specs.Problem.{Problem, State, stateFits, noneEmpty, anyLive, lowestLive, snake}
+use Rattle.problem.specs.Problem.{Problem, stateFits, noneEmpty, anyLive, lowestLive, snake}
 use Rattle.problem.specs.Manual.{call}
 use Rattle.problem.specs.Held.{held}
 use Rattle.problem.specs.Masks.{stateOf}

@@ -5,7 +5,7 @@ use lib.Dec.{eqb, ltb}
 use lib.ListN.{getD}
 use Rattle.bounded.specs.Bounded.{imp, allBelow}
 use Rattle.bounded.specs.Mask.{maskOf}
-use Rattle.problem.specs.Problem.{Problem, State, maxVariables, maxValues, full, unsupported, eliminate}
+use Rattle.problem.specs.Problem.{Problem, State, maxVariables, maxValues, unsupported, eliminate}
 use Rattle.problem.specs.Manual.{prune, call}
 use Rattle.problem.specs.Masks.{emptyMasks}
 use Rattle.problem.specs.declared.Masks.{Masks}

@@ -1,12 +1,12 @@
 -- One hand call: what it answers, by its tests in their order, and the exact cause of each answer. Assumes nothing.
-use mathlib.Core.Path.{_≡_, refl, sym, ap, _∙_, subst}
-use mathlib.Core.Bool.{Bool, true, false, _&&_}
+use mathlib.Core.Path.{_≡_, sym, ap, _∙_, subst}
+use mathlib.Core.Bool.{true, false, _&&_}
 use mathlib.Core.Logic.{_⊎_, inl, inr, _↔_}
 use Prim.Native.Nat.{ℕ, _≤_, _<_}
 use native.Mathlib.Omega.{arith}
 use lib.Dec.{T, ltb}
 use Rattle.bounded.specs.Bounded.{imp, allBelow}
-use Rattle.bounded.proofs.Truth.{T-true, T-false, T-of, T-dec, lt-dec, and-iff, imp-fails, ltb-iff}
+use Rattle.bounded.proofs.Truth.{T-true, T-false, T-dec, lt-dec, and-iff, imp-fails, ltb-iff}
 use Rattle.bounded.proofs.Bounded.{all-or, lowest-least, lowest-unique}
 use Rattle.problem.specs.Problem.{Problem, State, maxVariables, maxValues, stateFits, noneEmpty, anyLive, lowestLive, snake}
 use Rattle.problem.specs.Manual.{call}

@@ -1,9 +1,9 @@
 -- The order of hand calls does not matter, from any state that fits: it need not be arc consistent. Assumes nothing.
-use mathlib.Core.Path.{_≡_, refl, sym, ap, subst, fun-ext, _∙_}
-use mathlib.Core.Bool.{Bool, true, false, _&&_, not}
+use mathlib.Core.Path.{_≡_, refl, sym, ap, subst, fun-ext}
+use mathlib.Core.Bool.{true, _&&_, not}
 use mathlib.Core.List.{List, [], _∷_}
 use mathlib.Core.Logic.{_≢_, _↔_, _⊎_, inl, inr}
-use Prim.Native.Nat.{ℕ, zero, suc, _+_, _≤_, _<_}
+use Prim.Native.Nat.{ℕ, zero, suc, _≤_, _<_}
 use native.Mathlib.Nat.{not-suc-le-zero, lt-of-lt-of-le}
 use native.Mathlib.Omega.{arith}
 use lib.Dec.{T, ltb}
@@ -13,8 +13,7 @@ use Rattle.bounded.proofs.Truth.{T-ext, T-true, T-false, T-dec, eq-dec, and-iff
 use Rattle.bounded.proofs.Bounded.{count-lt, count-most}
 use Rattle.problem.specs.Problem.{Problem, State, stateFits, noneEmpty, allActive, anyLive, lowestLive, snake, eliminate}
 use Rattle.problem.specs.Manual.{call, stateAfter, callState, callsState, finished, pairLeft, arcConsistent}
-use Rattle.problem.specs.declared.Call.{Call}
-use Rattle.problem.specs.declared.Call.the-variants.{Eliminated, Misfit, NotActive, Emptied, NoSnake}
+use Rattle.problem.specs.declared.Call.the-variants.{Eliminated}
 use Rattle.problem.proofs.Reflect.{Active, Live, Allowed, Fits, turn, fits-test, allActive-or, anyLive-iff, Snake, ArcConsistent, Finished, NoneEmpty, snake-iff, finished-iff, noneEmpty-iff, lowestLive-is, eliminate-active, eliminate-live, eliminate-fits}
 use Rattle.problem.proofs.OneCall.{call-item, call-emptied, call-none, call-done}
 use Rattle.problem.proofs.Sound.{Solvable, snake-undone, eliminate-kept}

@@ -1,17 +1,17 @@
 -- Counting finds a solution exactly where there is one. Assumes nothing.
-use mathlib.Core.Path.{_≡_, refl, sym, ap, subst, _∙_}
+use mathlib.Core.Path.{_≡_, refl, subst, _∙_}
 use mathlib.Core.Bool.{Bool, true, false}
 use mathlib.Core.Logic.{_⊎_, inl, inr, _≢_, _↔_}
 use Prim.Native.Nat.{ℕ, zero, suc, _+_, _≤_, _<_}
 use native.Mathlib.Nat.{not-suc-le-zero}
 use native.Mathlib.Omega.{arith}
-use lib.Dec.{T, ltb}
+use lib.Dec.{T}
 use Rattle.bounded.specs.Bounded.{sumTo, oneIf}
 use Rattle.bounded.proofs.Truth.{T-dec, T-true, T-false, ltb-iff, eq-dec, lt-dec, at-or-below}
 use Rattle.problem.specs.Problem.{Problem, State}
 use Rattle.problem.specs.Extend.{solves, put}
 use Rattle.problem.specs.Solutions.{solutionsFrom, solutionCount, solvable}
-use Rattle.problem.proofs.Reflect.{Active, Live, Fits}
+use Rattle.problem.proofs.Reflect.{Active, Fits}
 use Rattle.problem.proofs.Sound.{Solution, Solvable, solves-iff, put-same, put-other}
 
 -- a sum is positive exactly where a term is

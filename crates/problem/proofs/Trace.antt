@@ -1,9 +1,9 @@
 -- What holds of every step, by kind and then of every record; and of every lawful trace, whoever wrote it. Assumes nothing.
-use mathlib.Core.Path.{_≡_, refl, sym, subst}
-use mathlib.Core.Bool.{Bool, true, false, _&&_}
+use mathlib.Core.Path.{_≡_, refl, subst}
+use mathlib.Core.Bool.{Bool, true, false}
 use mathlib.Core.List.{List, [], _∷_, _++_}
-use mathlib.Core.Logic.{_≢_, _↔_}
-use Prim.Native.Nat.{ℕ, zero, suc, _+_, _≤_, _<_}
+use mathlib.Core.Logic.{_↔_}
+use Prim.Native.Nat.{ℕ, _+_, _≤_, _<_}
 use native.Mathlib.Omega.{arith}
 use lib.Dec.{T}
 use lib.ListN.{length}
@@ -13,7 +13,7 @@ use Rattle.problem.specs.Reduce.{holds, lawful, after, lawfulTrace, afte
 use Rattle.problem.specs.Extend.{undo, undoTrace}
 use Rattle.problem.specs.declared.Record.{Record}
 use Rattle.problem.specs.declared.Record.the-variants.{Unsupported, Snake, Triangle, Neighbourhood, SnakeSubstitution}
-use Rattle.problem.proofs.Reflect.{Active, Live, Fits, full-fits, NoneEmpty, noneEmpty-iff, unsupported-iff, snake-iff, triangle-iff, neighbourhood-iff, snakeSubstitution-iff, remove-live, eliminate-live, remove-fits, eliminate-fits}
+use Rattle.problem.proofs.Reflect.{Live, Fits, full-fits, NoneEmpty, noneEmpty-iff, unsupported-iff, snake-iff, triangle-iff, neighbourhood-iff, snakeSubstitution-iff, remove-live, eliminate-live, remove-fits, eliminate-fits}
 use Rattle.problem.proofs.Sound.{Solution, Solvable, remove-undone, triangle-undone, snake-undone, unsupported-kept, eliminate-kept, neighbourhood-kept, slide-kept}
 use Rattle.problem.proofs.Count.{count-falls, full-count}
 

@@ -146,7 +146,7 @@ module _ (P : Problem) (s : State) where
         live = λ j w. s .live j w && (not (eqb j i) && anyLive i (λ c. P .allowed j w i c));
       }
 
--- the format's slide rule keeps i among the items where e covers d: request Four changes this word
+-- the format's slide rule keeps i among the items where e covers d; true leaves it out, as the paper does
 abbrev pub slideSpares : Bool
 slideSpares = false
 

@@ -1,10 +1,9 @@
 -- docs/FORMAT.md, "The run": records, lawful records and traces, the next step in the required order, the run and its end.
-use mathlib.Core.Bool.{Bool, true, false, _&&_, not}
+use mathlib.Core.Bool.{Bool, true, false, _&&_}
 use mathlib.Core.List.{List, [], _∷_}
 use Prim.Native.Nat.{ℕ, zero, suc}
-use lib.Dec.{T}
-use Rattle.bounded.specs.Bounded.{anyBelow, allBelow, imp}
-use Rattle.problem.specs.Problem.{Problem, State, full, noneEmpty, unsupported, snake, triangle, neighbourhood, snakeSubstitution, slideSpares, remove, eliminate, liveCount}
+use Rattle.bounded.specs.Bounded.{anyBelow}
+use Rattle.problem.specs.Problem.{Problem, State, noneEmpty, unsupported, snake, triangle, neighbourhood, snakeSubstitution, slideSpares, remove, eliminate, liveCount}
 use Rattle.problem.specs.declared.Record.{Record}
 use Rattle.problem.specs.declared.Record.the-variants.{Unsupported, Snake, Triangle, Neighbourhood, SnakeSubstitution}
 use Rattle.problem.specs.declared.Next.{Next}

@@ -8,7 +8,7 @@ use native.Mathlib.Omega.{arith}
 use lib.ListN.{length}
 use lib.Dec.{T, eqb, ltb, leb}
 use borrow.Author.Tests.{ltb-true, ltb-false, leb-true, eqb-true, eqb-false, lt-ltb, le-ltb, le-leb, not-false}
-use Rattle.bounded.specs.Bounded.{countBelow, sumTo, oneIf}
+use Rattle.bounded.specs.Bounded.{countBelow, sumTo}
 use Rattle.bounded.proofs.Truth.{T-true, T-of, T-not, both, neither}
 use Rattle.bounded.proofs.Bounded.{count-lt}
 use Rattle.problem.specs.Held.{Bounded}

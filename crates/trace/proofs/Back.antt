@@ -1,8 +1,8 @@
 -- What was written is read back, and a trace one record longer. Assumes nothing.
 use mathlib.Core.Path.{_≡_, refl, sym, ap, _∙_}
-use mathlib.Core.Bool.{Bool, true, false}
+use mathlib.Core.Bool.{true, false}
 use mathlib.Core.List.{List, [], _∷_, _++_, append-assoc, append-nil}
-use Prim.Native.Nat.{ℕ, suc, _+_, _≤_, _<_}
+use Prim.Native.Nat.{ℕ, _+_, _≤_, _<_}
 use native.Mathlib.Nat.{add-zero}
 use native.Mathlib.Omega.{arith}
 use lib.ListN.{length, getD, length-append}
@@ -12,12 +12,11 @@ use Rattle.sheet.specs.Bytes.{byteAt}
 use Rattle.problem.specs.declared.Record.{Record}
 use Rattle.problem.specs.declared.Record.the-variants.{Unsupported, Snake, Triangle, Neighbourhood, SnakeSubstitution}
 use Rattle.jobs.specs.Trace.{recordBytes, recordsBytes, traceBytes, lengthByte, recordOf, isWhole, recordAt}
-use Rattle.jobs.specs.declared.RecordRead.{RecordRead}
-use Rattle.jobs.specs.declared.RecordRead.the-variants.{Read, End, Malformed}
+use Rattle.jobs.specs.declared.RecordRead.the-variants.{Read}
 use Rattle.trace.proofs.Read.{at-end, at-broken, at-whole, at-record, whole-parts}
 use lib.Dec.{ltb}
 use borrow.Author.Tests.{ltb-true, ltb-false}
-use mathlib.Core.Logic.{_⊎_, inl, inr, ⊎-elim}
+use mathlib.Core.Logic.{_⊎_, ⊎-elim}
 
 -- ---- records one after the other
 
@@ -43,9 +42,6 @@ record-most (Neighbourhood i b a) = (omega arith, omega arith)
 record-most (SnakeSubstitution i b a) = (omega arith, omega arith)
 
 -- ---- what stands after a list
-
-pub end-back : (w : List ℕ) → recordAt w (length w) ≡ End
-end-back w = at-end w (length w) (omega arith)
 
 -- a record's bytes, from their place
 module _ (pre w : List ℕ) where

@@ -1,6 +1,5 @@
 -- `bench_sheets::show_masks`: each domain in turn. Assumes nothing.
 use Prim.Native.Nat.{_≤_, _-_}
-use lib.ListN.{length}
 use borrow.Author.Needs.{needs}
 use Rattle.bench_sheets.proofs.show_masks.Statement.{statement}
 use Rattle.bench_sheets.proofs.show_masks.Tie as tie

@@ -1,9 +1,6 @@
 -- `extend::apply`: a lawful record's fields are in range. Assumes nothing.
-use Rattle.problem.specs.Held.{held}
-use Rattle.problem.specs.Masks.{stateOf}
 use Rattle.problem.proofs.Trace.{lawful-iff}
 use Rattle.reduce.proofs.States.{holds-within}
-use borrow.Author.Needs.{needs}
 use Rattle.extend.proofs.apply.Statement.{statement}
 use Rattle.extend.proofs.apply.Tie as tie
 

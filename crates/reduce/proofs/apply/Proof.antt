@@ -1,5 +1,5 @@
 -- `reduce::apply`: each arm by itself. Assumes nothing.
-use mathlib.Core.Path.{_≡_, subst}
+use mathlib.Core.Path.{subst}
 use Rattle.problem.specs.Reduce.{after}
 use Rattle.reduce.specs.Steps.{Within}
 use native.Mathlib.Omega.{arith}

@@ -1,5 +1,4 @@
 -- `reduce::next_of_kind`: each kind by itself; of the five, the last is left. Assumes nothing.
-use Prim.Native.Nat.{ℕ}
 use mathlib.Core.Path.{_≡_}
 use native.Mathlib.Omega.{arith}
 use borrow.Author.Needs.{needs}

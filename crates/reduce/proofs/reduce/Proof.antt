@@ -1,5 +1,5 @@
 -- `reduce::reduce`. Assumes nothing.
-use mathlib.Core.Path.{_≡_, refl, ap, sym, _∙_}
+use mathlib.Core.Path.{ap, sym, _∙_}
 use Rattle.sheet.specs.Sheet.{layout}
 use Rattle.sheet.proofs.Accepted.{keeps}
 use Rattle.jobs.specs.Run.{RunResult}

@@ -1,7 +1,4 @@
 -- `reduce::refused`. Assumes nothing.
-use mathlib.Core.Path.{_≡_, ap}
-use Rattle.problem.specs.declared.Masks.{Masks}
-use Rattle.jobs.specs.declared.Reduced.{Reduced}
 use Rattle.jobs.specs.declared.ReduceOutcome.the-variants.{Refused}
 use borrow.Author.Needs.{needs}
 use Rattle.reduce.proofs.refused.Statement.{statement}

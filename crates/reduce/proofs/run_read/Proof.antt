@@ -1,5 +1,5 @@
 -- `reduce::run_read`. Assumes nothing.
-use mathlib.Core.Path.{_≡_, refl, ap, sym, _∙_}
+use mathlib.Core.Path.{ap, sym, _∙_}
 use native.Mathlib.Omega.{arith}
 use Rattle.jobs.specs.Run.{RunResult}
 use Rattle.jobs.proofs.Opened.{run-buffer-refused, run-accepted}

@@ -1,10 +1,5 @@
 -- `reduce::run_sheet`: the table holds the sheet's problem. Assumes nothing.
-use mathlib.Core.Path.{_≡_, ap, _∙_}
-use Rattle.problem.specs.Problem.{Problem}
-use Rattle.problem.specs.Held.{held, tableOf}
 use Rattle.problem.proofs.HeldTable.{held-same, table-rows}
-use Rattle.sheet.specs.Sheet.{layout}
-use Rattle.sheet.specs.Relation.{problemOf}
 use Rattle.sheet.proofs.Accepted.{problem-bounded}
 use borrow.Author.Needs.{needs}
 use Rattle.reduce.proofs.run_sheet.Statement.{statement}

@@ -1,16 +1,11 @@
 -- `reduce::run_table`: the loop of the run. Each turn uses up a value, which is the measure. Assumes nothing.
-use Prim.Native.Nat.{ℕ, _+_, _≤_, _<_}
-use mathlib.Core.Path.{_≡_, refl, sym, ap, _∙_, subst}
+use mathlib.Core.Path.{sym, ap, _∙_}
 use native.Mathlib.Omega.{arith}
 use lib.ListN.{length, length-set}
 use borrow.Author.Needs.{needs}
-use Rattle.problem.specs.Problem.{State, liveCount}
+use Rattle.problem.specs.Problem.{liveCount}
 use Rattle.problem.specs.Held.{held}
 use Rattle.problem.specs.Masks.{stateOf}
-use Rattle.problem.specs.declared.Masks.{Masks}
-use Rattle.problem.specs.declared.End.{End}
-use Rattle.jobs.specs.declared.Reduced.{Reduced}
-use Rattle.jobs.specs.declared.ReduceOutcome.the-variants.{Done}
 use Rattle.reduce.proofs.States.{after-state}
 use Rattle.reduce.proofs.Running.{Running, running-start, running-next, same-length as kept-length, falls, record-room, step-counts, record-within, within-small, done-buffer, done-answer}
 use Rattle.reduce.proofs.run_table.Statement.{statement}

@@ -1,6 +1,6 @@
 -- `text::put_field`: a space, and the number after it.
 use native.Mathlib.Omega.{arith}
-use Prim.Native.Nat.{_+_, _≤_}
+use Prim.Native.Nat.{_≤_}
 use lib.ListN.{length}
 use Rattle.text.proofs.Laws.{after}
 use borrow.Author.Needs.{needs}

@@ -1,8 +1,7 @@
 -- `text::put_first_line`: the word, the two fields and the line's end, one after the other.
 use native.Mathlib.Omega.{arith}
-use Prim.Native.Nat.{_+_, _≤_}
+use Prim.Native.Nat.{_≤_}
 use lib.ListN.{length}
-use Rattle.jobs.specs.Print.{field, sheetWord}
 use Rattle.text.proofs.Laws.{after}
 use borrow.Author.Needs.{needs}
 use Rattle.text.proofs.put_first_line.Statement.{statement}

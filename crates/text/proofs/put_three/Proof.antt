@@ -1,8 +1,7 @@
 -- `text::put_three`: one field, and two after it.
 use native.Mathlib.Omega.{arith}
-use Prim.Native.Nat.{_+_, _≤_}
+use Prim.Native.Nat.{_≤_}
 use lib.ListN.{length}
-use Rattle.jobs.specs.Print.{field}
 use Rattle.text.proofs.Laws.{after}
 use borrow.Author.Needs.{needs}
 use Rattle.text.proofs.put_three.Statement.{statement}
