@@ -2,6 +2,7 @@ pub mod Reflect
 pub mod Published
 pub mod Sound
 pub mod Count
+pub mod Undone
 pub mod Trace
 pub mod Run
 pub mod Least
