@@ -1,4 +1,4 @@
--- "The next step is of the lowest kind that holds anywhere, then the lowest i, then the lowest third field, then the lowest fourth": the
+-- "the next step is of the lowest kind that holds anywhere, then the lowest i, then the lowest third field, then the lowest fourth": the
 -- order of the records, and that the search finds the first lawful record in it. Assumes nothing.
 use mathlib.Core.Path.{_≡_, refl, sym, ap, subst, _∙_}
 use mathlib.Core.Bool.{Bool}
