@@ -17,7 +17,7 @@ use Rattle.problem.specs.declared.Next.{Next}
 use Rattle.problem.specs.declared.Next.the-variants.{Step, Nothing}
 use Rattle.problem.proofs.Reflect.{Fits, unsupported-iff, snake-iff, triangle-iff, neighbourhood-iff, snakeSubstitution-iff}
 use Rattle.problem.proofs.Trace.{after-fits, lawful-iff, step-falls, trace-fits}
-use Rattle.problem.proofs.Run.{never, first-each, first-where, when-found, when-none, next-open, next-lawful, next-complete, run-step, run-stop, run-next}
+use Rattle.problem.proofs.Run.{never, first-each, first-where, stepIf-found, stepIf-none, next-open, next-lawful, next-complete, run-step, run-stop, run-next}
 
 -- ---- the order
 
@@ -150,7 +150,7 @@ first-least g n f A Lt bound each = (found, λ e x a. each (g x) (bound x a) .1 
 
 -- one test
 if-least : (A : Record → Type 0) (Lt : Record → Record → Type 0) (b : Bool) (r : Record) → (T b → A r) → ((x : Record) → A x → T b) → ((x : Record) → A x → Lt x r → ⊥) → Least A Lt (stepIf b r)
-if-least A Lt b r holds complete none = (when-found (λ y. A y × ((x : Record) → A x → Lt x y → ⊥)) b r (λ t. (holds t, none)), λ e x a. when-none b r e (complete x a))
+if-least A Lt b r holds complete none = (stepIf-found (λ y. A y × ((x : Record) → A x → Lt x y → ⊥)) b r (λ t. (holds t, none)), λ e x a. stepIf-none b r e (complete x a))
 
 -- ---- the five searches
 

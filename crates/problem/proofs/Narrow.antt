@@ -16,7 +16,7 @@ use Rattle.problem.specs.declared.Record.the-variants.{Unsupported, Snak
 use Rattle.problem.specs.declared.Next.the-variants.{Step, Nothing}
 use Rattle.problem.proofs.Reflect.{Active, Live, Allowed, Fits, allActive-or, allLive-or, allOther-iff, substitutes-iff, neighbourhood-iff, snakeSubstitution-iff}
 use Rattle.problem.proofs.Trace.{trace-fits}
-use Rattle.problem.proofs.Run.{never, first-found, first-where, when-found, next-open, next-shut, kind-found, neighbourhood-complete, run-next}
+use Rattle.problem.proofs.Run.{never, first-found, first-where, stepIf-found, next-open, next-shut, kind-found, neighbourhood-complete, run-next}
 
 -- ---- where the slide holds, a cover holds
 
@@ -66,10 +66,10 @@ module _ (P : Problem) (s : State) where
   kind-low : (k : ℕ) → k < 5 → (r : Record) → nextOfKind P s k ≡ Step r → Low r
   unfolding nextOfKind nextUnsupported nextSnake nextTriangle nextNeighbourhood
   kind-low zero l r e = absurd (never e)
-  kind-low (suc zero) l r e = first-found Low _ _ (λ i. first-found Low _ _ (λ b. first-found Low _ _ (λ k. when-found Low (unsupported P s i b k) (Unsupported i b k) (λ t. omega arith)))) r e
-  kind-low (suc (suc zero)) l r e = first-found Low _ _ (λ i. first-found Low _ _ (λ v. when-found Low (snake P s i v) (Snake i v) (λ t. omega arith))) r e
-  kind-low (suc (suc (suc zero))) l r e = first-found Low _ _ (λ i. first-found Low _ _ (λ j. when-found Low (triangle P s i j) (Triangle i j) (λ t. omega arith))) r e
-  kind-low (suc (suc (suc (suc zero)))) l r e = first-found Low _ _ (λ i. first-found Low _ _ (λ b. first-found Low _ _ (λ a. when-found Low (neighbourhood P s i b a) (Neighbourhood i b a) (λ t. omega arith)))) r e
+  kind-low (suc zero) l r e = first-found Low _ _ (λ i. first-found Low _ _ (λ b. first-found Low _ _ (λ k. stepIf-found Low (unsupported P s i b k) (Unsupported i b k) (λ t. omega arith)))) r e
+  kind-low (suc (suc zero)) l r e = first-found Low _ _ (λ i. first-found Low _ _ (λ v. stepIf-found Low (snake P s i v) (Snake i v) (λ t. omega arith))) r e
+  kind-low (suc (suc (suc zero))) l r e = first-found Low _ _ (λ i. first-found Low _ _ (λ j. stepIf-found Low (triangle P s i j) (Triangle i j) (λ t. omega arith))) r e
+  kind-low (suc (suc (suc (suc zero)))) l r e = first-found Low _ _ (λ i. first-found Low _ _ (λ b. first-found Low _ _ (λ a. stepIf-found Low (neighbourhood P s i b a) (Neighbourhood i b a) (λ t. omega arith)))) r e
   kind-low (suc (suc (suc (suc (suc k))))) l r e = absurd (omega arith)
 
 -- ---- the run

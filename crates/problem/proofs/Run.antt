@@ -43,10 +43,10 @@ first-found Q (suc n) f h r e = go (f zero) refl e (first-found Q n (λ k. f (su
     go Nothing p e ih = ih e
     go (Step x) p e ih = h zero r (p ∙ e)
 
-pub when-found : (Q : Record → Type 0) (b : Bool) (r : Record) → (T b → Q r) → (x : Record) → stepIf b r ≡ Step x → Q x
+pub stepIf-found : (Q : Record → Type 0) (b : Bool) (r : Record) → (T b → Q r) → (x : Record) → stepIf b r ≡ Step x → Q x
 unfolding stepIf
-when-found Q true r h x e = subst Q (same-step e) (h tt)
-when-found Q false r h x e = absurd (never e)
+stepIf-found Q true r h x e = subst Q (same-step e) (h tt)
+stepIf-found Q false r h x e = absurd (never e)
 
 -- where none is found there is none anywhere
 pub first-each : (n : ℕ) (f : ℕ → Next) → first n f ≡ Nothing → (k : ℕ) → k < n → f k ≡ Nothing
@@ -75,10 +75,10 @@ first-where (suc n) f r e = go (f zero) refl e (first-where n (λ k. f (suc k)) 
         before k h zero l = p
         before k h (suc j) l = h j (le-of-suc-le-suc l)
 
-pub when-none : (b : Bool) (r : Record) → stepIf b r ≡ Nothing → T b → ⊥
+pub stepIf-none : (b : Bool) (r : Record) → stepIf b r ≡ Nothing → T b → ⊥
 unfolding stepIf
-when-none true r e t = never-step e
-when-none false r e t = t
+stepIf-none true r e t = never-step e
+stepIf-none false r e t = t
 
 module _ (P : Problem) (s : State) where
   -- the rule of a record holds
@@ -89,55 +89,55 @@ module _ (P : Problem) (s : State) where
 
   unsupported-found : (r : Record) → nextUnsupported P s ≡ Step r → Holds r
   unfolding nextUnsupported holds
-  unsupported-found = first-found Holds _ _ (λ i. first-found Holds _ _ (λ b. first-found Holds _ _ (λ k. when-found Holds (unsupported P s i b k) (Unsupported i b k) (λ t. t))))
+  unsupported-found = first-found Holds _ _ (λ i. first-found Holds _ _ (λ b. first-found Holds _ _ (λ k. stepIf-found Holds (unsupported P s i b k) (Unsupported i b k) (λ t. t))))
 
   unsupported-complete : Fits P s → nextUnsupported P s ≡ Nothing → (i b k : ℕ) → T (unsupported P s i b k) → ⊥
   unfolding nextUnsupported
   unsupported-complete F e i b k h =
       let x = unsupported-iff F i b k .0 h in
-      when-none (unsupported P s i b k) (Unsupported i b k)
+      stepIf-none (unsupported P s i b k) (Unsupported i b k)
       (first-each _ _ (first-each _ _ (first-each _ _ e i (F .active-lt i (F .live-active i b (x .0)))) b (F .live-lt i b (x .0))) k (F .active-lt k (x .1))) h
 
   snake-found : (r : Record) → nextSnake P s ≡ Step r → Holds r
   unfolding nextSnake holds
-  snake-found = first-found Holds _ _ (λ i. first-found Holds _ _ (λ v. when-found Holds (snake P s i v) (Snake i v) (λ t. t)))
+  snake-found = first-found Holds _ _ (λ i. first-found Holds _ _ (λ v. stepIf-found Holds (snake P s i v) (Snake i v) (λ t. t)))
 
   snake-complete : Fits P s → nextSnake P s ≡ Nothing → (i v : ℕ) → T (snake P s i v) → ⊥
   unfolding nextSnake
   snake-complete F e i v h =
       let x = snake-iff F i v .0 h in
-      when-none (snake P s i v) (Snake i v) (first-each _ _ (first-each _ _ e i (F .active-lt i (F .live-active i v (x .0)))) v (F .live-lt i v (x .0))) h
+      stepIf-none (snake P s i v) (Snake i v) (first-each _ _ (first-each _ _ e i (F .active-lt i (F .live-active i v (x .0)))) v (F .live-lt i v (x .0))) h
 
   triangle-found : (r : Record) → nextTriangle P s ≡ Step r → Holds r
   unfolding nextTriangle holds
-  triangle-found = first-found Holds _ _ (λ i. first-found Holds _ _ (λ j. when-found Holds (triangle P s i j) (Triangle i j) (λ t. t)))
+  triangle-found = first-found Holds _ _ (λ i. first-found Holds _ _ (λ j. stepIf-found Holds (triangle P s i j) (Triangle i j) (λ t. t)))
 
   triangle-complete : Fits P s → nextTriangle P s ≡ Nothing → (i j : ℕ) → T (triangle P s i j) → ⊥
   unfolding nextTriangle
   triangle-complete F e i j h =
       let x = triangle-iff F i j .0 h in
-      when-none (triangle P s i j) (Triangle i j) (first-each _ _ (first-each _ _ e i (F .active-lt i (x .0))) j (F .active-lt j (x .1 .0))) h
+      stepIf-none (triangle P s i j) (Triangle i j) (first-each _ _ (first-each _ _ e i (F .active-lt i (x .0))) j (F .active-lt j (x .1 .0))) h
 
   neighbourhood-found : (r : Record) → nextNeighbourhood P s ≡ Step r → Holds r
   unfolding nextNeighbourhood holds
-  neighbourhood-found = first-found Holds _ _ (λ i. first-found Holds _ _ (λ b. first-found Holds _ _ (λ a. when-found Holds (neighbourhood P s i b a) (Neighbourhood i b a) (λ t. t))))
+  neighbourhood-found = first-found Holds _ _ (λ i. first-found Holds _ _ (λ b. first-found Holds _ _ (λ a. stepIf-found Holds (neighbourhood P s i b a) (Neighbourhood i b a) (λ t. t))))
 
   pub neighbourhood-complete : Fits P s → nextNeighbourhood P s ≡ Nothing → (i b a : ℕ) → T (neighbourhood P s i b a) → ⊥
   unfolding nextNeighbourhood
   neighbourhood-complete F e i b a h =
       let x = neighbourhood-iff F i b a .0 h in
-      when-none (neighbourhood P s i b a) (Neighbourhood i b a)
+      stepIf-none (neighbourhood P s i b a) (Neighbourhood i b a)
       (first-each _ _ (first-each _ _ (first-each _ _ e i (F .active-lt i (F .live-active i b (x .0)))) b (F .live-lt i b (x .0))) a (F .live-lt i a (x .1 .0))) h
 
   slide-found : (r : Record) → nextSnakeSubstitution P s ≡ Step r → Holds r
   unfolding nextSnakeSubstitution holds
-  slide-found = first-found Holds _ _ (λ i. first-found Holds _ _ (λ b. first-found Holds _ _ (λ a. when-found Holds (snakeSubstitution P s slideSpares i b a) (SnakeSubstitution i b a) (λ t. t))))
+  slide-found = first-found Holds _ _ (λ i. first-found Holds _ _ (λ b. first-found Holds _ _ (λ a. stepIf-found Holds (snakeSubstitution P s slideSpares i b a) (SnakeSubstitution i b a) (λ t. t))))
 
   slide-complete : Fits P s → nextSnakeSubstitution P s ≡ Nothing → (i b a : ℕ) → T (snakeSubstitution P s slideSpares i b a) → ⊥
   unfolding nextSnakeSubstitution
   slide-complete F e i b a h =
       let x = snakeSubstitution-iff F slideSpares i b a .0 h in
-      when-none (snakeSubstitution P s slideSpares i b a) (SnakeSubstitution i b a)
+      stepIf-none (snakeSubstitution P s slideSpares i b a) (SnakeSubstitution i b a)
       (first-each _ _ (first-each _ _ (first-each _ _ e i (F .active-lt i (F .live-active i b (x .0)))) b (F .live-lt i b (x .0))) a (F .live-lt i a (x .1 .0))) h
 
   -- ---- the kinds joined

@@ -29,13 +29,13 @@ use Rattle.reduce.specs.Search.{isStep, unsupportedValue, unsupportedVar
 
 -- ---- one test
 
-pub when-on : (b : Bool) (r : Record) → b ≡ true → stepIf b r ≡ Step r
+pub stepIf-on : (b : Bool) (r : Record) → b ≡ true → stepIf b r ≡ Step r
 unfolding stepIf
-when-on b r e = rw e
+stepIf-on b r e = rw e
 
-pub when-off : (b : Bool) (r : Record) → b ≡ false → stepIf b r ≡ Nothing
+pub stepIf-off : (b : Bool) (r : Record) → b ≡ false → stepIf b r ≡ Nothing
 unfolding stepIf
-when-off b r e = rw e
+stepIf-off b r e = rw e
 
 pub step-is : (x : Next) → isStep x ≡ true → (r : Record) × (x ≡ Step r)
 step-is (Step r) e = (r, refl)
@@ -117,7 +117,7 @@ wide-three f n size inner N M K l m k h =
 
 -- a test that holds only within the narrower bounds
 outside : (b : Bool) (r : Record) → (T b → ⊥) → stepIf b r ≡ Nothing
-outside b r h = when-off b r (T-false b h)
+outside b r h = stepIf-off b r (T-false b h)
 
 -- ---- the kinds, over a table and a state that fits it
 

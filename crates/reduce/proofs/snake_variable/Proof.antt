@@ -11,7 +11,7 @@ use Rattle.problem.specs.Masks.{stateOf}
 use Rattle.problem.specs.declared.Next.the-variants.{Nothing}
 use Rattle.problem.specs.declared.Record.the-variants.{Snake}
 use Rattle.reduce.specs.Search.{snakeVariable}
-use Rattle.reduce.proofs.Search.{when-on, when-off, first-none, first-more, first-hit, first-end, snake-variable-off}
+use Rattle.reduce.proofs.Search.{stepIf-on, stepIf-off, first-none, first-more, first-hit, first-end, snake-variable-off}
 use Rattle.reduce.proofs.snake_variable.Statement.{statement}
 use Rattle.reduce.proofs.snake_variable.Tie as tie
 
@@ -30,8 +30,8 @@ snake-variable-spec =
     (λ c. sym (snake-variable-off (c .before .before .before .pre .0) _ (sym (c .before .has32 .ensures) ∙ not-true _ (c .if1 .taken))))
     (λ c. (search needs, first-none _))
     (λ c κs. search needs)
-    (λ c. sym (first-hit _ 16 _ _ (omega arith) (c .before .before .before .loop .inv .1) (when-on _ _ (sym (c .before .snake .ensures) ∙ c .if2 .taken)) refl))
+    (λ c. sym (first-hit _ 16 _ _ (omega arith) (c .before .before .before .loop .inv .1) (stepIf-on _ _ (sym (c .before .snake .ensures) ∙ c .if2 .taken)) refl))
     (λ c. omega arith)
     (λ c. omega arith)
-    (λ c. (omega arith, first-more _ _ (c .before .before .before .loop .inv .1) (when-off _ _ (sym (c .before .snake .ensures) ∙ c .if2 .left))))
+    (λ c. (omega arith, first-more _ _ (c .before .before .before .loop .inv .1) (stepIf-off _ _ (sym (c .before .snake .ensures) ∙ c .if2 .left))))
     (λ c. sym (first-end _ 16 _ (omega arith) (c .before .loop .inv .1))))

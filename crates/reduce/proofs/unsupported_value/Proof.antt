@@ -11,7 +11,7 @@ use Rattle.problem.specs.Masks.{stateOf}
 use Rattle.problem.specs.declared.Next.the-variants.{Nothing}
 use Rattle.problem.specs.declared.Record.the-variants.{Unsupported}
 use Rattle.reduce.specs.Search.{unsupportedValue}
-use Rattle.reduce.proofs.Search.{when-on, when-off, first-none, first-more, first-hit, first-end, unsupported-value-off}
+use Rattle.reduce.proofs.Search.{stepIf-on, stepIf-off, first-none, first-more, first-hit, first-end, unsupported-value-off}
 use Rattle.reduce.proofs.unsupported_value.Statement.{statement}
 use Rattle.reduce.proofs.unsupported_value.Tie as tie
 
@@ -32,8 +32,8 @@ unsupported-value-spec =
     (λ c. sym (unsupported-value-off (c .before .before .before .before .pre .0) _ _ (sym (c .before .has16 .ensures) ∙ not-true _ (c .if1 .taken))))
     (λ c. (search needs, first-none _))
     (λ c κs. search needs)
-    (λ c. sym (first-hit _ 32 _ _ (omega arith) (c .before .before .before .loop .inv .1) (when-on _ _ (sym (c .before .unsupported .ensures) ∙ c .if2 .taken)) refl))
+    (λ c. sym (first-hit _ 32 _ _ (omega arith) (c .before .before .before .loop .inv .1) (stepIf-on _ _ (sym (c .before .unsupported .ensures) ∙ c .if2 .taken)) refl))
     (λ c. omega arith)
     (λ c. omega arith)
-    (λ c. (omega arith, first-more _ _ (c .before .before .before .loop .inv .1) (when-off _ _ (sym (c .before .unsupported .ensures) ∙ c .if2 .left))))
+    (λ c. (omega arith, first-more _ _ (c .before .before .before .loop .inv .1) (stepIf-off _ _ (sym (c .before .unsupported .ensures) ∙ c .if2 .left))))
     (λ c. sym (first-end _ 32 _ (omega arith) (c .before .loop .inv .1))))
