@@ -1,7 +1,7 @@
 /* From a sheet to a finished plan: runs the sheet, searches a plan for the items left, puts the items taken out back, and prints the
  * setting of each item, or that the sheet has no plan. The search is a plain one, to show how the jobs fit together.
  *
- *     cc -I include include/plan_sheet.c target/staticlib/libembed.a -o plan_sheet
+ *     cc -I include include/plan_sheet.c target/staticlib/libzomuwedli.a -o plan_sheet
  *     ./plan_sheet examples/F.sheet
  */
 #include <stdio.h>

@@ -1,6 +1,6 @@
 /* Reads a sheet from a file, runs it, and prints what the program reduce_sheet prints.
  *
- *     cc -I include include/reduce_sheet.c target/staticlib/libembed.a -o reduce_sheet
+ *     cc -I include include/reduce_sheet.c target/staticlib/libzomuwedli.a -o reduce_sheet
  *     ./reduce_sheet examples/B.sheet
  */
 #include <stdio.h>

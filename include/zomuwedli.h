@@ -1,7 +1,7 @@
 /* Zomuwedli for C: every job of the proved library, over numbers and byte buffers. What each job does is in docs/FORMAT.md; the answers and
  * the bytes of a state are under "The state's bytes and the C boundary".
  *
- * Link target/staticlib/libembed.a, which `rt staticlib embed` writes for x86-64 Linux. It allocates nothing, keeps nothing between calls,
+ * Link target/staticlib/libzomuwedli.a, which `rt staticlib zomuwedli` writes for x86-64 Linux. It allocates nothing, keeps nothing between calls,
  * so that threads need no lock, and calls nothing of the C library but memset and memcpy (tests/callers looks at the archive).
  *
  * Buffers. Each is an address and then a length in bytes. It is read, and written, within that length only. An address is not followed

@@ -1,12 +1,12 @@
--- `embed::zomuwedli_hand_call`: the length of the buffer, then what the job answers; its number fits. Assumes nothing.
+-- `zomuwedli::zomuwedli_hand_call`: the length of the buffer, then what the job answers; its number fits. Assumes nothing.
 use mathlib.Core.Path.{sym, ap, _∙_}
 use native.Mathlib.Omega.{arith}
-use Rattle.embed.specs.Calls.{HandCall}
-use Rattle.embed.proofs.Small.{call-small}
-use Rattle.embed.proofs.Calls.{hand-bad, hand-reads, hand-says}
+use Rattle.zomuwedli.specs.Calls.{HandCall}
+use Rattle.zomuwedli.proofs.Small.{call-small}
+use Rattle.zomuwedli.proofs.Calls.{hand-bad, hand-reads, hand-says}
 use borrow.Author.Needs.{needs}
-use Rattle.embed.proofs.zomuwedli_hand_call.Statement.{statement}
-use Rattle.embed.proofs.zomuwedli_hand_call.Tie as tie
+use Rattle.zomuwedli.proofs.zomuwedli_hand_call.Statement.{statement}
+use Rattle.zomuwedli.proofs.zomuwedli_hand_call.Tie as tie
 
 returns : tie.Need-returns
 returns c =

@@ -45,13 +45,13 @@ use Rattle.jobs.proofs.Worked.{Worked, run-worked}
 use Rattle.extend.proofs.Causes.{BackCause, put-back-iff}
 use Rattle.extend.proofs.Demands.{put-back-accepted, put-back-plan, run-put-back}
 use Rattle.extend.proofs.Ends.{impossible-none, solved-fits}
-use Rattle.embed.specs.State.{stateLength, handStateLength, wordsBytes, masksBytes, masksIn, handBytes, handIn}
-use Rattle.embed.specs.Calls.{RunCall, runCall, HandCall, startCall, handCall, handCalls, putBackCall}
-use Rattle.embed.proofs.Small.{run-small}
-use Rattle.embed.proofs.Calls.{run-says, start-says, hand-says}
-use Rattle.embed.proofs.Crossing.{state-length, hand-bytes-crossed}
-use Rattle.embed.proofs.Answers.{run-unpacked, run-taken, put-back-zero, put-back-taken}
-use Rattle.embed.proofs.States.{run-state, start-state, Held, call-held, call-state}
+use Rattle.zomuwedli.specs.State.{stateLength, handStateLength, wordsBytes, masksBytes, masksIn, handBytes, handIn}
+use Rattle.zomuwedli.specs.Calls.{RunCall, runCall, HandCall, startCall, handCall, handCalls, putBackCall}
+use Rattle.zomuwedli.proofs.Small.{run-small}
+use Rattle.zomuwedli.proofs.Calls.{run-says, start-says, hand-says}
+use Rattle.zomuwedli.proofs.Crossing.{state-length, hand-bytes-crossed}
+use Rattle.zomuwedli.proofs.Answers.{run-unpacked, run-taken, put-back-zero, put-back-taken}
+use Rattle.zomuwedli.proofs.States.{run-state, start-state, Held, call-held, call-state}
 
 -- ---- the bytes of a state
 

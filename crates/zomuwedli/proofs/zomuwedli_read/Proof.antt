@@ -1,12 +1,12 @@
--- `embed::zomuwedli_read`: what reading the sheet finds; its numbers fit. Assumes nothing.
+-- `zomuwedli::zomuwedli_read`: what reading the sheet finds; its numbers fit. Assumes nothing.
 use mathlib.Core.Path.{sym, ap, _∙_}
 use Prim.Native.Nat.{_≤_}
 use native.Mathlib.Omega.{arith}
-use Rattle.embed.specs.Calls.{readNumber}
-use Rattle.embed.proofs.Small.{read-small}
+use Rattle.zomuwedli.specs.Calls.{readNumber}
+use Rattle.zomuwedli.proofs.Small.{read-small}
 use borrow.Author.Needs.{needs}
-use Rattle.embed.proofs.zomuwedli_read.Statement.{statement}
-use Rattle.embed.proofs.zomuwedli_read.Tie as tie
+use Rattle.zomuwedli.proofs.zomuwedli_read.Statement.{statement}
+use Rattle.zomuwedli.proofs.zomuwedli_read.Tie as tie
 
 -- the variables and the blocks
 few : (c : tie.After-known-told2) → (c .before .variables .given .0 .0 ≤ 32) × (c .before .variables .given .0 .1 .0 ≤ 1024)

@@ -9,7 +9,7 @@ use lib.Seq.{take-suc, take-all, length-take-le}
 use Rattle.problem.specs.declared.Masks.{Masks}
 use Rattle.trace.specs.Written.{written}
 use Rattle.trace.proofs.Written.{sets-written, written-nil, written-more}
-use Rattle.embed.specs.State.{numberBytes, wordsBytes, masksBytes}
+use Rattle.zomuwedli.specs.State.{numberBytes, wordsBytes, masksBytes}
 
 -- ---- words
 

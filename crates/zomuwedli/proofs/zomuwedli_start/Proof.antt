@@ -1,11 +1,11 @@
--- `embed::zomuwedli_start`: the length of the buffer, then what the job answers. Assumes nothing.
+-- `zomuwedli::zomuwedli_start`: the length of the buffer, then what the job answers. Assumes nothing.
 use mathlib.Core.Path.{sym, ap, _∙_}
 use native.Mathlib.Omega.{arith}
-use Rattle.embed.specs.Calls.{HandCall}
-use Rattle.embed.proofs.Calls.{start-bad, start-says}
+use Rattle.zomuwedli.specs.Calls.{HandCall}
+use Rattle.zomuwedli.proofs.Calls.{start-bad, start-says}
 use borrow.Author.Needs.{needs}
-use Rattle.embed.proofs.zomuwedli_start.Statement.{statement}
-use Rattle.embed.proofs.zomuwedli_start.Tie as tie
+use Rattle.zomuwedli.proofs.zomuwedli_start.Statement.{statement}
+use Rattle.zomuwedli.proofs.zomuwedli_start.Tie as tie
 
 returns : tie.Need-returns
 returns c =

@@ -1,10 +1,10 @@
--- `embed::put_word`: two bytes stored are a word written. Assumes nothing.
+-- `zomuwedli::put_word`: two bytes stored are a word written. Assumes nothing.
 use native.Mathlib.Omega.{arith}
 use lib.ListN.{length-set}
-use Rattle.embed.proofs.Bytes.{word-put}
+use Rattle.zomuwedli.proofs.Bytes.{word-put}
 use borrow.Author.Needs.{needs}
-use Rattle.embed.proofs.put_word.Statement.{statement}
-use Rattle.embed.proofs.put_word.Tie as tie
+use Rattle.zomuwedli.proofs.put_word.Statement.{statement}
+use Rattle.zomuwedli.proofs.put_word.Tie as tie
 
 cast-b : tie.Need-cast-b
 cast-b c = search needs

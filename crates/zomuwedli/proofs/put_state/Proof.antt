@@ -1,4 +1,4 @@
--- `embed::put_state`: a loop that writes the domains. Assumes nothing.
+-- `zomuwedli::put_state`: a loop that writes the domains. Assumes nothing.
 use Prim.Native.Nat.{ℕ, _+_, _*_, _%_, _≤_, _-_}
 use mathlib.Core.Path.{_≡_, sym, ap, _∙_}
 use mathlib.Core.List.{List}
@@ -7,11 +7,11 @@ use lib.ListN.{length, getD, take}
 use mir.Val.{Fits}
 use mir.Syntax.{w32}
 use Rattle.trace.specs.Written.{written}
-use Rattle.embed.specs.State.{numberBytes, wordsBytes}
-use Rattle.embed.proofs.Bytes.{words-none, words-put, state-put}
+use Rattle.zomuwedli.specs.State.{numberBytes, wordsBytes}
+use Rattle.zomuwedli.proofs.Bytes.{words-none, words-put, state-put}
 use borrow.Author.Needs.{needs}
-use Rattle.embed.proofs.put_state.Statement.{statement}
-use Rattle.embed.proofs.put_state.Tie as tie
+use Rattle.zomuwedli.proofs.put_state.Statement.{statement}
+use Rattle.zomuwedli.proofs.put_state.Tie as tie
 
 abbrev Inv-loop : tie.InvT-loop
 Inv-loop b₀ m i₀ b i = (i ≤ 32) × (length b ≡ 68) × (b ≡ written b₀ 4 (wordsBytes (take i (m .domains))))

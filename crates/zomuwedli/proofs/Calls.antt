@@ -16,8 +16,8 @@ use Rattle.jobs.specs.declared.StartOutcome.{StartOutcome}
 use Rattle.jobs.specs.declared.CallAnswer.{CallAnswer}
 use Rattle.jobs.specs.declared.CallOutcome.{CallOutcome}
 use Rattle.jobs.specs.declared.Extended.{Extended}
-use Rattle.embed.specs.State.{stateLength, handStateLength, masksIn, handIn}
-use Rattle.embed.specs.Calls.{badState, badHandState, runCrossed, runCall, startCrossed, startCall, calledCrossed, handCall, putBackCall}
+use Rattle.zomuwedli.specs.State.{stateLength, handStateLength, masksIn, handIn}
+use Rattle.zomuwedli.specs.Calls.{badState, badHandState, runCrossed, runCall, startCrossed, startCall, calledCrossed, handCall, putBackCall}
 
 -- ---- the run
 

@@ -14,8 +14,8 @@ use Rattle.problem.specs.Masks.{Proper}
 use Rattle.problem.specs.declared.Masks.{Masks}
 use Rattle.sheet.specs.Bytes.{byteAt, numberAt}
 use Rattle.jobs.specs.declared.ManualState.{ManualState}
-use Rattle.embed.specs.State.{numberBytes, wordsBytes, stateLength, masksBytes, masksIn, handStateLength, handBytes, handIn}
-use Rattle.embed.proofs.Bytes.{length-words}
+use Rattle.zomuwedli.specs.State.{numberBytes, wordsBytes, stateLength, masksBytes, masksIn, handStateLength, handBytes, handIn}
+use Rattle.zomuwedli.proofs.Bytes.{length-words}
 
 -- ---- the bytes of one number
 

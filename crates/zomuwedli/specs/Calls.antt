@@ -20,7 +20,7 @@ use Rattle.jobs.specs.declared.StartOutcome.{StartOutcome}
 use Rattle.jobs.specs.declared.StartOutcome.the-variants as started
 use Rattle.jobs.specs.declared.CallOutcome.{CallOutcome}
 use Rattle.jobs.specs.declared.CallOutcome.the-variants as called
-use Rattle.embed.specs.State.{stateLength, handStateLength, masksBytes, handBytes, handIn}
+use Rattle.zomuwedli.specs.State.{stateLength, handStateLength, masksBytes, handBytes, handIn}
 
 -- ---- the boundary's own refusals: a state's buffer is not of the state's length
 

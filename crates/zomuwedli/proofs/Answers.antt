@@ -33,10 +33,10 @@ use Rattle.jobs.specs.declared.CallOutcome.the-variants as called
 use Rattle.jobs.specs.declared.Extended.{Extended}
 use Rattle.jobs.specs.declared.Extended.the-variants as back
 use Rattle.jobs.proofs.Unaltered.{run-unaltered, put-back-unaltered}
-use Rattle.embed.specs.State.{stateLength, handStateLength, handIn}
-use Rattle.embed.specs.Calls.{badState, badHandState, readNumber, readCall, RunCall, runCall, HandCall, startCall, handCall, PutBackCall, putBackCall}
-use Rattle.embed.proofs.Small.{read-small, run-small, call-small}
-use Rattle.embed.proofs.Calls.{run-bad, run-says, start-bad, start-says, hand-bad, hand-says, back-says}
+use Rattle.zomuwedli.specs.State.{stateLength, handStateLength, handIn}
+use Rattle.zomuwedli.specs.Calls.{badState, badHandState, readNumber, readCall, RunCall, runCall, HandCall, startCall, handCall, PutBackCall, putBackCall}
+use Rattle.zomuwedli.proofs.Small.{read-small, run-small, call-small}
+use Rattle.zomuwedli.proofs.Calls.{run-bad, run-says, start-bad, start-says, hand-bad, hand-says, back-says}
 
 -- ---- numbers of refusals
 

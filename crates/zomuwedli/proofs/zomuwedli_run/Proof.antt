@@ -1,13 +1,13 @@
--- `embed::zomuwedli_run`: the length of the buffer, then what the job answers; its numbers fit. Assumes nothing.
+-- `zomuwedli::zomuwedli_run`: the length of the buffer, then what the job answers; its numbers fit. Assumes nothing.
 use mathlib.Core.Path.{sym, ap, _∙_}
 use Prim.Native.Nat.{ℕ, _+_, _*_, _≤_}
 use native.Mathlib.Omega.{arith}
-use Rattle.embed.specs.Calls.{RunCall}
-use Rattle.embed.proofs.Small.{run-small}
-use Rattle.embed.proofs.Calls.{run-bad, run-says}
+use Rattle.zomuwedli.specs.Calls.{RunCall}
+use Rattle.zomuwedli.proofs.Small.{run-small}
+use Rattle.zomuwedli.proofs.Calls.{run-bad, run-says}
 use borrow.Author.Needs.{needs}
-use Rattle.embed.proofs.zomuwedli_run.Statement.{statement}
-use Rattle.embed.proofs.zomuwedli_run.Tie as tie
+use Rattle.zomuwedli.proofs.zomuwedli_run.Statement.{statement}
+use Rattle.zomuwedli.proofs.zomuwedli_run.Tie as tie
 
 -- the steps and the bytes written
 few : (c : tie.After-end-number) → (c .before .before .before .before .before .before .before .outcome2 .given .0 .1 .0 ≤ 512) × (c .before .before .before .before .before .before .before .outcome2 .given .0 .1 .1 .0 ≤ 2561)

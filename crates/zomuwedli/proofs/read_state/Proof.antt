@@ -1,4 +1,4 @@
--- `embed::read_state`: a loop that fills the domains. Assumes nothing.
+-- `zomuwedli::read_state`: a loop that fills the domains. Assumes nothing.
 use Prim.Native.Nat.{_+_, _*_, _≤_, _-_}
 use mathlib.Core.Path.{_≡_, refl, sym, ap, _∙_}
 use native.Mathlib.Omega.{arith}
@@ -8,10 +8,10 @@ use Rattle.bounded.specs.Table.{filled}
 use Rattle.bounded.proofs.Table.{filled-none, filled-more, filled-end}
 use Rattle.problem.specs.declared.Masks.{Masks}
 use Rattle.sheet.specs.Bytes.{numberAt}
-use Rattle.embed.specs.State.{masksIn}
+use Rattle.zomuwedli.specs.State.{masksIn}
 use borrow.Author.Needs.{needs}
-use Rattle.embed.proofs.read_state.Statement.{statement}
-use Rattle.embed.proofs.read_state.Tie as tie
+use Rattle.zomuwedli.proofs.read_state.Statement.{statement}
+use Rattle.zomuwedli.proofs.read_state.Tie as tie
 
 abbrev Inv-loop : tie.InvT-loop
 Inv-loop b m₀ i₀ m i = (i ≤ 32) × (m .active ≡ m₀ .active) × (m .domains ≡ filled i (λ i. numberAt b 2 (4 + 2 * i)) (m₀ .domains))

@@ -1,10 +1,10 @@
--- `embed::zomuwedli_put_back`: what the job answers. Assumes nothing.
+-- `zomuwedli::zomuwedli_put_back`: what the job answers. Assumes nothing.
 use mathlib.Core.Path.{ap, _∙_}
-use Rattle.embed.specs.Calls.{PutBackCall}
-use Rattle.embed.proofs.Calls.{back-says}
+use Rattle.zomuwedli.specs.Calls.{PutBackCall}
+use Rattle.zomuwedli.proofs.Calls.{back-says}
 use borrow.Author.Needs.{needs}
-use Rattle.embed.proofs.zomuwedli_put_back.Statement.{statement}
-use Rattle.embed.proofs.zomuwedli_put_back.Tie as tie
+use Rattle.zomuwedli.proofs.zomuwedli_put_back.Statement.{statement}
+use Rattle.zomuwedli.proofs.zomuwedli_put_back.Tie as tie
 
 put-back-requires : tie.Need-put-back-requires
 put-back-requires c κs = search needs

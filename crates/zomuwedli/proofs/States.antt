@@ -28,10 +28,10 @@ use Rattle.jobs.proofs.Opened.{sheet-or, call-refused, call-accepted}
 use Rattle.jobs.proofs.Ran.{ran-iff, started-iff}
 use Rattle.jobs.proofs.Worked.{run-worked}
 use Rattle.jobs.proofs.HandOrder.{start-meets}
-use Rattle.embed.specs.State.{stateLength, handStateLength, masksIn, handIn}
-use Rattle.embed.specs.Calls.{RunCall, runCall, HandCall, startCall, handCall}
-use Rattle.embed.proofs.Calls.{run-says, start-says, hand-says}
-use Rattle.embed.proofs.Crossing.{masks-crossed, hand-crossed}
+use Rattle.zomuwedli.specs.State.{stateLength, handStateLength, masksIn, handIn}
+use Rattle.zomuwedli.specs.Calls.{RunCall, runCall, HandCall, startCall, handCall}
+use Rattle.zomuwedli.proofs.Calls.{run-says, start-says, hand-says}
+use Rattle.zomuwedli.proofs.Crossing.{masks-crossed, hand-crossed}
 
 -- ---- the run
 
