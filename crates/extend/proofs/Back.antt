@@ -20,7 +20,7 @@ use Rattle.problem.proofs.Trace.{lawful-iff}
 use Rattle.jobs.specs.Trace.{recordAt}
 use Rattle.jobs.specs.PutBack.{Checked, Lawful as Records, planOf}
 use Rattle.jobs.specs.declared.RecordRead.the-variants as record·
-use Rattle.rules.specs.Ready.{Ready}
+use Rattle.held.specs.Ready.{Ready}
 use Rattle.extend.specs.Walk.{checkedFrom}
 use Rattle.extend.specs.Undone.{Undoable, UndoableFrom, undoneBy}
 use Rattle.extend.proofs.Range.{step-on}

@@ -10,8 +10,8 @@ use Rattle.problem.specs.Held.{held, RowTable}
 use Rattle.problem.specs.Masks.{stateOf, masksOf}
 use Rattle.problem.specs.declared.Masks.{Masks}
 use Rattle.problem.proofs.HeldTable.{held-entry}
-use Rattle.rules.specs.Ready.{Ready}
-use Rattle.reduce.proofs.States.{full-ready, full-says}
+use Rattle.held.specs.Ready.{Ready}
+use Rattle.held.proofs.Full.{full-ready, full-says}
 
 -- the lowest value of a domain that passes, as a loop to the size finds it
 pub lowest-here : (t : List ℕ) (s : State) (i : ℕ) (f : ℕ → Bool) → i < 32 → lowestLive (held t) s i f ≡ lowest (getD t i 0) (λ c. s .live i c && f c)

@@ -13,7 +13,7 @@ use Rattle.problem.specs.declared.Record.{Record}
 use Rattle.jobs.specs.Trace.{recordAt}
 use Rattle.jobs.specs.declared.RecordRead.{RecordRead}
 use Rattle.jobs.specs.declared.RecordRead.the-variants as record·
-use Rattle.rules.specs.Ready.{Ready}
+use Rattle.held.specs.Ready.{Ready}
 use Rattle.trace.specs.Place.{placeAfter}
 use Rattle.trace.proofs.Back.{next-after}
 use Rattle.trace.proofs.Place.{after-read}

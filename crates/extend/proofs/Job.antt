@@ -23,8 +23,8 @@ use Rattle.sheet.proofs.Accepted.{keeps, problem-bounded}
 use Rattle.jobs.specs.PutBack.{Checked, Lawful as Records, planOf, planFits, checkTrace, PutBackResult, putBackRefused, putBackDone, afterCheck}
 use Rattle.jobs.specs.declared.Extended.the-variants.{Done}
 use Rattle.jobs.specs.declared.ExtendRefusal.the-variants.{Plan}
-use Rattle.rules.specs.Ready.{Ready}
-use Rattle.rules.proofs.After.{state-held, ready-held}
+use Rattle.held.specs.Ready.{Ready}
+use Rattle.held.proofs.After.{state-held, ready-held}
 use Rattle.extend.specs.Walk.{checkedFrom, ended, lawfulEnd}
 use Rattle.extend.specs.Undone.{UndoableFrom, undoneBy}
 use Rattle.extend.proofs.First.{ready-full}

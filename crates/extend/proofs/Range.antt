@@ -13,8 +13,8 @@ use Rattle.problem.specs.Masks.{stateOf, masksOf}
 use Rattle.problem.specs.declared.Masks.{Masks}
 use Rattle.problem.specs.declared.Record.{Record}
 use Rattle.problem.specs.declared.Record.the-variants.{Unsupported, Snake, Triangle, Neighbourhood, SnakeSubstitution}
-use Rattle.rules.specs.Ready.{Ready}
-use Rattle.reduce.proofs.States.{after-state, after-ready, holds-within}
+use Rattle.held.specs.Ready.{Ready}
+use Rattle.steps.proofs.States.{after-state, after-ready, holds-within}
 
 -- two and three tests of range
 pub range2 : (i m j n : ℕ) → (ltb i m && ltb j n) ≡ true → (i < m) × (j < n)

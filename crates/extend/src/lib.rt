@@ -17,7 +17,7 @@ ghost use Rattle.problem.specs.declared.Record.the-variants.{Snake, Triangle};
 ghost use Rattle.sheet.specs.Bytes.{Is};
 ghost use Rattle.sheet.specs.Sheet.{Keeps, layout, variablesOf};
 ghost use Rattle.sheet.specs.Relation.{problemOf};
-ghost use Rattle.rules.specs.Ready.{Ready, Value};
+ghost use Rattle.held.specs.Ready.{Ready, Value};
 ghost use Rattle.jobs.specs.PutBack.{planOf, planFits, checkTrace, afterCheck, putBackJob};
 ghost use Rattle.extend.specs.Walk.{checkedFrom, ended, faulty, lawfulEnd, goingOn, stoppedWith, checkedTurn};
 ghost use Rattle.extend.specs.Plan.{entryFits, Entries, pairFits, pairsOf};
@@ -56,7 +56,7 @@ fn holds_unsupported(t: &[u16], m: Masks, i: usize, b: usize, k: usize) -> bool
     ensures { λ r. ⌜ r ≡ unsupportedAt (held (now (t .entry))) (stateOf m) i b k ⌝ }
 {
     if (i < 32) & ((b < 16) & (k < 32)) {
-        rules::unsupported(t, m, i, b, k)
+        unsupported::unsupported(t, m, i, b, k)
     } else {
         false
     }
@@ -67,7 +67,7 @@ fn holds_snake(t: &[u16], m: Masks, i: usize, v: usize) -> bool
     ensures { λ r. ⌜ r ≡ snakeAt (held (now (t .entry))) (stateOf m) i v ⌝ }
 {
     if (i < 32) & (v < 16) {
-        rules::snake(t, m, i, v)
+        snake::snake(t, m, i, v)
     } else {
         false
     }
@@ -78,7 +78,7 @@ fn holds_triangle(t: &[u16], m: Masks, i: usize, j: usize) -> bool
     ensures { λ r. ⌜ r ≡ triangleAt (held (now (t .entry))) (stateOf m) i j ⌝ }
 {
     if (i < 32) & (j < 32) {
-        rules::triangle(t, m, i, j)
+        triangle::triangle(t, m, i, j)
     } else {
         false
     }
@@ -89,7 +89,7 @@ fn holds_neighbourhood(t: &[u16], m: Masks, i: usize, b: usize, a: usize) -> boo
     ensures { λ r. ⌜ r ≡ neighbourhoodAt (held (now (t .entry))) (stateOf m) i b a ⌝ }
 {
     if (i < 32) & ((b < 16) & (a < 16)) {
-        rules::neighbourhood(t, m, i, b, a)
+        neighbourhood::neighbourhood(t, m, i, b, a)
     } else {
         false
     }
@@ -100,7 +100,7 @@ fn holds_slide(t: &[u16], m: Masks, i: usize, b: usize, a: usize) -> bool
     ensures { λ r. ⌜ r ≡ slideAt (held (now (t .entry))) (stateOf m) slideSpares i b a ⌝ }
 {
     if (i < 32) & ((b < 16) & (a < 16)) {
-        rules::snake_substitution(t, m, i, b, a)
+        snake_substitution::snake_substitution(t, m, i, b, a)
     } else {
         false
     }
@@ -125,7 +125,7 @@ fn lawful(t: &[u16], m: Masks, r: Record) -> bool
     requires { ⌜ Ready (now t) m ⌝ }
     ensures { λ b. ⌜ b ≡ lawfulAt (held (now (t .entry))) (stateOf m) r ⌝ }
 {
-    if rules::none_empty(t, m) {
+    if held::none_empty(t, m) {
         holds(t, m, r)
     } else {
         false
@@ -137,7 +137,7 @@ fn apply(t: &[u16], m: Masks, r: Record) -> Masks
     requires { ⌜ Ready (now t) m × T (lawfulAt (held (now t)) (stateOf m) r) ⌝ }
     ensures { λ x. ⌜ x ≡ masksOf (after (held (now (t .entry))) (stateOf m) r) ⌝ }
 {
-    reduce::apply(t, m, r)
+    steps::apply(t, m, r)
 }
 
 // ---- the trace
@@ -270,7 +270,7 @@ fn pair_fits(t: &[u16], m: Masks, plan: &[u8], i: usize, j: usize) -> bool
     ensures { λ r. ⌜ r ≡ pairFits (held (now (t .entry))) (stateOf m) (planOf (now (plan .entry))) i j ⌝ }
 {
     if has32(m.active, i) & (has32(m.active, j) & (i != j)) {
-        rules::pair_allowed(t, i, plan[i] as usize, j, plan[j] as usize)
+        held::pair_allowed(t, i, plan[i] as usize, j, plan[j] as usize)
     } else {
         true
     }
@@ -323,7 +323,7 @@ fn serves_snake(t: &[u16], m: Masks, i: usize, v: usize, j: usize, w: usize, c: 
     ensures { λ r. ⌜ r ≡ ((stateOf m) .live j c && snakeServes (held (now (t .entry))) (stateOf m) i v j w c) ⌝ }
 {
     if is_live(m, j, c) {
-        rules::snake_serves(t, m, i, v, j, w, c)
+        snake::snake_serves(t, m, i, v, j, w, c)
     } else {
         false
     }
@@ -350,7 +350,7 @@ fn mended_other(t: &[u16], m: Masks, i: usize, v: usize, j: usize, w: u8) -> u8
     requires { ⌜ Ready (now t) m × (Value (now t) i v × (Value (now t) j w × (((stateOf m) .active j ≡ true) × (j ≢ i)))) ⌝ }
     ensures { λ r. ⌜ r ≡ mendedAt (held (now (t .entry))) (stateOf m) i v j w ⌝ }
 {
-    if rules::pair_allowed(t, i, v, j, w as usize) {
+    if held::pair_allowed(t, i, v, j, w as usize) {
         w
     } else {
         lowest_snake(t, m, i, v, j, w as usize) as u8
@@ -396,7 +396,7 @@ fn serves_triangle(t: &[u16], m: Masks, i: usize, j: usize, v: usize, c: usize) 
     ensures { λ r. ⌜ r ≡ ((stateOf m) .live i c && triangleServes (held (now (t .entry))) (stateOf m) i j v c) ⌝ }
 {
     if is_live(m, i, c) {
-        rules::triangle_serves(t, m, i, j, v, c)
+        triangle::triangle_serves(t, m, i, j, v, c)
     } else {
         false
     }
@@ -535,7 +535,7 @@ fn put_back_over(t: &[u16], trace: &[u8], plan: &[u8], out: &mut [u8]) -> Extend
     requires { ⌜ RowTable (now t) × ((length (now plan) ≡ (held (now t)) .n) × (length (now out) ≡ (held (now t)) .n)) ⌝ }
     ensures { λ r. ⌜ (r ≡ (afterCheck (held (now (t .entry))) (now (plan .entry)) (now (out .entry)) (checkTrace (held (now (t .entry))) (now (trace .entry)))) .answer) × (now (out .exit) ≡ (afterCheck (held (now (t .entry))) (now (plan .entry)) (now (out .entry)) (checkTrace (held (now (t .entry))) (now (trace .entry)))) .result) ⌝ }
 {
-    let first = reduce::full_masks(t);
+    let first = held::full_masks(t);
     let end = check_trace(t, trace, first);
     let check = end.check;
     match check {

@@ -17,8 +17,8 @@ use Rattle.problem.specs.declared.Masks.{Masks}
 use Rattle.problem.specs.declared.Call.the-variants.{Eliminated, NotActive, Emptied, NoSnake}
 use Rattle.problem.proofs.Reflect.{Live, fits-test, anyLive-iff, snake-iff}
 use Rattle.problem.proofs.OneCall.{call-item, call-emptied, call-none, call-done}
-use Rattle.rules.specs.Ready.{Ready}
-use Rattle.rules.proofs.Laws.{live-value, active-32}
+use Rattle.held.specs.Ready.{Ready}
+use Rattle.held.proofs.Laws.{live-value, active-32}
 
 -- ---- the lowest value
 

@@ -24,8 +24,8 @@ use Rattle.problem.proofs.HeldTable.{held-same, table-rows}
 use Rattle.problem.proofs.Start.{prune-fits, start-fits, start-consistent}
 use Rattle.problem.proofs.Count.{full-count, sizes-most}
 use Rattle.problem.proofs.Bridge.{masks-back, masks-proper}
-use Rattle.rules.specs.Ready.{Ready}
-use Rattle.rules.proofs.After.{state-held, ready-held}
+use Rattle.held.specs.Ready.{Ready}
+use Rattle.held.proofs.After.{state-held, ready-held}
 use Rattle.manual.specs.Parts.{noneBare, domainLeft, sameDomains, maxTurns}
 
 -- ---- one sweep

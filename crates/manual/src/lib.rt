@@ -11,7 +11,7 @@ ghost use Rattle.problem.specs.Masks.{stateOf, masksOf};
 ghost use Rattle.problem.specs.Held.{held, RowTable};
 ghost use Rattle.sheet.specs.Sheet.{layout, Keeps};
 ghost use Rattle.sheet.specs.Relation.{problemOf};
-ghost use Rattle.rules.specs.Ready.{Ready};
+ghost use Rattle.held.specs.Ready.{Ready};
 ghost use Rattle.jobs.specs.Hand.{startJob, callRefused, callJob};
 ghost use Rattle.manual.specs.Parts.{fitsAt, noneBare, domainLeft, sameDomains, maxTurns, startRefused, startAnswer, callEliminated, callOn};
 use bounded::has16;
@@ -45,7 +45,7 @@ fn none_bare(t: &[u16], m: Masks, i: usize, a: usize) -> bool
 {
     let mut k: usize = 0;
     while k < 32 {
-        if rules::unsupported(t, m, i, a, k) {
+        if unsupported::unsupported(t, m, i, a, k) {
             return false;
         }
         k += 1;
@@ -132,7 +132,7 @@ fn start_masks(t: &[u16]) -> Masks
     requires { ⌜ RowTable (now t) ⌝ }
     ensures { λ r. ⌜ r ≡ masksOf (pruneTimes maxTurns (held (now (t .entry))) (full (held (now (t .entry))))) ⌝ }
 {
-    settle(t, reduce::full_masks(t))
+    settle(t, held::full_masks(t))
 }
 
 fn started(s: &[u8]) -> StartAnswer
@@ -200,7 +200,7 @@ fn fits(t: &[u16], m: Masks) -> bool
     requires { ⌜ RowTable (now t) ⌝ }
     ensures { λ r. ⌜ r ≡ stateFits (held (now (t .entry))) (stateOf m) ⌝ }
 {
-    let n = reduce::variables(t);
+    let n = held::variables(t);
     let mut i: usize = 0;
     while i < 32 {
         if !fits_at(t, m, n, i) {
@@ -229,7 +229,7 @@ fn lowest_snake(t: &[u16], m: Masks, i: usize) -> usize
 {
     let mut v: usize = 0;
     while v < 16 {
-        if rules::snake(t, m, i, v) {
+        if snake::snake(t, m, i, v) {
             return v;
         }
         v += 1;
@@ -254,7 +254,7 @@ fn eliminated(t: &[u16], m: Masks, i: usize, v: usize) -> CallAnswer
     requires { ⌜ Ready (now t) m × (i < 32) ⌝ }
     ensures { λ a. ⌜ a ≡ callEliminated (held (now (t .entry))) (stateOf m) i v ⌝ }
 {
-    let masks = rules::eliminate(t, m, i);
+    let masks = steps::eliminate(t, m, i);
     let state = ManualState { masks };
     CallAnswer {
         outcome: CallOutcome::Eliminated(v),
@@ -298,7 +298,7 @@ fn call_on(t: &[u16], st: ManualState, i: u64) -> CallAnswer
     if !fits(t, m) {
         return refused_call(ManualRefusal::State, st);
     }
-    call_fitting(t, st, i, is_active(m, i), rules::none_empty(t, m))
+    call_fitting(t, st, i, is_active(m, i), held::none_empty(t, m))
 }
 
 fn called(s: &[u8], st: ManualState, i: u64) -> CallAnswer

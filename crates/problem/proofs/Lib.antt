@@ -16,3 +16,4 @@ pub mod HeldTable
 pub mod Solvable
 pub mod Samples
 pub mod BothWays
+pub mod Search

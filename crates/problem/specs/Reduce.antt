@@ -60,6 +60,11 @@ unfoldable pub stepIf : Bool → Record → Next
 stepIf true r = Step r
 stepIf false r = Nothing
 
+-- a step was found
+abbrev pub isStep : Next → Bool
+isStep (Step r) = true
+isStep Nothing = false
+
 -- what f finds at the lowest number below n at which it finds a step
 unfoldable pub first : ℕ → (ℕ → Next) → Next
 first zero f = Nothing

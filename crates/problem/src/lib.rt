@@ -1,6 +1,8 @@
-// The types that the definitions of specs/ share with the code, and the state that holds nothing.
+// The types that the definitions of specs/ share with the code, the state that holds nothing, and whether a
+// search found a step.
 ghost use mathlib.Core.Path.{_≡_};
 ghost use Rattle.problem.specs.Masks.{emptyMasks};
+ghost use Rattle.problem.specs.Reduce.{isStep};
 
 // A state as masks: the variables that are active, and the values in the domain of each.
 pub struct Masks {
@@ -46,5 +48,15 @@ pub fn empty_masks() -> Masks
     Masks {
         active: 0,
         domains: [0u16; 32],
+    }
+}
+
+// Whether a step was found.
+pub fn is_step(x: Next) -> bool
+    ensures { λ r. ⌜ r ≡ isStep x ⌝ }
+{
+    match x {
+        Next::Step(_) => true,
+        Next::Nothing => false,
     }
 }

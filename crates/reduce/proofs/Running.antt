@@ -26,9 +26,10 @@ use Rattle.jobs.proofs.Worked.{trace-length}
 use Rattle.trace.specs.Written.{written, Small}
 use Rattle.trace.proofs.Written.{fronted-more, length-fronted}
 use Rattle.trace.proofs.Back.{trace-more, record-most}
-use Rattle.rules.specs.Ready.{Ready}
-use Rattle.reduce.specs.Steps.{Within}
-use Rattle.reduce.proofs.States.{full-ready, full-says, after-state, after-ready, holds-within}
+use Rattle.held.specs.Ready.{Ready}
+use Rattle.steps.specs.Steps.{Within}
+use Rattle.held.proofs.Full.{full-ready, full-says}
+use Rattle.steps.proofs.States.{after-state, after-ready, holds-within}
 
 -- ---- the run, one step at a time
 

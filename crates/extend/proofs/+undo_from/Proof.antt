@@ -61,7 +61,7 @@ use Rattle.jobs.specs.Trace.{recordAt}
 use Rattle.jobs.specs.declared.RecordRead.{RecordRead}
 use Rattle.jobs.proofs.RecordRead as S
 use Rattle.jobs.proofs.RecordRead.Laws as S′
-use Rattle.rules.specs.Ready.{Ready}
+use Rattle.held.specs.Ready.{Ready}
 use Rattle.trace.specs.Place.{placeAfter}
 use Rattle.trace.proofs.Reader as T
 use Rattle.trace.proofs.Reader.Laws as T′

@@ -1,6 +1,6 @@
 -- `extend::apply`: a lawful record's fields are in range. Assumes nothing.
 use Rattle.problem.proofs.Trace.{lawful-iff}
-use Rattle.reduce.proofs.States.{holds-within}
+use Rattle.steps.proofs.States.{holds-within}
 use Rattle.extend.proofs.apply.Statement.{statement}
 use Rattle.extend.proofs.apply.Tie as tie
 

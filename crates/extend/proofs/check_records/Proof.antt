@@ -52,7 +52,7 @@ use Rattle.problem.specs.Masks.{stateOf}
 use Rattle.problem.specs.declared.Masks.{Masks}
 use Rattle.problem.proofs.Masks as K
 use Rattle.problem.proofs.Masks.Laws as K′
-use Rattle.rules.specs.Ready.{Ready}
+use Rattle.held.specs.Ready.{Ready}
 use Rattle.trace.specs.Place.{placeAfter}
 use Rattle.trace.proofs.Reader.Laws as T′
 use Rattle.trace.proofs.Steps.{tests, calls-plain, calls-lent}

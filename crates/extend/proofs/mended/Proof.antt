@@ -2,7 +2,7 @@
 use mathlib.Core.Path.{sym, _∙_}
 use Rattle.bounded.proofs.Truth.{T-of}
 use Rattle.problem.specs.Masks.{stateOf}
-use Rattle.rules.proofs.Laws.{live-value}
+use Rattle.held.proofs.Laws.{live-value}
 use Rattle.extend.proofs.Undo.{other-active, mended-out}
 use borrow.Author.Needs.{needs}
 use Rattle.extend.proofs.mended.Statement.{statement}

@@ -2,7 +2,8 @@
 use mathlib.Core.Path.{sym, _∙_}
 use Rattle.bounded.proofs.Truth.{T-of}
 use Rattle.problem.specs.Masks.{stateOf}
-use Rattle.rules.proofs.Laws.{live-value, guard}
+use Rattle.held.proofs.Laws.{live-value}
+use Rattle.bounded.proofs.Guard.{guard}
 use Rattle.extend.proofs.Plan.{entry-iff, met, unmet}
 use native.Mathlib.Omega.{arith}
 use borrow.Author.Needs.{needs}

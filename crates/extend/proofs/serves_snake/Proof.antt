@@ -1,7 +1,7 @@
 -- `extend::serves_snake`. Assumes nothing.
 use mathlib.Core.Path.{sym, _∙_}
 use Rattle.bounded.proofs.Truth.{T-of}
-use Rattle.rules.proofs.Laws.{live-value}
+use Rattle.held.proofs.Laws.{live-value}
 use Rattle.extend.proofs.Plan.{behind, before}
 use Rattle.extend.proofs.serves_snake.Statement.{statement}
 use Rattle.extend.proofs.serves_snake.Tie as tie

@@ -41,7 +41,7 @@ use Rattle.problem.specs.Masks.{stateOf}
 use Rattle.problem.specs.declared.Masks.{Masks}
 use Rattle.problem.proofs.Masks as N
 use Rattle.problem.proofs.Masks.Laws as N′
-use Rattle.rules.specs.Ready.{Ready}
+use Rattle.held.specs.Ready.{Ready}
 use Rattle.trace.proofs.Reader as T
 use Rattle.trace.proofs.Reader.Laws as T′
 use Rattle.trace.proofs.Moves.{Placed, v, rd, own, Rd, made, rd-typed, calls-placed}

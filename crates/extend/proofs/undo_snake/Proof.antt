@@ -3,7 +3,7 @@ use Rattle.problem.specs.Held.{held}
 use Rattle.problem.specs.Masks.{stateOf}
 use Rattle.problem.proofs.Trace.{lawful-iff}
 use Rattle.jobs.specs.PutBack.{planOf}
-use Rattle.rules.proofs.Laws.{live-value}
+use Rattle.held.proofs.Laws.{live-value}
 use Rattle.problem.specs.declared.Record.the-variants.{Snake}
 use Rattle.extend.proofs.Undo.{snake-live, snake-left, snake-store}
 use native.Mathlib.Omega.{arith}

@@ -9,7 +9,7 @@ use Rattle.bounded.proofs.Truth.{T-of}
 use Rattle.problem.specs.Held.{held}
 use Rattle.problem.specs.Masks.{stateOf, Proper}
 use Rattle.problem.proofs.Bridge.{fits-iff}
-use Rattle.rules.specs.Ready.{Ready}
+use Rattle.held.specs.Ready.{Ready}
 use Rattle.jobs.specs.Hand.{callAnswer}
 use Rattle.problem.proofs.OneCall.{call-misfit}
 use borrow.Author.Needs.{needs}

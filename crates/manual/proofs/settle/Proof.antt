@@ -3,7 +3,7 @@ use mathlib.Core.Path.{_≡_, refl, sym, ap, _∙_}
 use Rattle.problem.specs.Manual.{pruneTimes}
 use Rattle.problem.specs.Held.{held}
 use Rattle.problem.specs.Masks.{stateOf, masksOf}
-use Rattle.rules.specs.Ready.{Ready}
+use Rattle.held.specs.Ready.{Ready}
 use Rattle.manual.specs.Parts.{maxTurns}
 use Rattle.manual.proofs.Sweeps.{sweep-ready, settled-here, settled-last, settle-next}
 use borrow.Author.Needs.{needs}

@@ -6,7 +6,7 @@ use Rattle.problem.specs.Held.{held}
 use Rattle.problem.specs.Masks.{stateOf, masksOf}
 use denote.Ref.{now}
 use Rattle.manual.specs.Parts.{maxTurns}
-use Rattle.reduce.proofs.States.{full-ready, full-says}
+use Rattle.held.proofs.Full.{full-ready, full-says}
 use borrow.Author.Needs.{needs}
 use Rattle.manual.proofs.start_masks.Statement.{statement}
 use Rattle.manual.proofs.start_masks.Tie as tie

@@ -6,7 +6,7 @@ use borrow.Author.Needs.{needs}
 use Rattle.problem.specs.Problem.{liveCount}
 use Rattle.problem.specs.Held.{held}
 use Rattle.problem.specs.Masks.{stateOf}
-use Rattle.reduce.proofs.States.{after-state}
+use Rattle.steps.proofs.States.{after-state}
 use Rattle.reduce.proofs.Running.{Running, running-start, running-next, same-length as kept-length, falls, record-room, step-counts, record-within, within-small, done-buffer, done-answer}
 use Rattle.reduce.proofs.run_table.Statement.{statement}
 use Rattle.reduce.proofs.run_table.Tie as tie

@@ -1,0 +1,144 @@
+// Covering, the format's word for one value in another's place, over a lent table of rows: at one variable, at a set of them, and some
+// value of a set that covers.
+ghost use mathlib.Core.Path.{_≡_};
+ghost use mathlib.Core.Bool.{_&&_, not, true, false};
+ghost use mathlib.Core.Logic.{_≢_};
+ghost use Prim.Native.Nat.{_<_, _+_};
+ghost use Rattle.bounded.specs.Bounded.{imp};
+ghost use Rattle.bounded.specs.Mask.{bit};
+ghost use Rattle.problem.specs.Problem.{substitutes as substitutesAt};
+ghost use Rattle.problem.specs.Held.{held};
+ghost use Rattle.problem.specs.Masks.{stateOf};
+ghost use Rattle.held.specs.Ready.{Ready, Value, Among};
+ghost use Rattle.cover.specs.Words.{coversIn, servedIn, allServedIn, thirds};
+use bounded::has16;
+use bounded::has32;
+use bounded::without32;
+use held::row;
+use problem::Masks;
+
+// Value a of i covers value b of j at l.
+fn substitutes(t: &[u16], m: Masks, i: usize, a: usize, j: usize, b: usize, l: usize) -> bool
+    requires { ⌜ Ready (now t) m × Value (now t) i a × Value (now t) j b × (l < 32) × (l ≢ i) × (l ≢ j) ⌝ }
+    ensures { λ r. ⌜ r ≡ substitutesAt (held (now (t .entry))) (stateOf m) i a j b l ⌝ }
+{
+    let w = m.domains[l] & row(t, j, l, b);
+    w & row(t, i, l, a) == w
+}
+
+// The active variables other than i and j.
+pub fn third_set(active: u32, i: usize, j: usize) -> u32
+    requires { ⌜ (i < 32) × (j < 32) ⌝ }
+    ensures { λ r. ⌜ r ≡ thirds active i j ⌝ }
+{
+    without32(without32(active, i), j)
+}
+
+fn covers_at(
+    t: &[u16],
+    m: Masks,
+    rest: u32,
+    i: usize,
+    a: usize,
+    j: usize,
+    b: usize,
+    l: usize,
+) -> bool
+    requires { ⌜ Ready (now t) m × Value (now t) i a × Value (now t) j b × (bit rest i ≡ false) × (bit rest j ≡ false) × (l < 32) ⌝ }
+    ensures { λ r. ⌜ r ≡ imp (bit rest l) (substitutesAt (held (now (t .entry))) (stateOf m) i a j b l) ⌝ }
+{
+    if has32(rest, l) {
+        substitutes(t, m, i, a, j, b, l)
+    } else {
+        true
+    }
+}
+
+// Value a of i covers value b of j at each variable of `rest`, where neither i nor j is.
+pub fn covers(t: &[u16], m: Masks, rest: u32, i: usize, a: usize, j: usize, b: usize) -> bool
+    requires { ⌜ Ready (now t) m × Value (now t) i a × Value (now t) j b × (bit rest i ≡ false) × (bit rest j ≡ false) ⌝ }
+    ensures { λ r. ⌜ r ≡ coversIn (held (now (t .entry))) (stateOf m) rest i a j b ⌝ }
+{
+    let mut l: usize = 0;
+    while l < 32 {
+        if !covers_at(t, m, rest, i, a, j, b, l) {
+            return false;
+        }
+        l += 1;
+    }
+    true
+}
+
+fn served_by(
+    t: &[u16],
+    m: Masks,
+    rest: u32,
+    good: u16,
+    i: usize,
+    j: usize,
+    w: usize,
+    u: usize,
+) -> bool
+    requires { ⌜ Ready (now t) m × Among m i good × Value (now t) j w × (bit rest i ≡ false) × (bit rest j ≡ false) × (u < 16) ⌝ }
+    ensures { λ r. ⌜ r ≡ (bit good u && coversIn (held (now (t .entry))) (stateOf m) rest i u j w) ⌝ }
+{
+    if has16(good, u) {
+        covers(t, m, rest, i, u, j, w)
+    } else {
+        false
+    }
+}
+
+// Some value of i, of the set `good`, covers value w of j at each variable of `rest`.
+pub fn served(t: &[u16], m: Masks, rest: u32, good: u16, i: usize, j: usize, w: usize) -> bool
+    requires { ⌜ Ready (now t) m × Among m i good × Value (now t) j w × (bit rest i ≡ false) × (bit rest j ≡ false) ⌝ }
+    ensures { λ r. ⌜ r ≡ servedIn (held (now (t .entry))) (stateOf m) rest good i j w ⌝ }
+{
+    let mut u: usize = 0;
+    while u < 16 {
+        if served_by(t, m, rest, good, i, j, w, u) {
+            return true;
+        }
+        u += 1;
+    }
+    false
+}
+
+// A value that is itself one of `good` needs no other in its place.
+fn served_if(t: &[u16], m: Masks, rest: u32, good: u16, bad: u16, j: usize, w: usize) -> bool
+    requires { ⌜ Ready (now t) m × Among m j good × Among m j bad × (bit rest j ≡ false) × (w < 16) ⌝ }
+    ensures { λ r. ⌜ r ≡ imp (bit bad w && not (bit good w)) (servedIn (held (now (t .entry))) (stateOf m) rest good j j w) ⌝ }
+{
+    if has16(bad, w) & !has16(good, w) {
+        served(t, m, rest, good, j, j, w)
+    } else {
+        true
+    }
+}
+
+fn each_served(t: &[u16], m: Masks, rest: u32, good: u16, bad: u16, j: usize) -> bool
+    requires { ⌜ Ready (now t) m × Among m j good × Among m j bad × (bit rest j ≡ false) ⌝ }
+    ensures { λ r. ⌜ r ≡ allServedIn (held (now (t .entry))) (stateOf m) rest good bad j ⌝ }
+{
+    let mut w: usize = 0;
+    while w < 16 {
+        if !served_if(t, m, rest, good, bad, j, w) {
+            return false;
+        }
+        w += 1;
+    }
+    true
+}
+
+// Each value of `bad` that is not one of `good` is covered by one of `good` at each variable of `rest`. One comparison tells where
+// there is none to serve.
+pub fn all_served(t: &[u16], m: Masks, rest: u32, good: u16, bad: u16, j: usize) -> bool
+    requires { ⌜ Ready (now t) m × Among m j good × Among m j bad × (bit rest j ≡ false) ⌝ }
+    ensures { λ r. ⌜ r ≡ allServedIn (held (now (t .entry))) (stateOf m) rest good bad j ⌝ }
+{
+    if bad & good == bad {
+        true
+    } else {
+        each_served(t, m, rest, good, bad, j)
+    }
+}

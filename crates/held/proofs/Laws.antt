@@ -1,0 +1,117 @@
+-- Rows of a table and sets of a state that fits it, as words. Assumes nothing.
+use mathlib.Core.Path.{_≡_, refl, sym, ap, _∙_, subst}
+use mathlib.Core.Bool.{Bool, true, false, not, _&&_}
+use mathlib.Core.Logic.{_⊎_, inl, inr, _≢_, _↔_, ⊎-elim}
+use mathlib.Core.List.{List}
+use Prim.Native.Nat.{ℕ, _^_, _≤_, _<_}
+use native.Mathlib.Omega.{arith}
+use native.Mathlib.Nat.{lt-of-le-of-lt}
+use lib.Dec.{T, eqb}
+use lib.Bits.{bitAnd, and-le-l}
+use lib.ListN.{getD}
+use borrow.Author.Tests.{eq-eqb, ne-eqb}
+use Rattle.bounded.specs.Bounded.{imp, allBelow, anyBelow}
+use Rattle.bounded.specs.Mask.{bit}
+use Rattle.bounded.proofs.Truth.{T-ext, T-of, T-dec, T-false, eq-dec, and-iff, imp-iff, not-iff, eqb-iff}
+use Rattle.bounded.proofs.Bounded.{all-iff, any-iff}
+use Rattle.bounded.proofs.Mask.{bit-and, zero-bits}
+use Rattle.problem.specs.Problem.{Problem, State, allActive, allLive, anyLive}
+use Rattle.problem.specs.Held.{rowPlace, heldSize, heldVariables, heldValue, rowAllows, heldRow, held, RowTable}
+use Rattle.problem.specs.Masks.{stateOf}
+use Rattle.problem.specs.declared.Masks.{Masks}
+use Rattle.problem.proofs.Reflect.{Active, Live, Allowed, Fits, allActive-iff, allLive-iff, anyLive-iff}
+use Rattle.problem.proofs.HeldTable.{row-tells, held-few, heldValue-iff}
+use Rattle.held.specs.Ready.{Ready, Value, Among}
+
+module _ {P : Problem} {s : State} (F : Fits P s) where
+  pub allActive-32 : P .n ≤ 32 → (f : ℕ → Bool) → allBelow 32 (λ l. imp (s .active l) (f l)) ≡ allActive P s f
+  allActive-32 few f =
+      T-ext (
+        λ h. allActive-iff F f .1 (λ l o. (simp (all-iff, imp-iff) at h) l (omega (arith, F .active-lt l o)) o),
+        λ h. simp (all-iff, imp-iff) (λ l k o. allActive-iff F f .0 h l o),
+      )
+
+  pub allLive-16 : (l : ℕ) → P .size l ≤ 16 → (f : ℕ → Bool) → allBelow 16 (λ c. imp (s .live l c) (f c)) ≡ allLive P s l f
+  allLive-16 l narrow f =
+      T-ext (
+        λ h. allLive-iff F l f .1 (λ c o. (simp (all-iff, imp-iff) at h) c (omega (arith, F .live-lt l c o)) o),
+        λ h. simp (all-iff, imp-iff) (λ c k o. allLive-iff F l f .0 h c o),
+      )
+
+-- the row tells what is allowed, for values of the problem
+pub row-says : {t : List ℕ} → RowTable t → (i a j b : ℕ) → Value t i a → Value t j b → i ≢ j → (held t) .allowed i a j b ≡ bit (getD t (rowPlace i j a) 0) b
+unfolding rowAllows
+row-says R i a j b vi vj d = row-tells R i a j b (vi .listed) (vj .listed) d
+
+held-apart : (t : List ℕ) (i a j b : ℕ) → Allowed (held t) i a j b → i ≢ j
+unfolding held heldRow
+held-apart t i a j b h = go (heldValue t i a && (heldValue t j b && not (eqb i j))) refl (and-iff (heldRow t i a j b) (heldRow t j b i a) .0 h .0)
+  where
+    go : (g : Bool) → (heldValue t i a && (heldValue t j b && not (eqb i j))) ≡ g → T (elim g as (λ x. Bool) [ true ↦ rowAllows t i a j b | false ↦ false ]) → i ≢ j
+    go true e x = (simp (and-iff, not-iff, eqb-iff) at (T-of e)) .1 .1
+    go false e x = absurd x
+
+-- the same with the test that the variables differ
+pub allowed-word : {t : List ℕ} → RowTable t → (i a j b : ℕ) → Value t i a → Value t j b → (held t) .allowed i a j b ≡ (not (eqb i j) && bit (getD t (rowPlace i j a) 0) b)
+allowed-word {t} R i a j b vi vj =
+    ⊎-elim
+    (λ e. rw (eq-eqb i j e) (T-false _ (λ h. held-apart t i a j b h e)))
+    (λ d. rw (ne-eqb i j d) (row-says R i a j b vi vj d))
+    (eq-dec i j)
+
+module _ {t : List ℕ} {m : Masks} (R : Ready t m) where
+  -- a value in a domain is a value of the problem
+  pub live-value : (i a : ℕ) → Live (stateOf m) i a → Value t i a
+  unfolding held
+  live-value i a o =
+      let p : i < heldVariables t = R .fits .active-lt i (R .fits .live-active i a o) in
+      let q : a < heldSize t i = R .fits .live-lt i a o in
+      record { variable = omega (arith, held-few t); value = omega (arith, R .table .narrow i); listed = heldValue-iff t i a .1 (p, q) }
+
+  pub active-32 : (l : ℕ) → Active (stateOf m) l → l < 32
+  active-32 l o = omega (arith, R .fits .active-lt l o, held-few t)
+
+  -- the members of a domain that are allowed with a value of another variable
+  pub word-iff : (i v j c : ℕ) → Value t i v → j ≢ i → T (bit (bitAnd (getD (m .domains) j 0) (getD t (rowPlace i j v) 0)) c) ↔ (Live (stateOf m) j c × Allowed (held t) i v j c)
+  unfolding stateOf
+  word-iff i v j c vi d = (
+    λ h. let x = (simp (bit-and, and-iff) at h) in (x .0, subst T (sym (row-says (R .table) i v j c vi (live-value j c (x .0)) (λ e. d (sym e)))) (x .1)),
+    λ x. simp (bit-and, and-iff) (x .0, subst T (row-says (R .table) i v j c vi (live-value j c (x .0)) (λ e. d (sym e))) (x .1)),
+  )
+
+  pub word-lt : (j y : ℕ) → j < 32 → bitAnd (getD (m .domains) j 0) y < 2 ^ 16
+  word-lt j y k = lt-of-le-of-lt (and-le-l (getD (m .domains) j 0) y) (R .proper .domain-lt j k)
+
+  pub word-among : (i v j : ℕ) → Value t i v → j ≢ i → Among m j (bitAnd (getD (m .domains) j 0) (getD t (rowPlace i j v) 0))
+  word-among i v j vi d = record { live = λ u h. word-iff i v j u vi d .0 h .0 }
+
+  -- a domain with a value in it
+  pub some-word : (l : ℕ) → l < 32 → not (eqb (getD (m .domains) l 0) 0) ≡ anyLive (held t) (stateOf m) l (λ c. true)
+  unfolding stateOf
+  some-word l q =
+      ap not (zero-bits 16 (getD (m .domains) l 0) (R .proper .domain-lt l q))
+      ∙ T-ext (
+        λ h. elim (T-dec (anyBelow 16 (bit (getD (m .domains) l 0)))) [
+          | inl t ↦ let x = any-iff 16 (bit (getD (m .domains) l 0)) .0 t in anyLive-iff (R .fits) l (λ c. true) .1 (x .0, x .2, tt)
+          | inr n ↦ absurd (not-iff (not (anyBelow 16 (bit (getD (m .domains) l 0)))) .0 h (not-iff (anyBelow 16 (bit (getD (m .domains) l 0))) .1 n))
+        ],
+        λ h. let x = anyLive-iff (R .fits) l (λ c. true) .0 h in
+            not-iff (not (anyBelow 16 (bit (getD (m .domains) l 0)))) .1 (λ n. not-iff (anyBelow 16 (bit (getD (m .domains) l 0))) .0 n (any-iff 16 (bit (getD (m .domains) l 0)) .1 (x .0, live-value l (x .0) (x .1) .value, x .1))),
+      )
+
+  pub active-loop : (f : ℕ → Bool) → allBelow 32 (λ l. imp (bit (m .active) l) (f l)) ≡ allActive (held t) (stateOf m) f
+  unfolding stateOf
+  active-loop f = allActive-32 (R .fits) (held-few t) f
+
+  pub live-loop : (l : ℕ) → (f : ℕ → Bool) → allBelow 16 (λ c. imp (bit (getD (m .domains) l 0) c) (f c)) ≡ allLive (held t) (stateOf m) l f
+  unfolding stateOf held
+  live-loop l f = allLive-16 (R .fits) l (R .table .narrow l) f
+
+  -- a value whose bit is set is a value of the problem
+  pub bit-value : (i a : ℕ) → bit (getD (m .domains) i 0) a ≡ true → Value t i a
+  unfolding stateOf
+  bit-value i a e = live-value i a (T-of e)
+
+  pub domain-among : (i : ℕ) → Among m i (getD (m .domains) i 0)
+  unfolding stateOf
+  domain-among i = record { live = λ u h. h }

@@ -1,0 +1,113 @@
+// A filled table and a state of its problem: sizes, rows, the first state, and whether an active variable has an empty domain. A row of
+// the table is the set of values allowed with one value.
+ghost use mathlib.Core.Path.{_≡_};
+ghost use mathlib.Core.Bool.{true, false};
+ghost use Prim.Native.Nat.{_<_, _≤_, _+_, _*_};
+ghost use lib.ListN.{getD};
+ghost use Rattle.bounded.specs.Bounded.{imp};
+ghost use Rattle.bounded.specs.Mask.{bit, maskOf};
+ghost use Rattle.problem.specs.Problem.{noneEmpty, anyLive, full};
+ghost use Rattle.problem.specs.Held.{held, rowPlace, RowTable};
+ghost use Rattle.problem.specs.Masks.{stateOf, masksOf};
+ghost use Rattle.held.specs.Ready.{Ready, Value};
+ghost use lib.Dec.{ltb};
+use bounded::has16;
+use bounded::has32;
+use problem::Masks;
+
+// The values of j that are allowed with value a of i.
+pub fn row(t: &[u16], i: usize, j: usize, a: usize) -> u16
+    requires { ⌜ RowTable (now t) × (i < 32) × (j < 32) × (a < 16) ⌝ }
+    ensures { λ r. ⌜ r ≡ getD (now (t .entry)) (rowPlace i j a) 0 ⌝ }
+{
+    t[32 + ((i * 32 + j) * 16 + a)]
+}
+
+// Value a of i is allowed with value b of j. No two values of one variable are, whatever the row between them says.
+pub fn pair_allowed(t: &[u16], i: usize, a: usize, j: usize, b: usize) -> bool
+    requires { ⌜ RowTable (now t) × Value (now t) i a × Value (now t) j b ⌝ }
+    ensures { λ r. ⌜ r ≡ (held (now (t .entry))) .allowed i a j b ⌝ }
+{
+    (i != j) & has16(row(t, i, j, a), b)
+}
+
+fn some_value(t: &[u16], m: Masks, l: usize) -> bool
+    requires { ⌜ Ready (now t) m × (l < 32) ⌝ }
+    ensures { λ r. ⌜ r ≡ imp (bit (m .active) l) (anyLive (held (now (t .entry))) (stateOf m) l (λ c. true)) ⌝ }
+{
+    !has32(m.active, l) | (m.domains[l] != 0)
+}
+
+// No item in is without a setting on.
+pub fn none_empty(t: &[u16], m: Masks) -> bool
+    requires { ⌜ Ready (now t) m ⌝ }
+    ensures { λ r. ⌜ r ≡ noneEmpty (held (now (t .entry))) (stateOf m) ⌝ }
+{
+    let mut l: usize = 0;
+    while l < 32 {
+        if !some_value(t, m, l) {
+            return false;
+        }
+        l += 1;
+    }
+    true
+}
+
+// The set of the variables below z.
+fn variables_below(z: usize) -> u32
+    requires { ⌜ z ≤ 32 ⌝ }
+    ensures { λ r. ⌜ r ≡ maskOf 32 (λ c. ltb c z) ⌝ }
+{
+    (bounded::power(z) - 1) as u32
+}
+
+// The set of the values below z.
+fn values_below(z: usize) -> u16
+    requires { ⌜ z ≤ 16 ⌝ }
+    ensures { λ r. ⌜ r ≡ maskOf 16 (λ c. ltb c z) ⌝ }
+{
+    (bounded::power(z) - 1) as u16
+}
+
+// How many variables the table holds: a size of 0 ends them.
+pub fn variables(t: &[u16]) -> usize
+    requires { ⌜ RowTable (now t) ⌝ }
+    ensures { λ r. ⌜ r ≡ (held (now (t .entry))) .n ⌝ }
+{
+    let mut i: usize = 0;
+    while i < 32 {
+        if t[i] == 0 {
+            return i;
+        }
+        i += 1;
+    }
+    32
+}
+
+// The domain of i in the first state, of a table of n variables.
+fn full_domain(t: &[u16], n: usize, i: usize) -> u16
+    requires { ⌜ RowTable (now t) × (n ≡ (held (now t)) .n) × (i < 32) ⌝ }
+    ensures { λ r. ⌜ r ≡ maskOf 16 ((full (held (now (t .entry)))) .live i) ⌝ }
+{
+    if i < n {
+        values_below(t[i] as usize)
+    } else {
+        0
+    }
+}
+
+// The first state: every variable active, every value in its domain.
+pub fn full_masks(t: &[u16]) -> Masks
+    requires { ⌜ RowTable (now t) ⌝ }
+    ensures { λ r. ⌜ r ≡ masksOf (full (held (now (t .entry)))) ⌝ }
+{
+    let n = variables(t);
+    let mut m = problem::empty_masks();
+    m.active = variables_below(n);
+    let mut i: usize = 0;
+    while i < 32 {
+        m.domains[i] = full_domain(t, n, i);
+        i += 1;
+    }
+    m
+}

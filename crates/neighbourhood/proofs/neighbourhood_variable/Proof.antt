@@ -1,0 +1,37 @@
+-- `neighbourhood::neighbourhood_variable`: a loop over the values of an active variable. Assumes nothing.
+use Prim.Native.Nat.{_≤_, _-_}
+use mathlib.Core.Path.{_≡_, sym, _∙_}
+use native.Mathlib.Omega.{arith}
+use borrow.Author.Needs.{needs}
+use borrow.Author.Tests.{not-true}
+use Rattle.problem.specs.Reduce.{first}
+use Rattle.problem.specs.Held.{held}
+use Rattle.problem.specs.Masks.{stateOf}
+use Rattle.problem.specs.declared.Next.the-variants.{Nothing}
+use Rattle.neighbourhood.specs.Parts.{neighbourhoodValue, neighbourhoodVariable}
+use Rattle.problem.proofs.Search.{nothing-is, first-none, first-more, first-hit, first-end}
+use Rattle.neighbourhood.proofs.Laws.{neighbourhood-variable-off}
+use Rattle.neighbourhood.proofs.neighbourhood_variable.Statement.{statement}
+use Rattle.neighbourhood.proofs.neighbourhood_variable.Tie as tie
+
+abbrev Inv-loop : tie.InvT-loop
+Inv-loop t m i b₀ b = (b ≤ 16) × (first b (λ b. neighbourhoodValue (held t) (stateOf m) i b) ≡ Nothing)
+
+abbrev μ-loop : tie.MeasureT-loop
+μ-loop t m i b₀ b = 16 - b
+
+pub neighbourhood-variable-spec : {M : Type 1} → statement M
+unfolding neighbourhoodVariable
+neighbourhood-variable-spec =
+    tie.close
+    (tie.spec Inv-loop μ-loop
+    (λ c κs. search needs)
+    (λ c. sym (neighbourhood-variable-off (c .before .before .before .pre .0) _ (sym (c .before .has32 .ensures) ∙ not-true _ (c .if1 .taken))))
+    (λ c. (search needs, first-none _))
+    (λ c κs. search needs)
+    (λ c κs. search needs)
+    (λ c. sym (first-hit _ 16 _ _ (omega arith) (c .before .before .before .before .loop .inv .1) (sym (c .before .before .neighbourhood-value .ensures)) (sym (c .before .is-step .ensures) ∙ c .if2 .taken)))
+    (λ c. omega arith)
+    (λ c. omega arith)
+    (λ c. (omega arith, first-more _ _ (c .before .before .before .before .loop .inv .1) (sym (c .before .before .neighbourhood-value .ensures) ∙ nothing-is _ (sym (c .before .is-step .ensures) ∙ c .if2 .left))))
+    (λ c. sym (first-end _ 16 _ (omega arith) (c .before .loop .inv .1))))

@@ -1,0 +1,82 @@
+// Kind 4, cover: the test for a neighbourhood substitution, and the search for the lowest step of the kind.
+ghost use mathlib.Core.Path.{_≡_};
+ghost use mathlib.Core.Bool.{false};
+ghost use Prim.Native.Nat.{_<_, _+_};
+ghost use Rattle.problem.specs.Problem.{neighbourhood as neighbourhoodHolds};
+ghost use Rattle.problem.specs.Held.{held};
+ghost use Rattle.problem.specs.Masks.{stateOf};
+ghost use Rattle.held.specs.Ready.{Ready};
+ghost use Rattle.problem.specs.Reduce.{nextNeighbourhood};
+ghost use Rattle.neighbourhood.specs.Parts.{neighbourhoodValue, neighbourhoodVariable};
+use bounded::has16;
+use bounded::has32;
+use bounded::without32;
+use cover::covers;
+use problem::Masks;
+use problem::Next;
+use problem::Record;
+use problem::is_step;
+
+// Values a and b of i differ and are in its domain, and a covers b at every other item.
+pub fn neighbourhood(t: &[u16], m: Masks, i: usize, b: usize, a: usize) -> bool
+    requires { ⌜ Ready (now t) m × (i < 32) × (b < 16) × (a < 16) ⌝ }
+    ensures { λ r. ⌜ r ≡ neighbourhoodHolds (held (now (t .entry))) (stateOf m) i b a ⌝ }
+{
+    let domain = m.domains[i];
+    if has16(domain, b) & (has16(domain, a) & (a != b)) {
+        covers(t, m, without32(m.active, i), i, a, i, b)
+    } else {
+        false
+    }
+}
+
+// The lowest value that covers value b of i at every other variable.
+fn neighbourhood_value(t: &[u16], m: Masks, i: usize, b: usize) -> Next
+    requires { ⌜ Ready (now t) m × (i < 32) × (b < 16) ⌝ }
+    ensures { λ r. ⌜ r ≡ neighbourhoodValue (held (now (t .entry))) (stateOf m) i b ⌝ }
+{
+    if !has16(m.domains[i], b) {
+        return Next::Nothing;
+    }
+    let mut a: usize = 0;
+    while a < 16 {
+        if neighbourhood(t, m, i, b, a) {
+            return Next::Step(Record::Neighbourhood(i, b, a));
+        }
+        a += 1;
+    }
+    Next::Nothing
+}
+
+fn neighbourhood_variable(t: &[u16], m: Masks, i: usize) -> Next
+    requires { ⌜ Ready (now t) m × (i < 32) ⌝ }
+    ensures { λ r. ⌜ r ≡ neighbourhoodVariable (held (now (t .entry))) (stateOf m) i ⌝ }
+{
+    if !has32(m.active, i) {
+        return Next::Nothing;
+    }
+    let mut b: usize = 0;
+    while b < 16 {
+        let found = neighbourhood_value(t, m, i, b);
+        if is_step(found) {
+            return found;
+        }
+        b += 1;
+    }
+    Next::Nothing
+}
+
+pub fn next_neighbourhood(t: &[u16], m: Masks) -> Next
+    requires { ⌜ Ready (now t) m ⌝ }
+    ensures { λ r. ⌜ r ≡ nextNeighbourhood (held (now (t .entry))) (stateOf m) ⌝ }
+{
+    let mut i: usize = 0;
+    while i < 32 {
+        let found = neighbourhood_variable(t, m, i);
+        if is_step(found) {
+            return found;
+        }
+        i += 1;
+    }
+    Next::Nothing
+}

@@ -1,0 +1,57 @@
+-- `search::next_of_kind`: each kind by itself; of the five, the last is left. Assumes nothing.
+use mathlib.Core.Path.{_≡_}
+use native.Mathlib.Omega.{arith}
+use borrow.Author.Needs.{needs}
+use Rattle.problem.specs.Reduce.{nextOfKind}
+use Rattle.search.proofs.next_of_kind.Statement.{statement}
+use Rattle.search.proofs.next_of_kind.Tie as tie
+
+next-unsupported-requires : tie.Need-next-unsupported-requires
+next-unsupported-requires c κs = search needs
+
+next-snake-requires : tie.Need-next-snake-requires
+next-snake-requires c κs = search needs
+
+next-triangle-requires : tie.Need-next-triangle-requires
+next-triangle-requires c κs = search needs
+
+next-neighbourhood-requires : tie.Need-next-neighbourhood-requires
+next-neighbourhood-requires c κs = search needs
+
+next-substitution-requires : tie.Need-next-substitution-requires
+next-substitution-requires c κs = search needs
+
+returns : tie.Need-returns
+unfolding nextOfKind
+returns c = rw (c .before .match .keys1) (c .next-unsupported .ensures)
+
+returns-2 : tie.Need-returns-2
+unfolding nextOfKind
+returns-2 c = rw (c .before .match .keys2) (c .next-snake .ensures)
+
+returns-3 : tie.Need-returns-3
+unfolding nextOfKind
+returns-3 c = rw (c .before .match .keys3) (c .next-triangle .ensures)
+
+returns-4 : tie.Need-returns-4
+unfolding nextOfKind
+returns-4 c = rw (c .before .match .keys4) (c .next-neighbourhood .ensures)
+
+returns-5 : tie.Need-returns-5
+unfolding nextOfKind
+returns-5 c = let e : c .before .before .before .args .kind ≡ 5 = omega arith in rw e (c .next-substitution .ensures)
+
+pub next-of-kind-spec : {M : Type 1} → statement M
+next-of-kind-spec =
+    tie.close
+    (tie.spec
+    next-unsupported-requires
+    next-snake-requires
+    next-triangle-requires
+    next-neighbourhood-requires
+    next-substitution-requires
+    returns
+    returns-2
+    returns-3
+    returns-4
+    returns-5)

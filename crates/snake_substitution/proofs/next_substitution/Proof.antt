@@ -1,0 +1,33 @@
+-- `snake_substitution::next_substitution`: a loop over the variables. Assumes nothing.
+use Prim.Native.Nat.{_≤_, _-_}
+use mathlib.Core.Path.{_≡_, sym, _∙_}
+use native.Mathlib.Omega.{arith}
+use borrow.Author.Needs.{needs}
+use Rattle.problem.specs.Reduce.{first}
+use Rattle.problem.specs.Held.{held}
+use Rattle.problem.specs.Masks.{stateOf}
+use Rattle.problem.specs.declared.Next.the-variants.{Nothing}
+use Rattle.snake_substitution.specs.Parts.{substitutionVariable}
+use Rattle.problem.proofs.Search.{nothing-is, first-none, first-more, first-hit, first-end}
+use Rattle.snake_substitution.proofs.Laws.{substitution-first}
+use Rattle.snake_substitution.proofs.next_substitution.Statement.{statement}
+use Rattle.snake_substitution.proofs.next_substitution.Tie as tie
+
+abbrev Inv-loop : tie.InvT-loop
+Inv-loop t m i₀ i = (i ≤ 32) × (first i (substitutionVariable (held t) (stateOf m)) ≡ Nothing)
+
+abbrev μ-loop : tie.MeasureT-loop
+μ-loop t m i₀ i = 32 - i
+
+pub next-substitution-spec : {M : Type 1} → statement M
+next-substitution-spec =
+    tie.close
+    (tie.spec Inv-loop μ-loop
+    (λ c. (search needs, first-none _))
+    (λ c κs. search needs)
+    (λ c κs. search needs)
+    (λ c. sym (sym (substitution-first (c .before .before .before .before .before .before .pre)) ∙ first-hit _ 32 _ _ (omega arith) (c .before .before .before .before .loop .inv .1) (sym (c .before .before .substitution-variable .ensures)) (sym (c .before .is-step .ensures) ∙ c .if1 .taken)))
+    (λ c. omega arith)
+    (λ c. omega arith)
+    (λ c. (omega arith, first-more _ _ (c .before .before .before .before .loop .inv .1) (sym (c .before .before .substitution-variable .ensures) ∙ nothing-is _ (sym (c .before .is-step .ensures) ∙ c .if1 .left))))
+    (λ c. sym (sym (substitution-first (c .before .before .before .pre)) ∙ first-end _ 32 _ (omega arith) (c .before .loop .inv .1))))

@@ -1,0 +1,48 @@
+-- `snake_substitution::snake_substitution`. Assumes nothing.
+use mathlib.Core.Path.{sym, _∙_}
+use Rattle.problem.specs.Problem.{snakeSubstitution}
+use Rattle.problem.specs.Masks.{stateOf}
+use Rattle.snake_substitution.specs.Parts.{slideAt}
+use Rattle.held.proofs.Laws.{bit-value}
+use Rattle.bounded.proofs.Guard.{guard, guard-met, guard-left}
+use borrow.Author.Needs.{needs}
+use Rattle.snake_substitution.proofs.snake_substitution.Statement.{statement}
+use Rattle.snake_substitution.proofs.snake_substitution.Tie as tie
+
+mul-on : tie.Need-mul-on
+mul-on c = search needs
+
+element-copy-out-on : tie.Need-element-copy-out-on
+element-copy-out-on c = search needs
+
+has16-requires : tie.Need-has16-requires
+has16-requires c κs = search needs
+
+has16-requires-2 : tie.Need-has16-requires-2
+has16-requires-2 c κs = search needs
+
+slide-others-requires : tie.Need-slide-others-requires
+slide-others-requires c κs =
+    let p = c .before .before .before .before .before .pre in
+    let h = guard (c .before .before .has16 .result) (c .before .has162 .result) (c .before .before .before .before .before .args .a) (c .before .before .before .before .before .args .b) (c .if1 .taken) in
+    (p .0, bit-value (p .0) _ _ (sym (c .before .before .has16 .ensures) ∙ h .0), bit-value (p .0) _ _ (sym (c .before .has162 .ensures) ∙ h .1))
+
+returns : tie.Need-returns
+unfolding snakeSubstitution slideAt stateOf
+returns c = c .slide-others .ensures ∙ sym (guard-met _ _ (c .before .before .before .has16 .ensures) (c .before .before .has162 .ensures) (c .before .if1 .taken))
+
+returns-2 : tie.Need-returns-2
+unfolding snakeSubstitution stateOf
+returns-2 c = sym (guard-left _ _ (c .before .before .has16 .ensures) (c .before .has162 .ensures) (c .if1 .left))
+
+pub snake-substitution-spec : {M : Type 1} → statement M
+snake-substitution-spec =
+    tie.close
+    (tie.spec
+    mul-on
+    element-copy-out-on
+    has16-requires
+    has16-requires-2
+    slide-others-requires
+    returns
+    returns-2)

@@ -1,0 +1,40 @@
+-- `snake_substitution::substitution_value`: a loop over the last field, for a value that is in its domain. Assumes nothing.
+use Prim.Native.Nat.{_≤_, _-_}
+use mathlib.Core.Path.{_≡_, refl, sym, _∙_}
+use native.Mathlib.Omega.{arith}
+use borrow.Author.Needs.{needs}
+use borrow.Author.Tests.{not-true}
+use Rattle.problem.specs.Problem.{snakeSubstitution, slideSpares}
+use Rattle.problem.specs.Reduce.{stepIf, first}
+use Rattle.problem.specs.Held.{held}
+use Rattle.problem.specs.Masks.{stateOf}
+use Rattle.problem.specs.declared.Next.the-variants.{Nothing}
+use Rattle.problem.specs.declared.Record.the-variants.{SnakeSubstitution}
+use Rattle.snake_substitution.specs.Parts.{substitutionValue}
+use Rattle.problem.proofs.Search.{stepIf-on, stepIf-off, first-none, first-more, first-hit, first-end}
+use Rattle.snake_substitution.proofs.Laws.{substitution-value-off}
+use Rattle.snake_substitution.proofs.substitution_value.Statement.{statement}
+use Rattle.snake_substitution.proofs.substitution_value.Tie as tie
+
+abbrev Inv-loop : tie.InvT-loop
+Inv-loop t i b m a₀ a = (a ≤ 16) × (first a (λ a. stepIf (snakeSubstitution (held t) (stateOf m) slideSpares i b a) (SnakeSubstitution i b a)) ≡ Nothing)
+
+abbrev μ-loop : tie.MeasureT-loop
+μ-loop t i b m a₀ a = 16 - a
+
+pub substitution-value-spec : {M : Type 1} → statement M
+unfolding substitutionValue
+substitution-value-spec =
+    tie.close
+    (tie.spec Inv-loop μ-loop
+    (λ c. search needs)
+    (λ c. search needs)
+    (λ c κs. search needs)
+    (λ c. sym (substitution-value-off (c .before .before .before .before .pre .0) _ _ (sym (c .before .has16 .ensures) ∙ not-true _ (c .if1 .taken))))
+    (λ c. (search needs, first-none _))
+    (λ c κs. search needs)
+    (λ c. sym (first-hit _ 16 _ _ (omega arith) (c .before .before .before .loop .inv .1) (stepIf-on _ _ (sym (c .before .snake-substitution .ensures) ∙ c .if2 .taken)) refl))
+    (λ c. omega arith)
+    (λ c. omega arith)
+    (λ c. (omega arith, first-more _ _ (c .before .before .before .loop .inv .1) (stepIf-off _ _ (sym (c .before .snake-substitution .ensures) ∙ c .if2 .left))))
+    (λ c. sym (first-end _ 16 _ (omega arith) (c .before .loop .inv .1))))

@@ -1,0 +1,111 @@
+-- The two steps over masks: a value removed, and a variable eliminated. Assumes nothing.
+use mathlib.Core.Path.{_≡_, refl, sym, ap, _∙_, subst}
+use mathlib.Core.Bool.{Bool, true, false, not, _&&_, _||_, and-true, or-false}
+use mathlib.Core.Logic.{_⊎_, inl, inr, _≢_, ⊎-elim}
+use mathlib.Core.List.{List}
+use Prim.Native.Nat.{ℕ, _+_, _^_, _<_}
+use native.Mathlib.Omega.{arith}
+use native.Mathlib.Nat.{lt-of-le-of-lt}
+use lib.Dec.{T, eqb}
+use lib.Bits.{bitAnd, bitOr, and-le-l}
+use lib.ListN.{getD, set, length-set}
+use lib.Seq.{getD-set-same, getD-set-other}
+use borrow.Author.Tests.{eqb-true, eqb-false}
+use Rattle.bounded.specs.Bounded.{anyBelow}
+use Rattle.bounded.specs.Mask.{bit, maskOf, without}
+use Rattle.bounded.proofs.Truth.{T-ext, T-of, T-false, split, and-iff, or-iff, eqb-iff, eq-dec}
+use Rattle.bounded.proofs.Bounded.{any-iff}
+use Rattle.bounded.proofs.Loops.{any-next}
+use Rattle.bounded.proofs.Mask.{bit-and, bit-or, bit-none, bit-mask, bit-without16, bit-without32, mask-is}
+use Rattle.problem.specs.Problem.{remove, eliminate}
+use Rattle.problem.specs.Held.{rowAllows, held}
+use Rattle.problem.specs.Masks.{stateOf, masksOf, Proper}
+use Rattle.problem.specs.declared.Masks.{Masks}
+use Rattle.problem.proofs.Reflect.{turn, eliminate-live}
+use Rattle.problem.proofs.Bridge.{masks-is}
+use Rattle.held.specs.Ready.{Ready}
+use Rattle.cover.specs.Words.{others}
+use Rattle.steps.specs.Words.{domainAfter, supportedBy, partnersOf}
+use Rattle.held.proofs.Laws.{live-value, row-says, word-lt}
+
+-- ---- a union of rows
+
+pub gather-on : (f : ℕ → Bool) (x y v c : ℕ) → bit x c ≡ anyBelow v f → f v ≡ bit y c → bit (bitOr x y) c ≡ anyBelow (v + 1) f
+gather-on f x y v c e h = bit-or x y c ∙ (rw (e, ← h) (sym (any-next f v)))
+
+pub gather-off : (f : ℕ → Bool) (x v c : ℕ) → bit x c ≡ anyBelow v f → f v ≡ false → bit x c ≡ anyBelow (v + 1) f
+gather-off f x v c e h = e ∙ sym (any-next f v ∙ (rw h (or-false (anyBelow v f))))
+
+module _ {t : List ℕ} {m : Masks} (R : Ready t m) where
+  -- ---- a value removed
+
+  -- the masks with b taken out of the domain of i
+  abbrev removeMasks : ℕ → ℕ → Masks
+  removeMasks i b = record { active = m .active; domains = set (m .domains) i (without 16 (getD (m .domains) i 0) b) }
+
+  remove-bit : (i b : ℕ) → i < 32 → b < 16 → (j a : ℕ) → a < 16 → bit (getD (removeMasks i b .domains) j 0) a ≡ (bit (getD (m .domains) j 0) a && not (eqb j i && eqb a b))
+  remove-bit i b p q j a k =
+      let len = R .proper .length-is in
+      ⊎-elim
+      (λ e. let x = eqb-true j i e in
+      rw (e, x, getD-set-same (m .domains) i (without 16 (getD (m .domains) i 0) b) 0 (omega arith)) (bit-without16 (getD (m .domains) i 0) b a q k))
+      (λ e. ap (λ (x : ℕ). bit x a) (getD-set-other (m .domains) i j (without 16 (getD (m .domains) i 0) b) 0 (eqb-false j i e))
+      ∙ sym (and-true (bit (getD (m .domains) j 0) a))
+      ∙ ap (λ (z : Bool). bit (getD (m .domains) j 0) a && not (z && eqb a b)) (sym e))
+      (split (eqb j i))
+
+  remove-proper : (i b : ℕ) → i < 32 → Proper (removeMasks i b)
+  remove-proper i b p =
+      record {
+        active-lt = R .proper .active-lt;
+        length-is = length-set (m .domains) i _ ∙ R .proper .length-is;
+        domain-lt = λ j k. go j k (eq-dec j i);
+      }
+    where
+      go : (j : ℕ) → j < 32 → (j ≡ i) ⊎ (j ≢ i) → getD (removeMasks i b .domains) j 0 < 2 ^ 16
+      go j k (inl e) = let len = R .proper .length-is in rw (e, getD-set-same (m .domains) i (without 16 (getD (m .domains) i 0) b) 0 (omega arith)) (word-lt R i _ p)
+      go j k (inr d) = rw (getD-set-other (m .domains) i j (without 16 (getD (m .domains) i 0) b) 0 d) (R .proper .domain-lt j k)
+
+  pub remove-masks : (i b : ℕ) → i < 32 → b < 16 → removeMasks i b ≡ masksOf (remove (held t) (stateOf m) i b)
+  unfolding remove stateOf
+  remove-masks i b p q = masks-is (removeMasks i b) (remove (held t) (stateOf m) i b) (remove-proper i b p) (λ j k. refl) (λ j a k l. remove-bit i b p q j a l)
+
+  -- ---- a variable eliminated
+
+  pub active-after : (i : ℕ) → i < 32 → others (m .active) i ≡ maskOf 32 (eliminate (held t) (stateOf m) i .active)
+  unfolding eliminate stateOf
+  active-after i p =
+      mask-is 32 (others (m .active) i) (eliminate (held t) (stateOf m) i .active) (lt-of-le-of-lt (and-le-l (m .active) _) (R .proper .active-lt))
+      (λ c k. bit-without32 (m .active) i c p k)
+
+  -- i's own domain goes empty, and an empty domain stays so
+  pub domain-gone : (i j : ℕ) → (eqb j i || eqb (getD (m .domains) j 0) 0) ≡ true → 0 ≡ domainAfter (held t) (stateOf m) i j
+  unfolding domainAfter stateOf
+  domain-gone i j h =
+      mask-is 16 0 (eliminate (held t) (stateOf m) i .live j) (omega arith)
+      (λ c k. bit-none c ∙ sym (T-false _ (λ l. let x = eliminate-live (held t) (stateOf m) (R .fits) i j c .0 l in
+      ⊎-elim
+      (λ e. x .1 .0 (eqb-iff j i .0 e))
+      (λ e. subst T (ap (λ (y : ℕ). bit y c) (eqb-iff (getD (m .domains) j 0) 0 .0 e) ∙ bit-none c) (x .0))
+      (or-iff (eqb j i) (eqb (getD (m .domains) j 0) 0) .0 (T-of h)))))
+
+  -- the values of j with a support at i stay
+  pub domain-word : (i j : ℕ) → j < 32 → j ≢ i → bitAnd (getD (m .domains) j 0) (partnersOf t (getD (m .domains) i 0) i j) ≡ domainAfter (held t) (stateOf m) i j
+  unfolding domainAfter partnersOf stateOf rowAllows
+  domain-word i j q d =
+      mask-is 16 (bitAnd (getD (m .domains) j 0) partners) (eliminate (held t) (stateOf m) i .live j) (word-lt R j _ q)
+      (λ c k. bit-and (getD (m .domains) j 0) partners c ∙ ap (λ (z : Bool). bit (getD (m .domains) j 0) c && z) (bit-mask 16 (λ c. anyBelow 16 (supportedBy t (getD (m .domains) i 0) i j c)) c k)
+      ∙ T-ext (
+        λ h. let x = simp (and-iff, any-iff) at h in
+            let v = x .1 .0 in
+            eliminate-live (held t) (stateOf m) (R .fits) i j c .1
+            (x .0, (d, (v, x .1 .2 .0, turn (held t) i v j c (subst T (sym (row-says (R .table) i v j c (live-value R i v (x .1 .2 .0)) (live-value R j c (x .0)) (λ e. d (sym e)))) (x .1 .2 .1))))),
+        λ h. let x = eliminate-live (held t) (stateOf m) (R .fits) i j c .0 h in
+            let y = x .1 .1 in
+            let v = y .0 in
+            simp (and-iff, any-iff)
+            (x .0, (v, live-value R i v (y .1) .value, (y .1, subst T (row-says (R .table) i v j c (live-value R i v (y .1)) (live-value R j c (x .0)) (λ e. d (sym e))) (turn (held t) j c i v (y .2))))),
+      ))
+    where
+      partners : ℕ
+      partners = maskOf 16 (λ c. anyBelow 16 (supportedBy t (getD (m .domains) i 0) i j c))

@@ -1,0 +1,109 @@
+// Kind 3, fold: the triangle rule's test, the choice that undoing makes, and the search for the lowest step of the kind.
+ghost use mathlib.Core.Path.{_≡_};
+ghost use mathlib.Core.Bool.{true, false};
+ghost use mathlib.Core.Logic.{_≢_};
+ghost use Prim.Native.Nat.{_<_, _+_};
+ghost use lib.ListN.{getD};
+ghost use Rattle.bounded.specs.Bounded.{imp};
+ghost use Rattle.bounded.specs.Mask.{bit};
+ghost use Rattle.problem.specs.Problem.{allLive, triangle as triangleHolds, triangleServes};
+ghost use Rattle.problem.specs.Held.{held};
+ghost use Rattle.problem.specs.Masks.{stateOf};
+ghost use Rattle.held.specs.Ready.{Ready, Value};
+ghost use Rattle.cover.specs.Words.{thirds};
+ghost use Rattle.triangle.specs.Parts.{foldAt, triangleVariable};
+ghost use Rattle.problem.specs.Reduce.{nextTriangle};
+use bounded::has16;
+use bounded::has32;
+use cover::covers;
+use cover::served;
+use cover::third_set;
+use held::pair_allowed;
+use held::row;
+use problem::Masks;
+use problem::Next;
+use problem::Record;
+use problem::is_step;
+
+// Value u of i is allowed with value v of j, and covers it at every item other than i and j.
+pub fn triangle_serves(t: &[u16], m: Masks, i: usize, j: usize, v: usize, u: usize) -> bool
+    requires { ⌜ Ready (now t) m × Value (now t) j v × Value (now t) i u ⌝ }
+    ensures { λ r. ⌜ r ≡ triangleServes (held (now (t .entry))) (stateOf m) i j v u ⌝ }
+{
+    if pair_allowed(t, i, u, j, v) {
+        covers(t, m, third_set(m.active, i, j), i, u, j, v)
+    } else {
+        false
+    }
+}
+
+fn fold_at(t: &[u16], m: Masks, rest: u32, i: usize, j: usize, v: usize) -> bool
+    requires { ⌜ Ready (now t) m × (rest ≡ thirds (m .active) i j) × (i < 32) × (j < 32) × (j ≢ i) × (v < 16) ⌝ }
+    ensures { λ r. ⌜ r ≡ imp (bit (getD (m .domains) j 0) v) (foldAt (held (now (t .entry))) (stateOf m) i j v) ⌝ }
+{
+    if has16(m.domains[j], v) {
+        let good = m.domains[i] & row(t, j, i, v);
+        served(t, m, rest, good, i, j, v)
+    } else {
+        true
+    }
+}
+
+fn fold_all(t: &[u16], m: Masks, i: usize, j: usize) -> bool
+    requires { ⌜ Ready (now t) m × (i < 32) × (j < 32) × (j ≢ i) ⌝ }
+    ensures { λ r. ⌜ r ≡ allLive (held (now (t .entry))) (stateOf m) j (foldAt (held (now (t .entry))) (stateOf m) i j) ⌝ }
+{
+    let rest = third_set(m.active, i, j);
+    let mut v: usize = 0;
+    while v < 16 {
+        if !fold_at(t, m, rest, i, j, v) {
+            return false;
+        }
+        v += 1;
+    }
+    true
+}
+
+// For every value of the other item j, some value of i serves.
+pub fn triangle(t: &[u16], m: Masks, i: usize, j: usize) -> bool
+    requires { ⌜ Ready (now t) m × (i < 32) × (j < 32) ⌝ }
+    ensures { λ r. ⌜ r ≡ triangleHolds (held (now (t .entry))) (stateOf m) i j ⌝ }
+{
+    if has32(m.active, i) & (has32(m.active, j) & (j != i)) {
+        fold_all(t, m, i, j)
+    } else {
+        false
+    }
+}
+
+fn triangle_variable(t: &[u16], m: Masks, i: usize) -> Next
+    requires { ⌜ Ready (now t) m × (i < 32) ⌝ }
+    ensures { λ r. ⌜ r ≡ triangleVariable (held (now (t .entry))) (stateOf m) i ⌝ }
+{
+    if !has32(m.active, i) {
+        return Next::Nothing;
+    }
+    let mut j: usize = 0;
+    while j < 32 {
+        if triangle(t, m, i, j) {
+            return Next::Step(Record::Triangle(i, j));
+        }
+        j += 1;
+    }
+    Next::Nothing
+}
+
+pub fn next_triangle(t: &[u16], m: Masks) -> Next
+    requires { ⌜ Ready (now t) m ⌝ }
+    ensures { λ r. ⌜ r ≡ nextTriangle (held (now (t .entry))) (stateOf m) ⌝ }
+{
+    let mut i: usize = 0;
+    while i < 32 {
+        let found = triangle_variable(t, m, i);
+        if is_step(found) {
+            return found;
+        }
+        i += 1;
+    }
+    Next::Nothing
+}
