@@ -8,7 +8,7 @@ ghost use Rattle.bounded.specs.Bounded.{imp};
 ghost use Rattle.bounded.specs.Mask.{bit};
 ghost use Rattle.problem.specs.Problem.{substitutes as substitutesAt};
 ghost use Rattle.problem.specs.Held.{held};
-ghost use Rattle.problem.specs.Masks.{stateOf};
+ghost use Rattle.problem.specs.Masks.{stateOf, sets};
 ghost use Rattle.held.specs.Ready.{Ready, Value, Among};
 ghost use Rattle.cover.specs.Words.{coversIn, servedIn, allServedIn, thirds};
 use bounded::has16;
@@ -18,11 +18,11 @@ use held::row;
 use problem::Masks;
 
 // Value a of i covers value b of j at l.
-fn substitutes(t: &[u16], m: Masks, i: usize, a: usize, j: usize, b: usize, l: usize) -> bool
-    requires { ⌜ Ready (now t) m × Value (now t) i a × Value (now t) j b × (l < 32) × (l ≢ i) × (l ≢ j) ⌝ }
-    ensures { λ r. ⌜ r ≡ substitutesAt (held (now (t .entry))) (stateOf m) i a j b l ⌝ }
+fn substitutes(t: &[u16], active: u32, on: &[u16; 32], i: usize, a: usize, j: usize, b: usize, l: usize) -> bool
+    requires { ⌜ Ready (now t) (sets active (now on)) × Value (now t) i a × Value (now t) j b × (l < 32) × (l ≢ i) × (l ≢ j) ⌝ }
+    ensures { λ r. ⌜ r ≡ substitutesAt (held (now (t .entry))) (stateOf (sets active (now (on .entry)))) i a j b l ⌝ }
 {
-    let w = m.domains[l] & row(t, j, l, b);
+    let w = on[l] & row(t, j, l, b);
     w & row(t, i, l, a) == w
 }
 
@@ -36,7 +36,8 @@ pub fn third_set(active: u32, i: usize, j: usize) -> u32
 
 fn covers_at(
     t: &[u16],
-    m: Masks,
+    active: u32,
+    on: &[u16; 32],
     rest: u32,
     i: usize,
     a: usize,
@@ -44,24 +45,24 @@ fn covers_at(
     b: usize,
     l: usize,
 ) -> bool
-    requires { ⌜ Ready (now t) m × Value (now t) i a × Value (now t) j b × (bit rest i ≡ false) × (bit rest j ≡ false) × (l < 32) ⌝ }
-    ensures { λ r. ⌜ r ≡ imp (bit rest l) (substitutesAt (held (now (t .entry))) (stateOf m) i a j b l) ⌝ }
+    requires { ⌜ Ready (now t) (sets active (now on)) × Value (now t) i a × Value (now t) j b × (bit rest i ≡ false) × (bit rest j ≡ false) × (l < 32) ⌝ }
+    ensures { λ r. ⌜ r ≡ imp (bit rest l) (substitutesAt (held (now (t .entry))) (stateOf (sets active (now (on .entry)))) i a j b l) ⌝ }
 {
     if has32(rest, l) {
-        substitutes(t, m, i, a, j, b, l)
+        substitutes(t, active, on, i, a, j, b, l)
     } else {
         true
     }
 }
 
 // Value a of i covers value b of j at each variable of `rest`, where neither i nor j is.
-pub fn covers(t: &[u16], m: Masks, rest: u32, i: usize, a: usize, j: usize, b: usize) -> bool
-    requires { ⌜ Ready (now t) m × Value (now t) i a × Value (now t) j b × (bit rest i ≡ false) × (bit rest j ≡ false) ⌝ }
-    ensures { λ r. ⌜ r ≡ coversIn (held (now (t .entry))) (stateOf m) rest i a j b ⌝ }
+pub fn covers(t: &[u16], active: u32, on: &[u16; 32], rest: u32, i: usize, a: usize, j: usize, b: usize) -> bool
+    requires { ⌜ Ready (now t) (sets active (now on)) × Value (now t) i a × Value (now t) j b × (bit rest i ≡ false) × (bit rest j ≡ false) ⌝ }
+    ensures { λ r. ⌜ r ≡ coversIn (held (now (t .entry))) (stateOf (sets active (now (on .entry)))) rest i a j b ⌝ }
 {
     let mut l: usize = 0;
     while l < 32 {
-        if !covers_at(t, m, rest, i, a, j, b, l) {
+        if !covers_at(t, active, on, rest, i, a, j, b, l) {
             return false;
         }
         l += 1;
@@ -71,7 +72,8 @@ pub fn covers(t: &[u16], m: Masks, rest: u32, i: usize, a: usize, j: usize, b: u
 
 fn served_by(
     t: &[u16],
-    m: Masks,
+    active: u32,
+    on: &[u16; 32],
     rest: u32,
     good: u16,
     i: usize,
@@ -79,24 +81,24 @@ fn served_by(
     w: usize,
     u: usize,
 ) -> bool
-    requires { ⌜ Ready (now t) m × Among m i good × Value (now t) j w × (bit rest i ≡ false) × (bit rest j ≡ false) × (u < 16) ⌝ }
-    ensures { λ r. ⌜ r ≡ (bit good u && coversIn (held (now (t .entry))) (stateOf m) rest i u j w) ⌝ }
+    requires { ⌜ Ready (now t) (sets active (now on)) × Among (sets active (now on)) i good × Value (now t) j w × (bit rest i ≡ false) × (bit rest j ≡ false) × (u < 16) ⌝ }
+    ensures { λ r. ⌜ r ≡ (bit good u && coversIn (held (now (t .entry))) (stateOf (sets active (now (on .entry)))) rest i u j w) ⌝ }
 {
     if has16(good, u) {
-        covers(t, m, rest, i, u, j, w)
+        covers(t, active, on, rest, i, u, j, w)
     } else {
         false
     }
 }
 
 // Some value of i, of the set `good`, covers value w of j at each variable of `rest`.
-pub fn served(t: &[u16], m: Masks, rest: u32, good: u16, i: usize, j: usize, w: usize) -> bool
-    requires { ⌜ Ready (now t) m × Among m i good × Value (now t) j w × (bit rest i ≡ false) × (bit rest j ≡ false) ⌝ }
-    ensures { λ r. ⌜ r ≡ servedIn (held (now (t .entry))) (stateOf m) rest good i j w ⌝ }
+pub fn served(t: &[u16], active: u32, on: &[u16; 32], rest: u32, good: u16, i: usize, j: usize, w: usize) -> bool
+    requires { ⌜ Ready (now t) (sets active (now on)) × Among (sets active (now on)) i good × Value (now t) j w × (bit rest i ≡ false) × (bit rest j ≡ false) ⌝ }
+    ensures { λ r. ⌜ r ≡ servedIn (held (now (t .entry))) (stateOf (sets active (now (on .entry)))) rest good i j w ⌝ }
 {
     let mut u: usize = 0;
     while u < 16 {
-        if served_by(t, m, rest, good, i, j, w, u) {
+        if served_by(t, active, on, rest, good, i, j, w, u) {
             return true;
         }
         u += 1;
@@ -105,24 +107,24 @@ pub fn served(t: &[u16], m: Masks, rest: u32, good: u16, i: usize, j: usize, w: 
 }
 
 // A value that is itself one of `good` needs no other in its place.
-fn served_if(t: &[u16], m: Masks, rest: u32, good: u16, bad: u16, j: usize, w: usize) -> bool
-    requires { ⌜ Ready (now t) m × Among m j good × Among m j bad × (bit rest j ≡ false) × (w < 16) ⌝ }
-    ensures { λ r. ⌜ r ≡ imp (bit bad w && not (bit good w)) (servedIn (held (now (t .entry))) (stateOf m) rest good j j w) ⌝ }
+fn served_if(t: &[u16], active: u32, on: &[u16; 32], rest: u32, good: u16, bad: u16, j: usize, w: usize) -> bool
+    requires { ⌜ Ready (now t) (sets active (now on)) × Among (sets active (now on)) j good × Among (sets active (now on)) j bad × (bit rest j ≡ false) × (w < 16) ⌝ }
+    ensures { λ r. ⌜ r ≡ imp (bit bad w && not (bit good w)) (servedIn (held (now (t .entry))) (stateOf (sets active (now (on .entry)))) rest good j j w) ⌝ }
 {
     if has16(bad, w) & !has16(good, w) {
-        served(t, m, rest, good, j, j, w)
+        served(t, active, on, rest, good, j, j, w)
     } else {
         true
     }
 }
 
-fn each_served(t: &[u16], m: Masks, rest: u32, good: u16, bad: u16, j: usize) -> bool
-    requires { ⌜ Ready (now t) m × Among m j good × Among m j bad × (bit rest j ≡ false) ⌝ }
-    ensures { λ r. ⌜ r ≡ allServedIn (held (now (t .entry))) (stateOf m) rest good bad j ⌝ }
+fn each_served(t: &[u16], active: u32, on: &[u16; 32], rest: u32, good: u16, bad: u16, j: usize) -> bool
+    requires { ⌜ Ready (now t) (sets active (now on)) × Among (sets active (now on)) j good × Among (sets active (now on)) j bad × (bit rest j ≡ false) ⌝ }
+    ensures { λ r. ⌜ r ≡ allServedIn (held (now (t .entry))) (stateOf (sets active (now (on .entry)))) rest good bad j ⌝ }
 {
     let mut w: usize = 0;
     while w < 16 {
-        if !served_if(t, m, rest, good, bad, j, w) {
+        if !served_if(t, active, on, rest, good, bad, j, w) {
             return false;
         }
         w += 1;
@@ -132,13 +134,13 @@ fn each_served(t: &[u16], m: Masks, rest: u32, good: u16, bad: u16, j: usize) ->
 
 // Each value of `bad` that is not one of `good` is covered by one of `good` at each variable of `rest`. One comparison tells where
 // there is none to serve.
-pub fn all_served(t: &[u16], m: Masks, rest: u32, good: u16, bad: u16, j: usize) -> bool
-    requires { ⌜ Ready (now t) m × Among m j good × Among m j bad × (bit rest j ≡ false) ⌝ }
-    ensures { λ r. ⌜ r ≡ allServedIn (held (now (t .entry))) (stateOf m) rest good bad j ⌝ }
+pub fn all_served(t: &[u16], active: u32, on: &[u16; 32], rest: u32, good: u16, bad: u16, j: usize) -> bool
+    requires { ⌜ Ready (now t) (sets active (now on)) × Among (sets active (now on)) j good × Among (sets active (now on)) j bad × (bit rest j ≡ false) ⌝ }
+    ensures { λ r. ⌜ r ≡ allServedIn (held (now (t .entry))) (stateOf (sets active (now (on .entry)))) rest good bad j ⌝ }
 {
     if bad & good == bad {
         true
     } else {
-        each_served(t, m, rest, good, bad, j)
+        each_served(t, active, on, rest, good, bad, j)
     }
 }

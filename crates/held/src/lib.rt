@@ -8,7 +8,7 @@ ghost use Rattle.bounded.specs.Bounded.{imp};
 ghost use Rattle.bounded.specs.Mask.{bit, maskOf};
 ghost use Rattle.problem.specs.Problem.{noneEmpty, anyLive, full};
 ghost use Rattle.problem.specs.Held.{held, rowPlace, RowTable};
-ghost use Rattle.problem.specs.Masks.{stateOf, masksOf};
+ghost use Rattle.problem.specs.Masks.{stateOf, masksOf, sets};
 ghost use Rattle.held.specs.Ready.{Ready, Value};
 ghost use lib.Dec.{ltb};
 use bounded::has16;
@@ -31,21 +31,21 @@ pub fn pair_allowed(t: &[u16], i: usize, a: usize, j: usize, b: usize) -> bool
     (i != j) & has16(row(t, i, j, a), b)
 }
 
-fn some_value(t: &[u16], m: Masks, l: usize) -> bool
-    requires { ⌜ Ready (now t) m × (l < 32) ⌝ }
-    ensures { λ r. ⌜ r ≡ imp (bit (m .active) l) (anyLive (held (now (t .entry))) (stateOf m) l (λ c. true)) ⌝ }
+fn some_value(t: &[u16], active: u32, on: &[u16; 32], l: usize) -> bool
+    requires { ⌜ Ready (now t) (sets active (now on)) × (l < 32) ⌝ }
+    ensures { λ r. ⌜ r ≡ imp (bit active l) (anyLive (held (now (t .entry))) (stateOf (sets active (now (on .entry)))) l (λ c. true)) ⌝ }
 {
-    !has32(m.active, l) | (m.domains[l] != 0)
+    !has32(active, l) | (on[l] != 0)
 }
 
 // No item in is without a setting on.
-pub fn none_empty(t: &[u16], m: Masks) -> bool
-    requires { ⌜ Ready (now t) m ⌝ }
-    ensures { λ r. ⌜ r ≡ noneEmpty (held (now (t .entry))) (stateOf m) ⌝ }
+pub fn none_empty(t: &[u16], active: u32, on: &[u16; 32]) -> bool
+    requires { ⌜ Ready (now t) (sets active (now on)) ⌝ }
+    ensures { λ r. ⌜ r ≡ noneEmpty (held (now (t .entry))) (stateOf (sets active (now (on .entry)))) ⌝ }
 {
     let mut l: usize = 0;
     while l < 32 {
-        if !some_value(t, m, l) {
+        if !some_value(t, active, on, l) {
             return false;
         }
         l += 1;

@@ -4,7 +4,7 @@ ghost use mathlib.Core.Bool.{false};
 ghost use Prim.Native.Nat.{_<_, _+_};
 ghost use Rattle.problem.specs.Problem.{neighbourhood as neighbourhoodHolds};
 ghost use Rattle.problem.specs.Held.{held};
-ghost use Rattle.problem.specs.Masks.{stateOf};
+ghost use Rattle.problem.specs.Masks.{stateOf, sets};
 ghost use Rattle.held.specs.Ready.{Ready};
 ghost use Rattle.problem.specs.Reduce.{nextNeighbourhood};
 ghost use Rattle.neighbourhood.specs.Parts.{neighbourhoodValue, neighbourhoodVariable};
@@ -12,35 +12,34 @@ use bounded::has16;
 use bounded::has32;
 use bounded::without32;
 use cover::covers;
-use problem::Masks;
 use problem::Next;
 use problem::Record;
 use problem::is_step;
 
 // Values a and b of i differ and are in its domain, and a covers b at every other item.
-pub fn neighbourhood(t: &[u16], m: Masks, i: usize, b: usize, a: usize) -> bool
-    requires { ⌜ Ready (now t) m × (i < 32) × (b < 16) × (a < 16) ⌝ }
-    ensures { λ r. ⌜ r ≡ neighbourhoodHolds (held (now (t .entry))) (stateOf m) i b a ⌝ }
+pub fn neighbourhood(t: &[u16], active: u32, on: &[u16; 32], i: usize, b: usize, a: usize) -> bool
+    requires { ⌜ Ready (now t) (sets active (now on)) × (i < 32) × (b < 16) × (a < 16) ⌝ }
+    ensures { λ r. ⌜ r ≡ neighbourhoodHolds (held (now (t .entry))) (stateOf (sets active (now (on .entry)))) i b a ⌝ }
 {
-    let domain = m.domains[i];
+    let domain = on[i];
     if has16(domain, b) & (has16(domain, a) & (a != b)) {
-        covers(t, m, without32(m.active, i), i, a, i, b)
+        covers(t, active, on, without32(active, i), i, a, i, b)
     } else {
         false
     }
 }
 
 // The lowest value that covers value b of i at every other variable.
-fn neighbourhood_value(t: &[u16], m: Masks, i: usize, b: usize) -> Next
-    requires { ⌜ Ready (now t) m × (i < 32) × (b < 16) ⌝ }
-    ensures { λ r. ⌜ r ≡ neighbourhoodValue (held (now (t .entry))) (stateOf m) i b ⌝ }
+fn neighbourhood_value(t: &[u16], active: u32, on: &[u16; 32], i: usize, b: usize) -> Next
+    requires { ⌜ Ready (now t) (sets active (now on)) × (i < 32) × (b < 16) ⌝ }
+    ensures { λ r. ⌜ r ≡ neighbourhoodValue (held (now (t .entry))) (stateOf (sets active (now (on .entry)))) i b ⌝ }
 {
-    if !has16(m.domains[i], b) {
+    if !has16(on[i], b) {
         return Next::Nothing;
     }
     let mut a: usize = 0;
     while a < 16 {
-        if neighbourhood(t, m, i, b, a) {
+        if neighbourhood(t, active, on, i, b, a) {
             return Next::Step(Record::Neighbourhood(i, b, a));
         }
         a += 1;
@@ -48,16 +47,16 @@ fn neighbourhood_value(t: &[u16], m: Masks, i: usize, b: usize) -> Next
     Next::Nothing
 }
 
-fn neighbourhood_variable(t: &[u16], m: Masks, i: usize) -> Next
-    requires { ⌜ Ready (now t) m × (i < 32) ⌝ }
-    ensures { λ r. ⌜ r ≡ neighbourhoodVariable (held (now (t .entry))) (stateOf m) i ⌝ }
+fn neighbourhood_variable(t: &[u16], active: u32, on: &[u16; 32], i: usize) -> Next
+    requires { ⌜ Ready (now t) (sets active (now on)) × (i < 32) ⌝ }
+    ensures { λ r. ⌜ r ≡ neighbourhoodVariable (held (now (t .entry))) (stateOf (sets active (now (on .entry)))) i ⌝ }
 {
-    if !has32(m.active, i) {
+    if !has32(active, i) {
         return Next::Nothing;
     }
     let mut b: usize = 0;
     while b < 16 {
-        let found = neighbourhood_value(t, m, i, b);
+        let found = neighbourhood_value(t, active, on, i, b);
         if is_step(found) {
             return found;
         }
@@ -66,13 +65,13 @@ fn neighbourhood_variable(t: &[u16], m: Masks, i: usize) -> Next
     Next::Nothing
 }
 
-pub fn next_neighbourhood(t: &[u16], m: Masks) -> Next
-    requires { ⌜ Ready (now t) m ⌝ }
-    ensures { λ r. ⌜ r ≡ nextNeighbourhood (held (now (t .entry))) (stateOf m) ⌝ }
+pub fn next_neighbourhood(t: &[u16], active: u32, on: &[u16; 32]) -> Next
+    requires { ⌜ Ready (now t) (sets active (now on)) ⌝ }
+    ensures { λ r. ⌜ r ≡ nextNeighbourhood (held (now (t .entry))) (stateOf (sets active (now (on .entry)))) ⌝ }
 {
     let mut i: usize = 0;
     while i < 32 {
-        let found = neighbourhood_variable(t, m, i);
+        let found = neighbourhood_variable(t, active, on, i);
         if is_step(found) {
             return found;
         }

@@ -1,5 +1,6 @@
 -- A state as masks, as the code holds it, and as tests, as the rules read it.
 use mathlib.Core.Path.{_≡_}
+use mathlib.Core.List.{List}
 use Prim.Native.Nat.{ℕ, _<_, _^_}
 use lib.ListN.{length, getD, replicate}
 use Rattle.bounded.specs.Mask.{bit, maskOf}
@@ -17,6 +18,10 @@ masksOf s = record { active = maskOf maxVariables (s .active); domains = tab max
 -- "a state with no items in and no settings on"
 abbrev pub emptyMasks : Masks
 emptyMasks = record { active = 0; domains = replicate 32 0 }
+
+-- the state of the active variables and the lent sets of their values
+abbrev pub sets : (active : ℕ) (on : List ℕ) → Masks
+sets active on = record { active = active; domains = on }
 
 -- the numbers that the struct can hold
 pub record Proper (m : Masks) : Type 0 where

@@ -6,7 +6,7 @@ ghost use Rattle.bounded.specs.Bounded.{imp};
 ghost use Rattle.bounded.specs.Mask.{bit};
 ghost use Rattle.problem.specs.Problem.{allOther, snake as snakeHolds, snakeServes};
 ghost use Rattle.problem.specs.Held.{held};
-ghost use Rattle.problem.specs.Masks.{stateOf};
+ghost use Rattle.problem.specs.Masks.{stateOf, sets};
 ghost use Rattle.held.specs.Ready.{Ready, Value};
 ghost use Rattle.cover.specs.Words.{others};
 ghost use Rattle.snake.specs.Parts.{snakeAt, snakeVariable};
@@ -19,45 +19,44 @@ use cover::covers;
 use cover::third_set;
 use held::pair_allowed;
 use held::row;
-use problem::Masks;
 use problem::Next;
 use problem::Record;
 use problem::is_step;
 
 // Value w2 of j may take the place of w where i has v: it is allowed with v and covers w at every item other than i and j.
-pub fn snake_serves(t: &[u16], m: Masks, i: usize, v: usize, j: usize, w: usize, w2: usize) -> bool
-    requires { ⌜ Ready (now t) m × Value (now t) i v × Value (now t) j w × Value (now t) j w2 ⌝ }
-    ensures { λ r. ⌜ r ≡ snakeServes (held (now (t .entry))) (stateOf m) i v j w w2 ⌝ }
+pub fn snake_serves(t: &[u16], active: u32, on: &[u16; 32], i: usize, v: usize, j: usize, w: usize, w2: usize) -> bool
+    requires { ⌜ Ready (now t) (sets active (now on)) × Value (now t) i v × Value (now t) j w × Value (now t) j w2 ⌝ }
+    ensures { λ r. ⌜ r ≡ snakeServes (held (now (t .entry))) (stateOf (sets active (now (on .entry)))) i v j w w2 ⌝ }
 {
     if pair_allowed(t, i, v, j, w2) {
-        covers(t, m, third_set(m.active, i, j), j, w2, j, w)
+        covers(t, active, on, third_set(active, i, j), j, w2, j, w)
     } else {
         false
     }
 }
 
 // What the snake rule asks of j, where j is one of `rest`: the active variables other than i.
-fn snake_at(t: &[u16], m: Masks, rest: u32, i: usize, v: usize, j: usize) -> bool
-    requires { ⌜ Ready (now t) m × Value (now t) i v × (rest ≡ others (m .active) i) × (j < 32) ⌝ }
-    ensures { λ r. ⌜ r ≡ imp (bit rest j) (snakeAt (held (now (t .entry))) (stateOf m) i v j) ⌝ }
+fn snake_at(t: &[u16], active: u32, on: &[u16; 32], rest: u32, i: usize, v: usize, j: usize) -> bool
+    requires { ⌜ Ready (now t) (sets active (now on)) × Value (now t) i v × (rest ≡ others active i) × (j < 32) ⌝ }
+    ensures { λ r. ⌜ r ≡ imp (bit rest j) (snakeAt (held (now (t .entry))) (stateOf (sets active (now (on .entry)))) i v j) ⌝ }
 {
     if has32(rest, j) {
-        let domain = m.domains[j];
+        let domain = on[j];
         let good = domain & row(t, i, j, v);
-        all_served(t, m, without32(rest, j), good, domain, j)
+        all_served(t, active, on, without32(rest, j), good, domain, j)
     } else {
         true
     }
 }
 
-fn snake_others(t: &[u16], m: Masks, i: usize, v: usize) -> bool
-    requires { ⌜ Ready (now t) m × Value (now t) i v ⌝ }
-    ensures { λ r. ⌜ r ≡ allOther (held (now (t .entry))) (stateOf m) i (snakeAt (held (now (t .entry))) (stateOf m) i v) ⌝ }
+fn snake_others(t: &[u16], active: u32, on: &[u16; 32], i: usize, v: usize) -> bool
+    requires { ⌜ Ready (now t) (sets active (now on)) × Value (now t) i v ⌝ }
+    ensures { λ r. ⌜ r ≡ allOther (held (now (t .entry))) (stateOf (sets active (now (on .entry)))) i (snakeAt (held (now (t .entry))) (stateOf (sets active (now (on .entry)))) i v) ⌝ }
 {
-    let rest = without32(m.active, i);
+    let rest = without32(active, i);
     let mut j: usize = 0;
     while j < 32 {
-        if !snake_at(t, m, rest, i, v, j) {
+        if !snake_at(t, active, on, rest, i, v, j) {
             return false;
         }
         j += 1;
@@ -66,27 +65,27 @@ fn snake_others(t: &[u16], m: Masks, i: usize, v: usize) -> bool
 }
 
 // Value v of i is in its domain, and at every other item each value barred with v has one that may take its place.
-pub fn snake(t: &[u16], m: Masks, i: usize, v: usize) -> bool
-    requires { ⌜ Ready (now t) m × (i < 32) × (v < 16) ⌝ }
-    ensures { λ r. ⌜ r ≡ snakeHolds (held (now (t .entry))) (stateOf m) i v ⌝ }
+pub fn snake(t: &[u16], active: u32, on: &[u16; 32], i: usize, v: usize) -> bool
+    requires { ⌜ Ready (now t) (sets active (now on)) × (i < 32) × (v < 16) ⌝ }
+    ensures { λ r. ⌜ r ≡ snakeHolds (held (now (t .entry))) (stateOf (sets active (now (on .entry)))) i v ⌝ }
 {
-    if has16(m.domains[i], v) {
-        snake_others(t, m, i, v)
+    if has16(on[i], v) {
+        snake_others(t, active, on, i, v)
     } else {
         false
     }
 }
 
-fn snake_variable(t: &[u16], m: Masks, i: usize) -> Next
-    requires { ⌜ Ready (now t) m × (i < 32) ⌝ }
-    ensures { λ r. ⌜ r ≡ snakeVariable (held (now (t .entry))) (stateOf m) i ⌝ }
+fn snake_variable(t: &[u16], active: u32, on: &[u16; 32], i: usize) -> Next
+    requires { ⌜ Ready (now t) (sets active (now on)) × (i < 32) ⌝ }
+    ensures { λ r. ⌜ r ≡ snakeVariable (held (now (t .entry))) (stateOf (sets active (now (on .entry)))) i ⌝ }
 {
-    if !has32(m.active, i) {
+    if !has32(active, i) {
         return Next::Nothing;
     }
     let mut v: usize = 0;
     while v < 16 {
-        if snake(t, m, i, v) {
+        if snake(t, active, on, i, v) {
             return Next::Step(Record::Snake(i, v));
         }
         v += 1;
@@ -94,13 +93,13 @@ fn snake_variable(t: &[u16], m: Masks, i: usize) -> Next
     Next::Nothing
 }
 
-pub fn next_snake(t: &[u16], m: Masks) -> Next
-    requires { ⌜ Ready (now t) m ⌝ }
-    ensures { λ r. ⌜ r ≡ nextSnake (held (now (t .entry))) (stateOf m) ⌝ }
+pub fn next_snake(t: &[u16], active: u32, on: &[u16; 32]) -> Next
+    requires { ⌜ Ready (now t) (sets active (now on)) ⌝ }
+    ensures { λ r. ⌜ r ≡ nextSnake (held (now (t .entry))) (stateOf (sets active (now (on .entry)))) ⌝ }
 {
     let mut i: usize = 0;
     while i < 32 {
-        let found = snake_variable(t, m, i);
+        let found = snake_variable(t, active, on, i);
         if is_step(found) {
             return found;
         }

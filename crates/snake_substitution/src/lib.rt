@@ -6,7 +6,7 @@ ghost use Rattle.bounded.specs.Bounded.{imp};
 ghost use Rattle.bounded.specs.Mask.{bit};
 ghost use Rattle.problem.specs.Problem.{allOther, slideSpares, snakeSubstitution};
 ghost use Rattle.problem.specs.Held.{held};
-ghost use Rattle.problem.specs.Masks.{stateOf};
+ghost use Rattle.problem.specs.Masks.{stateOf, sets};
 ghost use Rattle.held.specs.Ready.{Ready, Value};
 ghost use Rattle.cover.specs.Words.{others};
 ghost use Rattle.snake_substitution.specs.Parts.{slideAt, slideSet, substitutionValue, substitutionVariable};
@@ -16,7 +16,6 @@ use bounded::has32;
 use bounded::without32;
 use cover::all_served;
 use held::row;
-use problem::Masks;
 use problem::Next;
 use problem::Record;
 use problem::is_step;
@@ -30,28 +29,28 @@ fn slide_set(active: u32, i: usize, k: usize) -> u32
 }
 
 // What the slide rule asks of k, where k is one of `rest`: the active variables other than i.
-fn slide_at(t: &[u16], m: Masks, rest: u32, i: usize, b: usize, a: usize, k: usize) -> bool
-    requires { ⌜ Ready (now t) m × Value (now t) i b × Value (now t) i a × (rest ≡ others (m .active) i) × (k < 32) ⌝ }
-    ensures { λ r. ⌜ r ≡ imp (bit rest k) (slideAt (held (now (t .entry))) (stateOf m) slideSpares i b a k) ⌝ }
+fn slide_at(t: &[u16], active: u32, on: &[u16; 32], rest: u32, i: usize, b: usize, a: usize, k: usize) -> bool
+    requires { ⌜ Ready (now t) (sets active (now on)) × Value (now t) i b × Value (now t) i a × (rest ≡ others active i) × (k < 32) ⌝ }
+    ensures { λ r. ⌜ r ≡ imp (bit rest k) (slideAt (held (now (t .entry))) (stateOf (sets active (now (on .entry)))) slideSpares i b a k) ⌝ }
 {
     if has32(rest, k) {
-        let domain = m.domains[k];
+        let domain = on[k];
         let good = domain & row(t, i, k, a);
         let bad = domain & row(t, i, k, b);
-        all_served(t, m, slide_set(m.active, i, k), good, bad, k)
+        all_served(t, active, on, slide_set(active, i, k), good, bad, k)
     } else {
         true
     }
 }
 
-fn slide_others(t: &[u16], m: Masks, i: usize, b: usize, a: usize) -> bool
-    requires { ⌜ Ready (now t) m × Value (now t) i b × Value (now t) i a ⌝ }
-    ensures { λ r. ⌜ r ≡ allOther (held (now (t .entry))) (stateOf m) i (slideAt (held (now (t .entry))) (stateOf m) slideSpares i b a) ⌝ }
+fn slide_others(t: &[u16], active: u32, on: &[u16; 32], i: usize, b: usize, a: usize) -> bool
+    requires { ⌜ Ready (now t) (sets active (now on)) × Value (now t) i b × Value (now t) i a ⌝ }
+    ensures { λ r. ⌜ r ≡ allOther (held (now (t .entry))) (stateOf (sets active (now (on .entry)))) i (slideAt (held (now (t .entry))) (stateOf (sets active (now (on .entry)))) slideSpares i b a) ⌝ }
 {
-    let rest = without32(m.active, i);
+    let rest = without32(active, i);
     let mut k: usize = 0;
     while k < 32 {
-        if !slide_at(t, m, rest, i, b, a, k) {
+        if !slide_at(t, active, on, rest, i, b, a, k) {
             return false;
         }
         k += 1;
@@ -60,29 +59,29 @@ fn slide_others(t: &[u16], m: Masks, i: usize, b: usize, a: usize) -> bool
 }
 
 // Values a and b of i differ and are in its domain, and at each other item each value allowed with b has one that serves with a.
-pub fn snake_substitution(t: &[u16], m: Masks, i: usize, b: usize, a: usize) -> bool
-    requires { ⌜ Ready (now t) m × (i < 32) × (b < 16) × (a < 16) ⌝ }
-    ensures { λ r. ⌜ r ≡ snakeSubstitution (held (now (t .entry))) (stateOf m) slideSpares i b a ⌝ }
+pub fn snake_substitution(t: &[u16], active: u32, on: &[u16; 32], i: usize, b: usize, a: usize) -> bool
+    requires { ⌜ Ready (now t) (sets active (now on)) × (i < 32) × (b < 16) × (a < 16) ⌝ }
+    ensures { λ r. ⌜ r ≡ snakeSubstitution (held (now (t .entry))) (stateOf (sets active (now (on .entry)))) slideSpares i b a ⌝ }
 {
-    let on = m.domains[i];
-    if has16(on, b) & (has16(on, a) & (a != b)) {
-        slide_others(t, m, i, b, a)
+    let domain = on[i];
+    if has16(domain, b) & (has16(domain, a) & (a != b)) {
+        slide_others(t, active, on, i, b, a)
     } else {
         false
     }
 }
 
 // The lowest value for which value b of i goes off by the slide rule.
-fn substitution_value(t: &[u16], m: Masks, i: usize, b: usize) -> Next
-    requires { ⌜ Ready (now t) m × (i < 32) × (b < 16) ⌝ }
-    ensures { λ r. ⌜ r ≡ substitutionValue (held (now (t .entry))) (stateOf m) i b ⌝ }
+fn substitution_value(t: &[u16], active: u32, on: &[u16; 32], i: usize, b: usize) -> Next
+    requires { ⌜ Ready (now t) (sets active (now on)) × (i < 32) × (b < 16) ⌝ }
+    ensures { λ r. ⌜ r ≡ substitutionValue (held (now (t .entry))) (stateOf (sets active (now (on .entry)))) i b ⌝ }
 {
-    if !has16(m.domains[i], b) {
+    if !has16(on[i], b) {
         return Next::Nothing;
     }
     let mut a: usize = 0;
     while a < 16 {
-        if snake_substitution(t, m, i, b, a) {
+        if snake_substitution(t, active, on, i, b, a) {
             return Next::Step(Record::SnakeSubstitution(i, b, a));
         }
         a += 1;
@@ -90,16 +89,16 @@ fn substitution_value(t: &[u16], m: Masks, i: usize, b: usize) -> Next
     Next::Nothing
 }
 
-fn substitution_variable(t: &[u16], m: Masks, i: usize) -> Next
-    requires { ⌜ Ready (now t) m × (i < 32) ⌝ }
-    ensures { λ r. ⌜ r ≡ substitutionVariable (held (now (t .entry))) (stateOf m) i ⌝ }
+fn substitution_variable(t: &[u16], active: u32, on: &[u16; 32], i: usize) -> Next
+    requires { ⌜ Ready (now t) (sets active (now on)) × (i < 32) ⌝ }
+    ensures { λ r. ⌜ r ≡ substitutionVariable (held (now (t .entry))) (stateOf (sets active (now (on .entry)))) i ⌝ }
 {
-    if !has32(m.active, i) {
+    if !has32(active, i) {
         return Next::Nothing;
     }
     let mut b: usize = 0;
     while b < 16 {
-        let found = substitution_value(t, m, i, b);
+        let found = substitution_value(t, active, on, i, b);
         if is_step(found) {
             return found;
         }
@@ -108,13 +107,13 @@ fn substitution_variable(t: &[u16], m: Masks, i: usize) -> Next
     Next::Nothing
 }
 
-pub fn next_substitution(t: &[u16], m: Masks) -> Next
-    requires { ⌜ Ready (now t) m ⌝ }
-    ensures { λ r. ⌜ r ≡ nextSnakeSubstitution (held (now (t .entry))) (stateOf m) ⌝ }
+pub fn next_substitution(t: &[u16], active: u32, on: &[u16; 32]) -> Next
+    requires { ⌜ Ready (now t) (sets active (now on)) ⌝ }
+    ensures { λ r. ⌜ r ≡ nextSnakeSubstitution (held (now (t .entry))) (stateOf (sets active (now (on .entry)))) ⌝ }
 {
     let mut i: usize = 0;
     while i < 32 {
-        let found = substitution_variable(t, m, i);
+        let found = substitution_variable(t, active, on, i);
         if is_step(found) {
             return found;
         }

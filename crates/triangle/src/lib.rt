@@ -8,7 +8,7 @@ ghost use Rattle.bounded.specs.Bounded.{imp};
 ghost use Rattle.bounded.specs.Mask.{bit};
 ghost use Rattle.problem.specs.Problem.{allLive, triangle as triangleHolds, triangleServes};
 ghost use Rattle.problem.specs.Held.{held};
-ghost use Rattle.problem.specs.Masks.{stateOf};
+ghost use Rattle.problem.specs.Masks.{stateOf, sets};
 ghost use Rattle.held.specs.Ready.{Ready, Value};
 ghost use Rattle.cover.specs.Words.{thirds};
 ghost use Rattle.triangle.specs.Parts.{foldAt, triangleVariable};
@@ -20,43 +20,42 @@ use cover::served;
 use cover::third_set;
 use held::pair_allowed;
 use held::row;
-use problem::Masks;
 use problem::Next;
 use problem::Record;
 use problem::is_step;
 
 // Value u of i is allowed with value v of j, and covers it at every item other than i and j.
-pub fn triangle_serves(t: &[u16], m: Masks, i: usize, j: usize, v: usize, u: usize) -> bool
-    requires { ⌜ Ready (now t) m × Value (now t) j v × Value (now t) i u ⌝ }
-    ensures { λ r. ⌜ r ≡ triangleServes (held (now (t .entry))) (stateOf m) i j v u ⌝ }
+pub fn triangle_serves(t: &[u16], active: u32, on: &[u16; 32], i: usize, j: usize, v: usize, u: usize) -> bool
+    requires { ⌜ Ready (now t) (sets active (now on)) × Value (now t) j v × Value (now t) i u ⌝ }
+    ensures { λ r. ⌜ r ≡ triangleServes (held (now (t .entry))) (stateOf (sets active (now (on .entry)))) i j v u ⌝ }
 {
     if pair_allowed(t, i, u, j, v) {
-        covers(t, m, third_set(m.active, i, j), i, u, j, v)
+        covers(t, active, on, third_set(active, i, j), i, u, j, v)
     } else {
         false
     }
 }
 
-fn fold_at(t: &[u16], m: Masks, rest: u32, i: usize, j: usize, v: usize) -> bool
-    requires { ⌜ Ready (now t) m × (rest ≡ thirds (m .active) i j) × (i < 32) × (j < 32) × (j ≢ i) × (v < 16) ⌝ }
-    ensures { λ r. ⌜ r ≡ imp (bit (getD (m .domains) j 0) v) (foldAt (held (now (t .entry))) (stateOf m) i j v) ⌝ }
+fn fold_at(t: &[u16], active: u32, on: &[u16; 32], rest: u32, i: usize, j: usize, v: usize) -> bool
+    requires { ⌜ Ready (now t) (sets active (now on)) × (rest ≡ thirds active i j) × (i < 32) × (j < 32) × (j ≢ i) × (v < 16) ⌝ }
+    ensures { λ r. ⌜ r ≡ imp (bit (getD (now (on .entry)) j 0) v) (foldAt (held (now (t .entry))) (stateOf (sets active (now (on .entry)))) i j v) ⌝ }
 {
-    if has16(m.domains[j], v) {
-        let good = m.domains[i] & row(t, j, i, v);
-        served(t, m, rest, good, i, j, v)
+    if has16(on[j], v) {
+        let good = on[i] & row(t, j, i, v);
+        served(t, active, on, rest, good, i, j, v)
     } else {
         true
     }
 }
 
-fn fold_all(t: &[u16], m: Masks, i: usize, j: usize) -> bool
-    requires { ⌜ Ready (now t) m × (i < 32) × (j < 32) × (j ≢ i) ⌝ }
-    ensures { λ r. ⌜ r ≡ allLive (held (now (t .entry))) (stateOf m) j (foldAt (held (now (t .entry))) (stateOf m) i j) ⌝ }
+fn fold_all(t: &[u16], active: u32, on: &[u16; 32], i: usize, j: usize) -> bool
+    requires { ⌜ Ready (now t) (sets active (now on)) × (i < 32) × (j < 32) × (j ≢ i) ⌝ }
+    ensures { λ r. ⌜ r ≡ allLive (held (now (t .entry))) (stateOf (sets active (now (on .entry)))) j (foldAt (held (now (t .entry))) (stateOf (sets active (now (on .entry)))) i j) ⌝ }
 {
-    let rest = third_set(m.active, i, j);
+    let rest = third_set(active, i, j);
     let mut v: usize = 0;
     while v < 16 {
-        if !fold_at(t, m, rest, i, j, v) {
+        if !fold_at(t, active, on, rest, i, j, v) {
             return false;
         }
         v += 1;
@@ -65,27 +64,27 @@ fn fold_all(t: &[u16], m: Masks, i: usize, j: usize) -> bool
 }
 
 // For every value of the other item j, some value of i serves.
-pub fn triangle(t: &[u16], m: Masks, i: usize, j: usize) -> bool
-    requires { ⌜ Ready (now t) m × (i < 32) × (j < 32) ⌝ }
-    ensures { λ r. ⌜ r ≡ triangleHolds (held (now (t .entry))) (stateOf m) i j ⌝ }
+pub fn triangle(t: &[u16], active: u32, on: &[u16; 32], i: usize, j: usize) -> bool
+    requires { ⌜ Ready (now t) (sets active (now on)) × (i < 32) × (j < 32) ⌝ }
+    ensures { λ r. ⌜ r ≡ triangleHolds (held (now (t .entry))) (stateOf (sets active (now (on .entry)))) i j ⌝ }
 {
-    if has32(m.active, i) & (has32(m.active, j) & (j != i)) {
-        fold_all(t, m, i, j)
+    if has32(active, i) & (has32(active, j) & (j != i)) {
+        fold_all(t, active, on, i, j)
     } else {
         false
     }
 }
 
-fn triangle_variable(t: &[u16], m: Masks, i: usize) -> Next
-    requires { ⌜ Ready (now t) m × (i < 32) ⌝ }
-    ensures { λ r. ⌜ r ≡ triangleVariable (held (now (t .entry))) (stateOf m) i ⌝ }
+fn triangle_variable(t: &[u16], active: u32, on: &[u16; 32], i: usize) -> Next
+    requires { ⌜ Ready (now t) (sets active (now on)) × (i < 32) ⌝ }
+    ensures { λ r. ⌜ r ≡ triangleVariable (held (now (t .entry))) (stateOf (sets active (now (on .entry)))) i ⌝ }
 {
-    if !has32(m.active, i) {
+    if !has32(active, i) {
         return Next::Nothing;
     }
     let mut j: usize = 0;
     while j < 32 {
-        if triangle(t, m, i, j) {
+        if triangle(t, active, on, i, j) {
             return Next::Step(Record::Triangle(i, j));
         }
         j += 1;
@@ -93,13 +92,13 @@ fn triangle_variable(t: &[u16], m: Masks, i: usize) -> Next
     Next::Nothing
 }
 
-pub fn next_triangle(t: &[u16], m: Masks) -> Next
-    requires { ⌜ Ready (now t) m ⌝ }
-    ensures { λ r. ⌜ r ≡ nextTriangle (held (now (t .entry))) (stateOf m) ⌝ }
+pub fn next_triangle(t: &[u16], active: u32, on: &[u16; 32]) -> Next
+    requires { ⌜ Ready (now t) (sets active (now on)) ⌝ }
+    ensures { λ r. ⌜ r ≡ nextTriangle (held (now (t .entry))) (stateOf (sets active (now (on .entry)))) ⌝ }
 {
     let mut i: usize = 0;
     while i < 32 {
-        let found = triangle_variable(t, m, i);
+        let found = triangle_variable(t, active, on, i);
         if is_step(found) {
             return found;
         }

@@ -5,48 +5,47 @@ ghost use mathlib.Core.Logic.{_≢_};
 ghost use Prim.Native.Nat.{_<_, _+_};
 ghost use Rattle.problem.specs.Problem.{allLive, unsupported as unsupportedHolds};
 ghost use Rattle.problem.specs.Held.{held};
-ghost use Rattle.problem.specs.Masks.{stateOf};
+ghost use Rattle.problem.specs.Masks.{stateOf, sets};
 ghost use Rattle.held.specs.Ready.{Ready, Value};
 ghost use Rattle.problem.specs.Reduce.{nextUnsupported};
 ghost use Rattle.unsupported.specs.Parts.{unsupportedValue, unsupportedVariable};
 use bounded::has16;
 use bounded::has32;
 use held::row;
-use problem::Masks;
 use problem::Next;
 use problem::Record;
 use problem::is_step;
 
-fn bare_at(t: &[u16], m: Masks, i: usize, b: usize, k: usize) -> bool
-    requires { ⌜ Ready (now t) m × Value (now t) i b × (k < 32) × (k ≢ i) ⌝ }
-    ensures { λ r. ⌜ r ≡ allLive (held (now (t .entry))) (stateOf m) k (λ c. not ((held (now (t .entry))) .allowed i b k c)) ⌝ }
+fn bare_at(t: &[u16], active: u32, on: &[u16; 32], i: usize, b: usize, k: usize) -> bool
+    requires { ⌜ Ready (now t) (sets active (now on)) × Value (now t) i b × (k < 32) × (k ≢ i) ⌝ }
+    ensures { λ r. ⌜ r ≡ allLive (held (now (t .entry))) (stateOf (sets active (now (on .entry)))) k (λ c. not ((held (now (t .entry))) .allowed i b k c)) ⌝ }
 {
-    m.domains[k] & row(t, i, k, b) == 0
+    on[k] & row(t, i, k, b) == 0
 }
 
 // Value b of i has no support at another active variable k.
-pub fn unsupported(t: &[u16], m: Masks, i: usize, b: usize, k: usize) -> bool
-    requires { ⌜ Ready (now t) m × (i < 32) × (b < 16) × (k < 32) ⌝ }
-    ensures { λ r. ⌜ r ≡ unsupportedHolds (held (now (t .entry))) (stateOf m) i b k ⌝ }
+pub fn unsupported(t: &[u16], active: u32, on: &[u16; 32], i: usize, b: usize, k: usize) -> bool
+    requires { ⌜ Ready (now t) (sets active (now on)) × (i < 32) × (b < 16) × (k < 32) ⌝ }
+    ensures { λ r. ⌜ r ≡ unsupportedHolds (held (now (t .entry))) (stateOf (sets active (now (on .entry)))) i b k ⌝ }
 {
-    if has16(m.domains[i], b) & (has32(m.active, k) & (k != i)) {
-        bare_at(t, m, i, b, k)
+    if has16(on[i], b) & (has32(active, k) & (k != i)) {
+        bare_at(t, active, on, i, b, k)
     } else {
         false
     }
 }
 
 // The lowest k at which value b of i has no support.
-fn unsupported_value(t: &[u16], m: Masks, i: usize, b: usize) -> Next
-    requires { ⌜ Ready (now t) m × (i < 32) × (b < 16) ⌝ }
-    ensures { λ r. ⌜ r ≡ unsupportedValue (held (now (t .entry))) (stateOf m) i b ⌝ }
+fn unsupported_value(t: &[u16], active: u32, on: &[u16; 32], i: usize, b: usize) -> Next
+    requires { ⌜ Ready (now t) (sets active (now on)) × (i < 32) × (b < 16) ⌝ }
+    ensures { λ r. ⌜ r ≡ unsupportedValue (held (now (t .entry))) (stateOf (sets active (now (on .entry)))) i b ⌝ }
 {
-    if !has16(m.domains[i], b) {
+    if !has16(on[i], b) {
         return Next::Nothing;
     }
     let mut k: usize = 0;
     while k < 32 {
-        if unsupported(t, m, i, b, k) {
+        if unsupported(t, active, on, i, b, k) {
             return Next::Step(Record::Unsupported(i, b, k));
         }
         k += 1;
@@ -54,16 +53,16 @@ fn unsupported_value(t: &[u16], m: Masks, i: usize, b: usize) -> Next
     Next::Nothing
 }
 
-fn unsupported_variable(t: &[u16], m: Masks, i: usize) -> Next
-    requires { ⌜ Ready (now t) m × (i < 32) ⌝ }
-    ensures { λ r. ⌜ r ≡ unsupportedVariable (held (now (t .entry))) (stateOf m) i ⌝ }
+fn unsupported_variable(t: &[u16], active: u32, on: &[u16; 32], i: usize) -> Next
+    requires { ⌜ Ready (now t) (sets active (now on)) × (i < 32) ⌝ }
+    ensures { λ r. ⌜ r ≡ unsupportedVariable (held (now (t .entry))) (stateOf (sets active (now (on .entry)))) i ⌝ }
 {
-    if !has32(m.active, i) {
+    if !has32(active, i) {
         return Next::Nothing;
     }
     let mut b: usize = 0;
     while b < 16 {
-        let found = unsupported_value(t, m, i, b);
+        let found = unsupported_value(t, active, on, i, b);
         if is_step(found) {
             return found;
         }
@@ -72,13 +71,13 @@ fn unsupported_variable(t: &[u16], m: Masks, i: usize) -> Next
     Next::Nothing
 }
 
-pub fn next_unsupported(t: &[u16], m: Masks) -> Next
-    requires { ⌜ Ready (now t) m ⌝ }
-    ensures { λ r. ⌜ r ≡ nextUnsupported (held (now (t .entry))) (stateOf m) ⌝ }
+pub fn next_unsupported(t: &[u16], active: u32, on: &[u16; 32]) -> Next
+    requires { ⌜ Ready (now t) (sets active (now on)) ⌝ }
+    ensures { λ r. ⌜ r ≡ nextUnsupported (held (now (t .entry))) (stateOf (sets active (now (on .entry)))) ⌝ }
 {
     let mut i: usize = 0;
     while i < 32 {
-        let found = unsupported_variable(t, m, i);
+        let found = unsupported_variable(t, active, on, i);
         if is_step(found) {
             return found;
         }

@@ -10,16 +10,16 @@ use Rattle.bounded.specs.Mask.{bit}
 use Rattle.bounded.proofs.Loops.{all-none, all-more, all-fail, all-end}
 use Rattle.problem.specs.Problem.{substitutes}
 use Rattle.problem.specs.Held.{held}
-use Rattle.problem.specs.Masks.{stateOf}
+use Rattle.problem.specs.Masks.{stateOf, sets}
 use Rattle.cover.specs.Words.{coversIn}
 use Rattle.cover.proofs.covers.Statement.{statement}
 use Rattle.cover.proofs.covers.Tie as tie
 
 abbrev Inv-loop : tie.InvT-loop
-Inv-loop t m rest i a j b l₀ l = (l ≤ 32) × (allBelow l (λ l. imp (bit rest l) (substitutes (held t) (stateOf m) i a j b l)) ≡ true)
+Inv-loop t active on rest i a j b l₀ l = (l ≤ 32) × (allBelow l (λ l. imp (bit rest l) (substitutes (held t) (stateOf (sets active on)) i a j b l)) ≡ true)
 
 abbrev μ-loop : tie.MeasureT-loop
-μ-loop t m rest i a j b l₀ l = 32 - l
+μ-loop t active on rest i a j b l₀ l = 32 - l
 
 pub covers-spec : {M : Type 1} → statement M
 unfolding coversIn

@@ -9,16 +9,16 @@ use Rattle.bounded.specs.Bounded.{imp, allBelow}
 use Rattle.bounded.specs.Mask.{bit}
 use Rattle.bounded.proofs.Loops.{all-none, all-more, all-fail, all-end}
 use Rattle.problem.specs.Held.{held}
-use Rattle.problem.specs.Masks.{stateOf}
+use Rattle.problem.specs.Masks.{stateOf, sets}
 use Rattle.cover.specs.Words.{servedIn, allServedIn}
 use Rattle.cover.proofs.each_served.Statement.{statement}
 use Rattle.cover.proofs.each_served.Tie as tie
 
 abbrev Inv-loop : tie.InvT-loop
-Inv-loop t m rest good bad j w₀ w = (w ≤ 16) × (allBelow w (λ w. imp (bit bad w && not (bit good w)) (servedIn (held t) (stateOf m) rest good j j w)) ≡ true)
+Inv-loop t active on rest good bad j w₀ w = (w ≤ 16) × (allBelow w (λ w. imp (bit bad w && not (bit good w)) (servedIn (held t) (stateOf (sets active on)) rest good j j w)) ≡ true)
 
 abbrev μ-loop : tie.MeasureT-loop
-μ-loop t m rest good bad j w₀ w = 16 - w
+μ-loop t active on rest good bad j w₀ w = 16 - w
 
 pub each-served-spec : {M : Type 1} → statement M
 unfolding allServedIn

@@ -8,16 +8,16 @@ use Rattle.bounded.specs.Bounded.{anyBelow}
 use Rattle.bounded.specs.Mask.{bit}
 use Rattle.bounded.proofs.Loops.{any-none, any-more, any-hit, any-end}
 use Rattle.problem.specs.Held.{held}
-use Rattle.problem.specs.Masks.{stateOf}
+use Rattle.problem.specs.Masks.{stateOf, sets}
 use Rattle.cover.specs.Words.{coversIn, servedIn}
 use Rattle.cover.proofs.served.Statement.{statement}
 use Rattle.cover.proofs.served.Tie as tie
 
 abbrev Inv-loop : tie.InvT-loop
-Inv-loop t m rest good i j w u₀ u = (u ≤ 16) × (anyBelow u (λ u. bit good u && coversIn (held t) (stateOf m) rest i u j w) ≡ false)
+Inv-loop t active on rest good i j w u₀ u = (u ≤ 16) × (anyBelow u (λ u. bit good u && coversIn (held t) (stateOf (sets active on)) rest i u j w) ≡ false)
 
 abbrev μ-loop : tie.MeasureT-loop
-μ-loop t m rest good i j w u₀ u = 16 - u
+μ-loop t active on rest good i j w u₀ u = 16 - u
 
 pub served-spec : {M : Type 1} → statement M
 unfolding servedIn

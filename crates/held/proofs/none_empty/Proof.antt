@@ -10,16 +10,16 @@ use Rattle.bounded.specs.Mask.{bit}
 use Rattle.bounded.proofs.Loops.{all-none, all-more, all-fail, all-end}
 use Rattle.problem.specs.Problem.{anyLive, noneEmpty}
 use Rattle.problem.specs.Held.{held}
-use Rattle.problem.specs.Masks.{stateOf}
+use Rattle.problem.specs.Masks.{stateOf, sets}
 use Rattle.held.proofs.Laws.{active-loop}
 use Rattle.held.proofs.none_empty.Statement.{statement}
 use Rattle.held.proofs.none_empty.Tie as tie
 
 abbrev Inv-loop : tie.InvT-loop
-Inv-loop t m i₀ i = (i ≤ 32) × (allBelow i (λ l. imp (bit (m .active) l) (anyLive (held t) (stateOf m) l (λ c. true))) ≡ true)
+Inv-loop t active on i₀ i = (i ≤ 32) × (allBelow i (λ l. imp (bit active l) (anyLive (held t) (stateOf (sets active on)) l (λ c. true))) ≡ true)
 
 abbrev μ-loop : tie.MeasureT-loop
-μ-loop t m i₀ i = 32 - i
+μ-loop t active on i₀ i = 32 - i
 
 pub none-empty-spec : {M : Type 1} → statement M
 unfolding noneEmpty

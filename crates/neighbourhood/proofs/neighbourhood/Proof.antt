@@ -28,7 +28,7 @@ covers-requires : tie.Need-covers-requires
 covers-requires c κs =
     let p = c .before .before .before .before .before .before .pre in
     let h = guard (c .before .before .before .has16 .result) (c .before .before .has162 .result) (c .before .before .before .before .before .before .args .a) (c .before .before .before .before .before .before .args .b) (c .before .if1 .taken) in
-    let o = others-out (c .before .before .before .before .before .before .args .t2 .active) _ (p .1) in (
+    let o = others-out (c .before .before .before .before .before .before .args .active) _ (p .1) in (
       p .0,
       bit-value (p .0) _ _ (sym (c .before .before .has162 .ensures) ∙ h .1),
       bit-value (p .0) _ _ (sym (c .before .before .before .has16 .ensures) ∙ h .0),

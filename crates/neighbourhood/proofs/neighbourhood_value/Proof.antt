@@ -7,7 +7,7 @@ use borrow.Author.Tests.{not-true}
 use Rattle.problem.specs.Problem.{neighbourhood}
 use Rattle.problem.specs.Reduce.{stepIf, first}
 use Rattle.problem.specs.Held.{held}
-use Rattle.problem.specs.Masks.{stateOf}
+use Rattle.problem.specs.Masks.{stateOf, sets}
 use Rattle.problem.specs.declared.Next.the-variants.{Nothing}
 use Rattle.problem.specs.declared.Record.the-variants.{Neighbourhood}
 use Rattle.neighbourhood.specs.Parts.{neighbourhoodValue}
@@ -17,10 +17,10 @@ use Rattle.neighbourhood.proofs.neighbourhood_value.Statement.{statemen
 use Rattle.neighbourhood.proofs.neighbourhood_value.Tie as tie
 
 abbrev Inv-loop : tie.InvT-loop
-Inv-loop t i b m a₀ a = (a ≤ 16) × (first a (λ a. stepIf (neighbourhood (held t) (stateOf m) i b a) (Neighbourhood i b a)) ≡ Nothing)
+Inv-loop t active on i b a₀ a = (a ≤ 16) × (first a (λ a. stepIf (neighbourhood (held t) (stateOf (sets active on)) i b a) (Neighbourhood i b a)) ≡ Nothing)
 
 abbrev μ-loop : tie.MeasureT-loop
-μ-loop t i b m a₀ a = 16 - a
+μ-loop t active on i b a₀ a = 16 - a
 
 pub neighbourhood-value-spec : {M : Type 1} → statement M
 unfolding neighbourhoodValue

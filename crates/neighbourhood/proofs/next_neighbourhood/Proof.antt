@@ -5,7 +5,7 @@ use native.Mathlib.Omega.{arith}
 use borrow.Author.Needs.{needs}
 use Rattle.problem.specs.Reduce.{first}
 use Rattle.problem.specs.Held.{held}
-use Rattle.problem.specs.Masks.{stateOf}
+use Rattle.problem.specs.Masks.{stateOf, sets}
 use Rattle.problem.specs.declared.Next.the-variants.{Nothing}
 use Rattle.neighbourhood.specs.Parts.{neighbourhoodVariable}
 use Rattle.problem.proofs.Search.{nothing-is, first-none, first-more, first-hit, first-end}
@@ -14,10 +14,10 @@ use Rattle.neighbourhood.proofs.next_neighbourhood.Statement.{statement
 use Rattle.neighbourhood.proofs.next_neighbourhood.Tie as tie
 
 abbrev Inv-loop : tie.InvT-loop
-Inv-loop t m i₀ i = (i ≤ 32) × (first i (neighbourhoodVariable (held t) (stateOf m)) ≡ Nothing)
+Inv-loop t active on i₀ i = (i ≤ 32) × (first i (neighbourhoodVariable (held t) (stateOf (sets active on))) ≡ Nothing)
 
 abbrev μ-loop : tie.MeasureT-loop
-μ-loop t m i₀ i = 32 - i
+μ-loop t active on i₀ i = 32 - i
 
 pub next-neighbourhood-spec : {M : Type 1} → statement M
 next-neighbourhood-spec =

@@ -26,7 +26,7 @@ all-served-requires : tie.Need-all-served-requires
 all-served-requires c κs =
     let p = c .before .before .before .before .before .before .pre in
     let a = c .before .before .before .before .before .before .args in
-    let d = other-apart (a .rest) (a .t2 .active) _ _ (p .2) (p .1 .variable) (sym (c .before .before .before .before .has32 .ensures) ∙ c .before .before .before .if1 .taken) in
+    let d = other-apart (a .rest) (a .active) _ _ (p .2) (p .1 .variable) (sym (c .before .before .before .before .has32 .ensures) ∙ c .before .before .before .if1 .taken) in
     (p .0, rw (c .before .row .ensures) (word-among (p .0) _ _ _ (p .1) d), domain-among (p .0) _, rw (c .without32 .ensures) (others-out (a .rest) _ (p .3)))
 
 returns : tie.Need-returns
@@ -34,7 +34,7 @@ returns c =
     let p = c .before .before .before .before .before .before .before .pre in
     let a = c .before .before .before .before .before .before .before .args in
     let e = sym (c .before .before .before .before .before .has32 .ensures) ∙ c .before .before .before .before .if1 .taken in
-    let d = other-apart (a .rest) (a .t2 .active) _ _ (p .2) (p .1 .variable) e in
+    let d = other-apart (a .rest) (a .active) _ _ (p .2) (p .1 .variable) e in
     rw e (c .all-served .ensures ∙ (rw (c .before .without32 .ensures, p .2, c .before .before .row .ensures) (snake-word (p .0) _ _ _ (p .1) (p .3) d)))
 
 returns-2 : tie.Need-returns-2

@@ -9,17 +9,17 @@ use Rattle.bounded.specs.Bounded.{imp, allBelow}
 use Rattle.bounded.specs.Mask.{bit}
 use Rattle.bounded.proofs.Loops.{all-none, all-more, all-fail, all-end}
 use Rattle.problem.specs.Held.{held}
-use Rattle.problem.specs.Masks.{stateOf}
+use Rattle.problem.specs.Masks.{stateOf, sets}
 use Rattle.snake.specs.Parts.{snakeAt}
 use Rattle.cover.proofs.Laws.{other-by}
 use Rattle.snake.proofs.snake_others.Statement.{statement}
 use Rattle.snake.proofs.snake_others.Tie as tie
 
 abbrev Inv-loop : tie.InvT-loop
-Inv-loop t m i v rest j₀ j = (j ≤ 32) × (allBelow j (λ j. imp (bit rest j) (snakeAt (held t) (stateOf m) i v j)) ≡ true)
+Inv-loop t active on i v rest j₀ j = (j ≤ 32) × (allBelow j (λ j. imp (bit rest j) (snakeAt (held t) (stateOf (sets active on)) i v j)) ≡ true)
 
 abbrev μ-loop : tie.MeasureT-loop
-μ-loop t m i v rest j₀ j = 32 - j
+μ-loop t active on i v rest j₀ j = 32 - j
 
 pub snake-others-spec : {M : Type 1} → statement M
 snake-others-spec =

@@ -14,7 +14,7 @@ third-set-requires c κs = search needs
 covers-requires : tie.Need-covers-requires
 covers-requires c κs =
     let p = c .before .before .before .before .pre in
-    let o = thirds-out (c .before .before .before .before .args .m .active) _ _ (p .1 .variable) (p .2 .variable) in
+    let o = thirds-out (c .before .before .before .before .args .active) _ _ (p .1 .variable) (p .2 .variable) in
     (p .0, p .3, p .2, rw (c .third-set .ensures) (o .1), rw (c .third-set .ensures) (o .1))
 
 returns : tie.Need-returns

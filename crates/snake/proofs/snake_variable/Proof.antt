@@ -7,7 +7,7 @@ use borrow.Author.Tests.{not-true}
 use Rattle.problem.specs.Problem.{snake}
 use Rattle.problem.specs.Reduce.{stepIf, first}
 use Rattle.problem.specs.Held.{held}
-use Rattle.problem.specs.Masks.{stateOf}
+use Rattle.problem.specs.Masks.{stateOf, sets}
 use Rattle.problem.specs.declared.Next.the-variants.{Nothing}
 use Rattle.problem.specs.declared.Record.the-variants.{Snake}
 use Rattle.snake.specs.Parts.{snakeVariable}
@@ -17,10 +17,10 @@ use Rattle.snake.proofs.snake_variable.Statement.{statement}
 use Rattle.snake.proofs.snake_variable.Tie as tie
 
 abbrev Inv-loop : tie.InvT-loop
-Inv-loop t m i v₀ v = (v ≤ 16) × (first v (λ v. stepIf (snake (held t) (stateOf m) i v) (Snake i v)) ≡ Nothing)
+Inv-loop t active on i v₀ v = (v ≤ 16) × (first v (λ v. stepIf (snake (held t) (stateOf (sets active on)) i v) (Snake i v)) ≡ Nothing)
 
 abbrev μ-loop : tie.MeasureT-loop
-μ-loop t m i v₀ v = 16 - v
+μ-loop t active on i v₀ v = 16 - v
 
 pub snake-variable-spec : {M : Type 1} → statement M
 unfolding snakeVariable

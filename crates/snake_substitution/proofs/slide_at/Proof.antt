@@ -30,7 +30,7 @@ all-served-requires : tie.Need-all-served-requires
 all-served-requires c κs =
     let p = c .before .before .before .before .before .before .before .pre in
     let a = c .before .before .before .before .before .before .before .args in
-    let d = other-apart (a .rest) (a .t2 .active) _ _ (p .3) (p .1 .variable) (sym (c .before .before .before .before .before .has32 .ensures) ∙ c .before .before .before .before .if1 .taken) in (
+    let d = other-apart (a .rest) (a .active) _ _ (p .3) (p .1 .variable) (sym (c .before .before .before .before .before .has32 .ensures) ∙ c .before .before .before .before .if1 .taken) in (
       p .0,
       rw (c .before .before .row .ensures) (word-among (p .0) _ _ _ (p .2) d),
       rw (c .before .row2 .ensures) (word-among (p .0) _ _ _ (p .1) d),
@@ -42,7 +42,7 @@ returns c =
     let p = c .before .before .before .before .before .before .before .before .pre in
     let a = c .before .before .before .before .before .before .before .before .args in
     let e = sym (c .before .before .before .before .before .before .has32 .ensures) ∙ c .before .before .before .before .before .if1 .taken in
-    let d = other-apart (a .rest) (a .t2 .active) _ _ (p .3) (p .1 .variable) e in
+    let d = other-apart (a .rest) (a .active) _ _ (p .3) (p .1 .variable) e in
     rw e (c .all-served .ensures ∙ (rw (c .before .slide-set .ensures, c .before .before .row2 .ensures, c .before .before .before .row .ensures) (slide-word (p .0) slideSpares _ _ _ _ (p .1) (p .2) (p .4) d)))
 
 returns-2 : tie.Need-returns-2

@@ -9,11 +9,11 @@ use borrow.Author.Needs.{needs}
 use Rattle.snake_substitution.proofs.snake_substitution.Statement.{statement}
 use Rattle.snake_substitution.proofs.snake_substitution.Tie as tie
 
-mul-on : tie.Need-mul-on
-mul-on c = search needs
+mul-domain : tie.Need-mul-domain
+mul-domain c = search needs
 
-element-copy-out-on : tie.Need-element-copy-out-on
-element-copy-out-on c = search needs
+element-copy-out-domain : tie.Need-element-copy-out-domain
+element-copy-out-domain c = search needs
 
 has16-requires : tie.Need-has16-requires
 has16-requires c κs = search needs
@@ -39,8 +39,8 @@ pub snake-substitution-spec : {M : Type 1} → statement M
 snake-substitution-spec =
     tie.close
     (tie.spec
-    mul-on
-    element-copy-out-on
+    mul-domain
+    element-copy-out-domain
     has16-requires
     has16-requires-2
     slide-others-requires

@@ -7,7 +7,7 @@ use borrow.Author.Tests.{not-true}
 use Rattle.problem.specs.Problem.{snakeSubstitution, slideSpares}
 use Rattle.problem.specs.Reduce.{stepIf, first}
 use Rattle.problem.specs.Held.{held}
-use Rattle.problem.specs.Masks.{stateOf}
+use Rattle.problem.specs.Masks.{stateOf, sets}
 use Rattle.problem.specs.declared.Next.the-variants.{Nothing}
 use Rattle.problem.specs.declared.Record.the-variants.{SnakeSubstitution}
 use Rattle.snake_substitution.specs.Parts.{substitutionValue}
@@ -17,10 +17,10 @@ use Rattle.snake_substitution.proofs.substitution_value.Statement.{stat
 use Rattle.snake_substitution.proofs.substitution_value.Tie as tie
 
 abbrev Inv-loop : tie.InvT-loop
-Inv-loop t i b m a₀ a = (a ≤ 16) × (first a (λ a. stepIf (snakeSubstitution (held t) (stateOf m) slideSpares i b a) (SnakeSubstitution i b a)) ≡ Nothing)
+Inv-loop t active on i b a₀ a = (a ≤ 16) × (first a (λ a. stepIf (snakeSubstitution (held t) (stateOf (sets active on)) slideSpares i b a) (SnakeSubstitution i b a)) ≡ Nothing)
 
 abbrev μ-loop : tie.MeasureT-loop
-μ-loop t i b m a₀ a = 16 - a
+μ-loop t active on i b a₀ a = 16 - a
 
 pub substitution-value-spec : {M : Type 1} → statement M
 unfolding substitutionValue

@@ -6,7 +6,7 @@ use borrow.Author.Needs.{needs}
 use borrow.Author.Tests.{not-true}
 use Rattle.problem.specs.Reduce.{first}
 use Rattle.problem.specs.Held.{held}
-use Rattle.problem.specs.Masks.{stateOf}
+use Rattle.problem.specs.Masks.{stateOf, sets}
 use Rattle.problem.specs.declared.Next.the-variants.{Nothing}
 use Rattle.snake_substitution.specs.Parts.{substitutionValue, substitutionVariable}
 use Rattle.problem.proofs.Search.{nothing-is, first-none, first-more, first-hit, first-end}
@@ -15,10 +15,10 @@ use Rattle.snake_substitution.proofs.substitution_variable.Statement.{s
 use Rattle.snake_substitution.proofs.substitution_variable.Tie as tie
 
 abbrev Inv-loop : tie.InvT-loop
-Inv-loop t m i b₀ b = (b ≤ 16) × (first b (λ b. substitutionValue (held t) (stateOf m) i b) ≡ Nothing)
+Inv-loop t active on i b₀ b = (b ≤ 16) × (first b (λ b. substitutionValue (held t) (stateOf (sets active on)) i b) ≡ Nothing)
 
 abbrev μ-loop : tie.MeasureT-loop
-μ-loop t m i b₀ b = 16 - b
+μ-loop t active on i b₀ b = 16 - b
 
 pub substitution-variable-spec : {M : Type 1} → statement M
 unfolding substitutionVariable

@@ -10,17 +10,17 @@ use Rattle.bounded.specs.Mask.{bit}
 use Rattle.bounded.proofs.Loops.{all-none, all-more, all-fail, all-end}
 use lib.ListN.{getD}
 use Rattle.problem.specs.Held.{held}
-use Rattle.problem.specs.Masks.{stateOf}
+use Rattle.problem.specs.Masks.{stateOf, sets}
 use Rattle.triangle.specs.Parts.{foldAt}
 use Rattle.held.proofs.Laws.{live-loop}
 use Rattle.triangle.proofs.fold_all.Statement.{statement}
 use Rattle.triangle.proofs.fold_all.Tie as tie
 
 abbrev Inv-loop : tie.InvT-loop
-Inv-loop t m i j rest v₀ v = (v ≤ 16) × (allBelow v (λ v. imp (bit (getD (m .domains) j 0) v) (foldAt (held t) (stateOf m) i j v)) ≡ true)
+Inv-loop t active on i j rest v₀ v = (v ≤ 16) × (allBelow v (λ v. imp (bit (getD on j 0) v) (foldAt (held t) (stateOf (sets active on)) i j v)) ≡ true)
 
 abbrev μ-loop : tie.MeasureT-loop
-μ-loop t m i j rest v₀ v = 16 - v
+μ-loop t active on i j rest v₀ v = 16 - v
 
 pub fold-all-spec : {M : Type 1} → statement M
 fold-all-spec =

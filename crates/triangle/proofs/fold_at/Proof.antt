@@ -29,7 +29,7 @@ served-requires : tie.Need-served-requires
 served-requires c κs =
     let p = c .before .before .before .before .before .before .pre in
     let v = bit-value (p .0) _ _ (sym (c .before .before .before .has16 .ensures) ∙ c .before .before .if1 .taken) in
-    let o = thirds-out (c .before .before .before .before .before .before .args .t2 .active) _ _ (p .2) (p .3) in
+    let o = thirds-out (c .before .before .before .before .before .before .args .active) _ _ (p .2) (p .3) in
     (p .0, rw (c .row .ensures) (word-among (p .0) _ _ _ v (λ e. p .4 (sym e))), v, rw (p .1) (o .0), rw (p .1) (o .1))
 
 returns : tie.Need-returns

@@ -14,7 +14,7 @@ third-set-requires c κs = search needs
 covers-requires : tie.Need-covers-requires
 covers-requires c κs =
     let p = c .before .before .before .before .pre in
-    let o = thirds-out (c .before .before .before .before .args .m .active) _ _ (p .2 .variable) (p .1 .variable) in
+    let o = thirds-out (c .before .before .before .before .args .active) _ _ (p .2 .variable) (p .1 .variable) in
     (p .0, p .2, p .1, rw (c .third-set .ensures) (o .0), rw (c .third-set .ensures) (o .1))
 
 returns : tie.Need-returns

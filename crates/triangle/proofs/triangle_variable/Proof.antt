@@ -7,7 +7,7 @@ use borrow.Author.Tests.{not-true}
 use Rattle.problem.specs.Problem.{triangle}
 use Rattle.problem.specs.Reduce.{stepIf, first}
 use Rattle.problem.specs.Held.{held}
-use Rattle.problem.specs.Masks.{stateOf}
+use Rattle.problem.specs.Masks.{stateOf, sets}
 use Rattle.problem.specs.declared.Next.the-variants.{Nothing}
 use Rattle.problem.specs.declared.Record.the-variants.{Triangle}
 use Rattle.triangle.specs.Parts.{triangleVariable}
@@ -17,10 +17,10 @@ use Rattle.triangle.proofs.triangle_variable.Statement.{statement}
 use Rattle.triangle.proofs.triangle_variable.Tie as tie
 
 abbrev Inv-loop : tie.InvT-loop
-Inv-loop t m i j₀ j = (j ≤ 32) × (first j (λ j. stepIf (triangle (held t) (stateOf m) i j) (Triangle i j)) ≡ Nothing)
+Inv-loop t active on i j₀ j = (j ≤ 32) × (first j (λ j. stepIf (triangle (held t) (stateOf (sets active on)) i j) (Triangle i j)) ≡ Nothing)
 
 abbrev μ-loop : tie.MeasureT-loop
-μ-loop t m i j₀ j = 32 - j
+μ-loop t active on i j₀ j = 32 - j
 
 pub triangle-variable-spec : {M : Type 1} → statement M
 unfolding triangleVariable

@@ -7,7 +7,7 @@ use borrow.Author.Tests.{not-true}
 use Rattle.problem.specs.Problem.{unsupported}
 use Rattle.problem.specs.Reduce.{stepIf, first}
 use Rattle.problem.specs.Held.{held}
-use Rattle.problem.specs.Masks.{stateOf}
+use Rattle.problem.specs.Masks.{stateOf, sets}
 use Rattle.problem.specs.declared.Next.the-variants.{Nothing}
 use Rattle.problem.specs.declared.Record.the-variants.{Unsupported}
 use Rattle.unsupported.specs.Parts.{unsupportedValue}
@@ -17,10 +17,10 @@ use Rattle.unsupported.proofs.unsupported_value.Statement.{statement}
 use Rattle.unsupported.proofs.unsupported_value.Tie as tie
 
 abbrev Inv-loop : tie.InvT-loop
-Inv-loop t i b m k₀ k = (k ≤ 32) × (first k (λ k. stepIf (unsupported (held t) (stateOf m) i b k) (Unsupported i b k)) ≡ Nothing)
+Inv-loop t active on i b k₀ k = (k ≤ 32) × (first k (λ k. stepIf (unsupported (held t) (stateOf (sets active on)) i b k) (Unsupported i b k)) ≡ Nothing)
 
 abbrev μ-loop : tie.MeasureT-loop
-μ-loop t i b m k₀ k = 32 - k
+μ-loop t active on i b k₀ k = 32 - k
 
 pub unsupported-value-spec : {M : Type 1} → statement M
 unfolding unsupportedValue
