@@ -18,7 +18,16 @@ use held::row;
 use problem::Masks;
 
 // Value a of i covers value b of j at l.
-fn substitutes(t: &[u16], active: u32, on: &[u16; 32], i: usize, a: usize, j: usize, b: usize, l: usize) -> bool
+fn substitutes(
+    t: &[u16],
+    active: u32,
+    on: &[u16; 32],
+    i: usize,
+    a: usize,
+    j: usize,
+    b: usize,
+    l: usize,
+) -> bool
     requires { ⌜ Ready (now t) (sets active (now on)) × Value (now t) i a × Value (now t) j b × (l < 32) × (l ≢ i) × (l ≢ j) ⌝ }
     ensures { λ r. ⌜ r ≡ substitutesAt (held (now (t .entry))) (stateOf (sets active (now (on .entry)))) i a j b l ⌝ }
 {
@@ -56,7 +65,16 @@ fn covers_at(
 }
 
 // Value a of i covers value b of j at each variable of `rest`, where neither i nor j is.
-pub fn covers(t: &[u16], active: u32, on: &[u16; 32], rest: u32, i: usize, a: usize, j: usize, b: usize) -> bool
+pub fn covers(
+    t: &[u16],
+    active: u32,
+    on: &[u16; 32],
+    rest: u32,
+    i: usize,
+    a: usize,
+    j: usize,
+    b: usize,
+) -> bool
     requires { ⌜ Ready (now t) (sets active (now on)) × Value (now t) i a × Value (now t) j b × (bit rest i ≡ false) × (bit rest j ≡ false) ⌝ }
     ensures { λ r. ⌜ r ≡ coversIn (held (now (t .entry))) (stateOf (sets active (now (on .entry)))) rest i a j b ⌝ }
 {
@@ -92,7 +110,16 @@ fn served_by(
 }
 
 // Some value of i, of the set `good`, covers value w of j at each variable of `rest`.
-pub fn served(t: &[u16], active: u32, on: &[u16; 32], rest: u32, good: u16, i: usize, j: usize, w: usize) -> bool
+pub fn served(
+    t: &[u16],
+    active: u32,
+    on: &[u16; 32],
+    rest: u32,
+    good: u16,
+    i: usize,
+    j: usize,
+    w: usize,
+) -> bool
     requires { ⌜ Ready (now t) (sets active (now on)) × Among (sets active (now on)) i good × Value (now t) j w × (bit rest i ≡ false) × (bit rest j ≡ false) ⌝ }
     ensures { λ r. ⌜ r ≡ servedIn (held (now (t .entry))) (stateOf (sets active (now (on .entry)))) rest good i j w ⌝ }
 {
@@ -107,7 +134,16 @@ pub fn served(t: &[u16], active: u32, on: &[u16; 32], rest: u32, good: u16, i: u
 }
 
 // A value that is itself one of `good` needs no other in its place.
-fn served_if(t: &[u16], active: u32, on: &[u16; 32], rest: u32, good: u16, bad: u16, j: usize, w: usize) -> bool
+fn served_if(
+    t: &[u16],
+    active: u32,
+    on: &[u16; 32],
+    rest: u32,
+    good: u16,
+    bad: u16,
+    j: usize,
+    w: usize,
+) -> bool
     requires { ⌜ Ready (now t) (sets active (now on)) × Among (sets active (now on)) j good × Among (sets active (now on)) j bad × (bit rest j ≡ false) × (w < 16) ⌝ }
     ensures { λ r. ⌜ r ≡ imp (bit bad w && not (bit good w)) (servedIn (held (now (t .entry))) (stateOf (sets active (now (on .entry)))) rest good j j w) ⌝ }
 {
@@ -118,7 +154,15 @@ fn served_if(t: &[u16], active: u32, on: &[u16; 32], rest: u32, good: u16, bad: 
     }
 }
 
-fn each_served(t: &[u16], active: u32, on: &[u16; 32], rest: u32, good: u16, bad: u16, j: usize) -> bool
+fn each_served(
+    t: &[u16],
+    active: u32,
+    on: &[u16; 32],
+    rest: u32,
+    good: u16,
+    bad: u16,
+    j: usize,
+) -> bool
     requires { ⌜ Ready (now t) (sets active (now on)) × Among (sets active (now on)) j good × Among (sets active (now on)) j bad × (bit rest j ≡ false) ⌝ }
     ensures { λ r. ⌜ r ≡ allServedIn (held (now (t .entry))) (stateOf (sets active (now (on .entry)))) rest good bad j ⌝ }
 {
@@ -134,7 +178,15 @@ fn each_served(t: &[u16], active: u32, on: &[u16; 32], rest: u32, good: u16, bad
 
 // Each value of `bad` that is not one of `good` is covered by one of `good` at each variable of `rest`. One comparison tells where
 // there is none to serve.
-pub fn all_served(t: &[u16], active: u32, on: &[u16; 32], rest: u32, good: u16, bad: u16, j: usize) -> bool
+pub fn all_served(
+    t: &[u16],
+    active: u32,
+    on: &[u16; 32],
+    rest: u32,
+    good: u16,
+    bad: u16,
+    j: usize,
+) -> bool
     requires { ⌜ Ready (now t) (sets active (now on)) × Among (sets active (now on)) j good × Among (sets active (now on)) j bad × (bit rest j ≡ false) ⌝ }
     ensures { λ r. ⌜ r ≡ allServedIn (held (now (t .entry))) (stateOf (sets active (now (on .entry)))) rest good bad j ⌝ }
 {

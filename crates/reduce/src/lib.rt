@@ -29,7 +29,7 @@ fn end_of(t: &[u16], m: Masks) -> End
     requires { ⌜ Ready (now t) m ⌝ }
     ensures { λ r. ⌜ r ≡ endOf (held (now (t .entry))) (stateOf m) ⌝ }
 {
-    if !held::none_empty(t, m) {
+    if !held::none_empty(t, m.active, &m.domains) {
         return End::Impossible;
     }
     if m.active == 0 {
@@ -58,7 +58,7 @@ fn run_table(t: &[u16], b: &mut [u8]) -> Reduced
     let mut at: usize = 1;
     let mut steps: usize = 0;
     loop {
-        match next_step(t, state) {
+        match next_step(t, state.active, &state.domains) {
             Next::Step(r) => {
                 at = trace::write_record(b, at, r);
                 state = apply(t, state, r);

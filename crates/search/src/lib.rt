@@ -2,7 +2,7 @@
 ghost use mathlib.Core.Path.{_≡_};
 ghost use Prim.Native.Nat.{_<_, _≤_, _+_};
 ghost use Rattle.problem.specs.Held.{held};
-ghost use Rattle.problem.specs.Masks.{stateOf};
+ghost use Rattle.problem.specs.Masks.{stateOf, sets};
 ghost use Rattle.held.specs.Ready.{Ready};
 ghost use Rattle.problem.specs.Reduce.{nextOfKind, next as nextOf};
 use neighbourhood::next_neighbourhood;
@@ -15,31 +15,31 @@ use triangle::next_triangle;
 use unsupported::next_unsupported;
 
 // The lowest step of a kind.
-fn next_of_kind(t: &[u16], m: Masks, kind: usize) -> Next
-    requires { ⌜ Ready (now t) m × (1 ≤ kind) × (kind ≤ 5) ⌝ }
-    ensures { λ r. ⌜ r ≡ nextOfKind (held (now (t .entry))) (stateOf m) kind ⌝ }
+fn next_of_kind(t: &[u16], active: u32, on: &[u16; 32], kind: usize) -> Next
+    requires { ⌜ Ready (now t) (sets active (now on)) × (1 ≤ kind) × (kind ≤ 5) ⌝ }
+    ensures { λ r. ⌜ r ≡ nextOfKind (held (now (t .entry))) (stateOf (sets active (now (on .entry)))) kind ⌝ }
 {
     match kind {
-        1 => next_unsupported(t, m),
-        2 => next_snake(t, m),
-        3 => next_triangle(t, m),
-        4 => next_neighbourhood(t, m),
-        _ => next_substitution(t, m),
+        1 => next_unsupported(t, active, on),
+        2 => next_snake(t, active, on),
+        3 => next_triangle(t, active, on),
+        4 => next_neighbourhood(t, active, on),
+        _ => next_substitution(t, active, on),
     }
 }
 
 // The next step: of the lowest kind that holds anywhere, then the lowest fields. None is taken where an active variable has an empty domain.
-pub fn next_step(t: &[u16], m: Masks) -> Next
-    requires { ⌜ Ready (now t) m ⌝ }
-    ensures { λ r. ⌜ r ≡ nextOf (held (now (t .entry))) (stateOf m) ⌝ }
+pub fn next_step(t: &[u16], active: u32, on: &[u16; 32]) -> Next
+    requires { ⌜ Ready (now t) (sets active (now on)) ⌝ }
+    ensures { λ r. ⌜ r ≡ nextOf (held (now (t .entry))) (stateOf (sets active (now (on .entry)))) ⌝ }
 {
-    let lasts = held::none_empty(t, m);
+    let lasts = held::none_empty(t, active, on);
     if !lasts {
         return Next::Nothing;
     }
     let mut kind: usize = 1;
     while kind < 6 {
-        let found = next_of_kind(t, m, kind);
+        let found = next_of_kind(t, active, on, kind);
         if is_step(found) {
             return found;
         }

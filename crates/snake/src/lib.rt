@@ -24,7 +24,16 @@ use problem::Record;
 use problem::is_step;
 
 // Value w2 of j may take the place of w where i has v: it is allowed with v and covers w at every item other than i and j.
-pub fn snake_serves(t: &[u16], active: u32, on: &[u16; 32], i: usize, v: usize, j: usize, w: usize, w2: usize) -> bool
+pub fn snake_serves(
+    t: &[u16],
+    active: u32,
+    on: &[u16; 32],
+    i: usize,
+    v: usize,
+    j: usize,
+    w: usize,
+    w2: usize,
+) -> bool
     requires { ⌜ Ready (now t) (sets active (now on)) × Value (now t) i v × Value (now t) j w × Value (now t) j w2 ⌝ }
     ensures { λ r. ⌜ r ≡ snakeServes (held (now (t .entry))) (stateOf (sets active (now (on .entry)))) i v j w w2 ⌝ }
 {

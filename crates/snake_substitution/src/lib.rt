@@ -29,7 +29,16 @@ fn slide_set(active: u32, i: usize, k: usize) -> u32
 }
 
 // What the slide rule asks of k, where k is one of `rest`: the active variables other than i.
-fn slide_at(t: &[u16], active: u32, on: &[u16; 32], rest: u32, i: usize, b: usize, a: usize, k: usize) -> bool
+fn slide_at(
+    t: &[u16],
+    active: u32,
+    on: &[u16; 32],
+    rest: u32,
+    i: usize,
+    b: usize,
+    a: usize,
+    k: usize,
+) -> bool
     requires { ⌜ Ready (now t) (sets active (now on)) × Value (now t) i b × Value (now t) i a × (rest ≡ others active i) × (k < 32) ⌝ }
     ensures { λ r. ⌜ r ≡ imp (bit rest k) (slideAt (held (now (t .entry))) (stateOf (sets active (now (on .entry)))) slideSpares i b a k) ⌝ }
 {
@@ -59,7 +68,14 @@ fn slide_others(t: &[u16], active: u32, on: &[u16; 32], i: usize, b: usize, a: u
 }
 
 // Values a and b of i differ and are in its domain, and at each other item each value allowed with b has one that serves with a.
-pub fn snake_substitution(t: &[u16], active: u32, on: &[u16; 32], i: usize, b: usize, a: usize) -> bool
+pub fn snake_substitution(
+    t: &[u16],
+    active: u32,
+    on: &[u16; 32],
+    i: usize,
+    b: usize,
+    a: usize,
+) -> bool
     requires { ⌜ Ready (now t) (sets active (now on)) × (i < 32) × (b < 16) × (a < 16) ⌝ }
     ensures { λ r. ⌜ r ≡ snakeSubstitution (held (now (t .entry))) (stateOf (sets active (now (on .entry)))) slideSpares i b a ⌝ }
 {

@@ -3,7 +3,7 @@ ghost use mathlib.Core.Path.{_≡_};
 ghost use Prim.Native.Nat.{_<_, _+_};
 ghost use Rattle.problem.specs.Problem.{remove as removed, eliminate as eliminated};
 ghost use Rattle.problem.specs.Held.{held, RowTable};
-ghost use Rattle.problem.specs.Masks.{stateOf, masksOf};
+ghost use Rattle.problem.specs.Masks.{stateOf, masksOf, sets};
 ghost use Rattle.held.specs.Ready.{Ready};
 ghost use Rattle.steps.specs.Words.{domainAfter, partnersOf};
 ghost use Rattle.problem.specs.Reduce.{after};
@@ -42,15 +42,15 @@ fn partners(t: &[u16], domain: u16, i: usize, j: usize) -> u16
 }
 
 // The domain of j once i is eliminated. A domain that is empty stays so.
-fn domain_after(t: &[u16], m: Masks, i: usize, j: usize) -> u16
-    requires { ⌜ Ready (now t) m × (i < 32) × (j < 32) ⌝ }
-    ensures { λ r. ⌜ r ≡ domainAfter (held (now (t .entry))) (stateOf m) i j ⌝ }
+fn domain_after(t: &[u16], active: u32, on: &[u16; 32], i: usize, j: usize) -> u16
+    requires { ⌜ Ready (now t) (sets active (now on)) × (i < 32) × (j < 32) ⌝ }
+    ensures { λ r. ⌜ r ≡ domainAfter (held (now (t .entry))) (stateOf (sets active (now (on .entry)))) i j ⌝ }
 {
-    let domain = m.domains[j];
+    let domain = on[j];
     if (j == i) | (domain == 0) {
         0
     } else {
-        domain & partners(t, m.domains[i], i, j)
+        domain & partners(t, on[i], i, j)
     }
 }
 
@@ -63,7 +63,7 @@ pub fn eliminate(t: &[u16], m: Masks, i: usize) -> Masks
     r.active = without32(m.active, i);
     let mut other: usize = 0;
     while other < 32 {
-        r.domains[other] = domain_after(t, m, i, other);
+        r.domains[other] = domain_after(t, m.active, &m.domains, i, other);
         other += 1;
     }
     r

@@ -25,7 +25,15 @@ use problem::Record;
 use problem::is_step;
 
 // Value u of i is allowed with value v of j, and covers it at every item other than i and j.
-pub fn triangle_serves(t: &[u16], active: u32, on: &[u16; 32], i: usize, j: usize, v: usize, u: usize) -> bool
+pub fn triangle_serves(
+    t: &[u16],
+    active: u32,
+    on: &[u16; 32],
+    i: usize,
+    j: usize,
+    v: usize,
+    u: usize,
+) -> bool
     requires { ⌜ Ready (now t) (sets active (now on)) × Value (now t) j v × Value (now t) i u ⌝ }
     ensures { λ r. ⌜ r ≡ triangleServes (held (now (t .entry))) (stateOf (sets active (now (on .entry)))) i j v u ⌝ }
 {

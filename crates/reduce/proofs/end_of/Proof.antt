@@ -16,13 +16,13 @@ returns c = sym (end-impossible _ _ (sym (c .before .none-empty .ensures) ∙ no
 
 returns-2 : tie.Need-returns-2
 returns-2 c =
-    let w = c .before .before in
-    sym (end-solved _ _ (sym (w .before .none-empty .ensures) ∙ not-false _ (w .if1 .left)) (sym (some-active (w .before .before .before .pre)) ∙ ap not (eq-eqb _ 0 (c .if2 .taken))))
+    let w = c .before in
+    sym (end-solved _ _ (sym (w .before .none-empty .ensures) ∙ not-false _ (w .if1 .left)) (sym (some-active (w .before .before .before .before .before .pre)) ∙ ap not (eq-eqb _ 0 (c .if2 .taken))))
 
 returns-3 : tie.Need-returns-3
 returns-3 c =
-    let w = c .before .before in
-    sym (end-rest _ _ (sym (w .before .none-empty .ensures) ∙ not-false _ (w .if1 .left)) (sym (some-active (w .before .before .before .pre)) ∙ ap not (ne-eqb _ 0 (c .if2 .left))))
+    let w = c .before in
+    sym (end-rest _ _ (sym (w .before .none-empty .ensures) ∙ not-false _ (w .if1 .left)) (sym (some-active (w .before .before .before .before .before .pre)) ∙ ap not (ne-eqb _ 0 (c .if2 .left))))
 
 pub end-of-spec : {M : Type 1} → statement M
 end-of-spec = tie.close (tie.spec none-empty-requires returns returns-2 returns-3)

@@ -29,39 +29,39 @@ loop-holds c =
     rw (c .full-masks .ensures, c .before .before .before .write-version .ensures) (running-start _ (a .args .b .now) (a .pre .0) (a .pre .1))
 
 next-step-requires : tie.Need-next-step-requires Inv-loop μ-loop
-next-step-requires c κs = c .loop .inv .ready
+next-step-requires c κs = c .before .before .loop .inv .ready
 
 enum-known-r : tie.Need-enum-known-r Inv-loop μ-loop
 enum-known-r c = search needs
 
 write-record-requires : tie.Need-write-record-requires Inv-loop μ-loop
 write-record-requires c κs =
-    let w = c .before .before .before .before .before .loop in
+    let w = c .before .before .before .before .before .before .before .loop in
     let e = sym (c .before .before .before .before .next-step .ensures) ∙ c .before .before .r .given .1 in
     (record-room _ _ _ _ _ _ (w .inv) _ e, within-small (c .before .before .r .given .0 .0) (record-within _ _ _ _ _ _ (w .inv) _ e))
 
 apply-requires : tie.Need-apply-requires Inv-loop μ-loop
 apply-requires c κs =
-    let w = c .before .before .before .before .before .before .before .before .loop in
+    let w = c .before .before .before .before .before .before .before .before .before .before .loop in
     let e = sym (c .before .before .before .before .before .before .before .next-step .ensures) ∙ c .before .before .before .before .before .r .given .1 in
     (w .inv .ready, record-within _ _ _ _ _ _ (w .inv) _ e)
 
 add-steps : tie.Need-add-steps Inv-loop μ-loop
 add-steps c =
-    let w = c .before .before .before .before .before .before .before .before .before .loop in
+    let w = c .before .before .before .before .before .before .before .before .before .before .before .loop in
     let e = sym (c .before .before .before .before .before .before .before .before .next-step .ensures) ∙ c .before .before .before .before .before .before .r .given .1 in
-    let v = c .before .before .before .before .before .before .before .before .before .before .before .before .before in
+    let v = c .before .before .before .before .before .before .before .before .before .before .before .before .before .before .before in
     omega (arith, step-counts _ _ _ _ _ _ (w .inv) _ e, kept-length _ _ _ _ _ _ (w .inv), ap length (v .write-version .ensures), length-set (v .before .before .before .before .args .b .now) 0 1)
 
 loop-less : tie.Need-loop-less Inv-loop μ-loop
 loop-less c =
-    let w = c .before .before .before .before .before .before .before .before .before .loop in
+    let w = c .before .before .before .before .before .before .before .before .before .before .before .loop in
     let e = sym (c .before .before .before .before .before .before .before .before .next-step .ensures) ∙ c .before .before .before .before .before .before .r .given .1 in
     rw (c .apply .ensures, after-state (w .inv .ready)) (falls _ _ _ _ _ _ (w .inv) _ e)
 
 loop-again : tie.Need-loop-again Inv-loop μ-loop
 loop-again c =
-    let w = c .before .before .before .before .before .before .before .before .before .loop in
+    let w = c .before .before .before .before .before .before .before .before .before .before .before .loop in
     let e = sym (c .before .before .before .before .before .before .before .before .next-step .ensures) ∙ c .before .before .before .before .before .before .r .given .1 in
     let p = c .before .before .before .write-record .ensures in
     rw (p .0, p .1, c .apply .ensures) (running-next _ _ _ _ _ _ (w .inv) _ e)
@@ -70,16 +70,16 @@ enum-told : tie.Need-enum-told Inv-loop μ-loop
 enum-told c = search needs
 
 end-of-requires : tie.Need-end-of-requires Inv-loop μ-loop
-end-of-requires c κs = c .before .before .before .loop .inv .ready
+end-of-requires c κs = c .before .before .before .before .before .loop .inv .ready
 
 same-length : tie.Need-same-length Inv-loop μ-loop
-same-length c = kept-length _ _ _ _ _ _ (c .before .before .before .before .loop .inv) ∙ ap length (c .before .before .before .before .before .before .before .before .write-version .ensures) ∙ simp length-set
+same-length c = kept-length _ _ _ _ _ _ (c .before .before .before .before .before .before .loop .inv) ∙ ap length (c .before .before .before .before .before .before .before .before .before .before .write-version .ensures) ∙ simp length-set
 
 returns : tie.Need-returns Inv-loop μ-loop
 returns c =
-    let w = c .before .before .before .before .loop in
+    let w = c .before .before .before .before .before .before .loop in
     let e = sym (c .before .before .before .next-step .ensures) ∙ c .before .enum-told .given .1 in
-    rw (c .end-of .ensures) (done-answer _ _ _ _ _ _ (w .inv) e _, done-buffer _ _ _ _ _ _ (w .inv) e _ (c .before .before .before .before .before .before .before .before .write-version .ensures))
+    rw (c .end-of .ensures) (done-answer _ _ _ _ _ _ (w .inv) e _, done-buffer _ _ _ _ _ _ (w .inv) e _ (c .before .before .before .before .before .before .before .before .before .before .write-version .ensures))
 
 pub run-table-spec : {M : Type 1} → statement M
 run-table-spec =

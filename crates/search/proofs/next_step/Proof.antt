@@ -6,7 +6,7 @@ use borrow.Author.Needs.{needs}
 use borrow.Author.Tests.{not-true, not-false}
 use Rattle.problem.specs.Reduce.{first, nextOfKind}
 use Rattle.problem.specs.Held.{held}
-use Rattle.problem.specs.Masks.{stateOf}
+use Rattle.problem.specs.Masks.{stateOf, sets}
 use Rattle.problem.specs.declared.Next.the-variants.{Nothing}
 use Rattle.problem.proofs.Run.{next-open, next-shut}
 use Rattle.problem.proofs.Search.{nothing-is, first-more, first-hit, first-end}
@@ -15,10 +15,10 @@ use Rattle.search.proofs.next_step.Statement.{statement}
 use Rattle.search.proofs.next_step.Tie as tie
 
 abbrev Inv-loop : tie.InvT-loop
-Inv-loop t m lasts kind₀ kind = (1 ≤ kind) × (kind ≤ 6) × (first kind (nextOfKind (held t) (stateOf m)) ≡ Nothing)
+Inv-loop t active on lasts kind₀ kind = (1 ≤ kind) × (kind ≤ 6) × (first kind (nextOfKind (held t) (stateOf (sets active on))) ≡ Nothing)
 
 abbrev μ-loop : tie.MeasureT-loop
-μ-loop t m lasts kind₀ kind = 6 - kind
+μ-loop t active on lasts kind₀ kind = 6 - kind
 
 pub next-step-spec : {M : Type 1} → statement M
 next-step-spec =
