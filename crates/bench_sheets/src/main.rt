@@ -83,7 +83,7 @@ fn next_line(text: &[u8], from: usize) -> usize
 }
 
 fn show_read(s: &[u8]) {
-    match sheet::read_sheet(s) {
+    match read_sheet::read_sheet(s) {
         SheetRead::Refused(r) => {
             io::write_all(STDOUT_FILENO, b"refused ");
             number(sheet::sheet_number(r) as usize);

@@ -553,7 +553,7 @@ fn put_back_sheet(s: &[u8], trace: &[u8], plan: &[u8], out: &mut [u8]) -> Extend
     ensures { λ r. ⌜ (r ≡ (afterCheck (problemOf layout (now (s .entry))) (now (plan .entry)) (now (out .entry)) (checkTrace (problemOf layout (now (s .entry))) (now (trace .entry)))) .answer) × (now (out .exit) ≡ (afterCheck (problemOf layout (now (s .entry))) (now (plan .entry)) (now (out .entry)) (checkTrace (problemOf layout (now (s .entry))) (now (trace .entry)))) .result) ⌝ }
 {
     let mut t = [0u16; 16416];
-    sheet::fill_table(s, &mut t);
+    table::fill_table(s, &mut t);
     put_back_over(&t, trace, plan, out)
 }
 
@@ -561,7 +561,7 @@ fn put_back_sheet(s: &[u8], trace: &[u8], plan: &[u8], out: &mut [u8]) -> Extend
 pub fn put_back(s: &[u8], trace: &[u8], plan: &[u8], out: &mut [u8]) -> Extended
     ensures { λ r. ⌜ (r ≡ (putBackJob (now (s .entry)) (now (trace .entry)) (now (plan .entry)) (now (out .entry))) .answer) × (now (out .exit) ≡ (putBackJob (now (s .entry)) (now (trace .entry)) (now (plan .entry)) (now (out .entry))) .result) ⌝ }
 {
-    let read = sheet::read_sheet(s);
+    let read = read_sheet::read_sheet(s);
     match read {
         SheetRead::Refused(r) => Extended::Refused(ExtendRefusal::Sheet(r)),
         SheetRead::Accepted {

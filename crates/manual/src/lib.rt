@@ -140,7 +140,7 @@ fn started(s: &[u8]) -> StartAnswer
     ensures { λ r. ⌜ r ≡ startAnswer (startState (problemOf layout (now (s .entry)))) ⌝ }
 {
     let mut t = [0u16; 16416];
-    sheet::fill_table(s, &mut t);
+    table::fill_table(s, &mut t);
     let masks = start_masks(&t);
     let state = ManualState { masks };
     StartAnswer {
@@ -165,7 +165,7 @@ fn refused_start(r: SheetRefusal) -> StartAnswer
 pub fn start(s: &[u8]) -> StartAnswer
     ensures { λ r. ⌜ r ≡ startJob (now (s .entry)) ⌝ }
 {
-    let read = sheet::read_sheet(s);
+    let read = read_sheet::read_sheet(s);
     match read {
         SheetRead::Refused(r) => refused_start(r),
         SheetRead::Accepted { variables, blocks } => started(s),
@@ -306,7 +306,7 @@ fn called(s: &[u8], st: ManualState, i: u64) -> CallAnswer
     ensures { λ a. ⌜ a ≡ callOn (problemOf layout (now (s .entry))) st i ⌝ }
 {
     let mut t = [0u16; 16416];
-    sheet::fill_table(s, &mut t);
+    table::fill_table(s, &mut t);
     call_on(&t, st, i)
 }
 
@@ -314,7 +314,7 @@ fn called(s: &[u8], st: ManualState, i: u64) -> CallAnswer
 pub fn hand_call(s: &[u8], st: ManualState, i: u64) -> CallAnswer
     ensures { λ r. ⌜ r ≡ callJob (now (s .entry)) st i ⌝ }
 {
-    let read = sheet::read_sheet(s);
+    let read = read_sheet::read_sheet(s);
     match read {
         SheetRead::Refused(r) => refused_call(ManualRefusal::Sheet(r), st),
         SheetRead::Accepted { variables, blocks } => called(s, st, i),

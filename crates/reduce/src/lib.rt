@@ -85,7 +85,7 @@ fn run_sheet(s: &[u8], b: &mut [u8]) -> Reduced
     ensures { λ r. ⌜ (r ≡ (runDone (problemOf layout (now (s .entry))) (now (b .entry))) .answer) × (now (b .exit) ≡ (runDone (problemOf layout (now (s .entry))) (now (b .entry))) .buffer) ⌝ }
 {
     let mut t = [0u16; 16416];
-    sheet::fill_table(s, &mut t);
+    table::fill_table(s, &mut t);
     run_table(&t, b)
 }
 
@@ -105,7 +105,7 @@ fn run_read(s: &[u8], b: &mut [u8]) -> Reduced
     requires { ⌜ Keeps layout (now s) ⌝ }
     ensures { λ r. ⌜ (r ≡ (runJob (now (s .entry)) (now (b .entry))) .answer) × (now (b .exit) ≡ (runJob (now (s .entry)) (now (b .entry))) .buffer) ⌝ }
 {
-    if b.len() < 1 + 5 * sheet::size_sum(s) {
+    if b.len() < 1 + 5 * table::size_sum(s) {
         return refused(ReduceRefusal::Buffer);
     }
     run_sheet(s, b)
@@ -115,7 +115,7 @@ fn run_read(s: &[u8], b: &mut [u8]) -> Reduced
 pub fn reduce(s: &[u8], b: &mut [u8]) -> Reduced
     ensures { λ r. ⌜ (r ≡ (runJob (now (s .entry)) (now (b .entry))) .answer) × (now (b .exit) ≡ (runJob (now (s .entry)) (now (b .entry))) .buffer) ⌝ }
 {
-    match sheet::read_sheet(s) {
+    match read_sheet::read_sheet(s) {
         SheetRead::Refused(r) => refused(ReduceRefusal::Sheet(r)),
         SheetRead::Accepted {
             variables: _,

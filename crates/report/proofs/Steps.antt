@@ -10,7 +10,7 @@ use Rattle.jobs.specs.Print.{decimal, stepText, stepLines}
 use Rattle.jobs.specs.declared.RecordRead.the-variants.{Read, End, Malformed}
 use Rattle.trace.specs.Written.{written}
 use Rattle.trace.proofs.Written.{written-nil, length-written}
-use Rattle.text.proofs.Laws.{Puts, after}
+use Rattle.fields.proofs.Laws.{Puts, after}
 use Rattle.report.specs.Records.{recordsIn}
 use Rattle.report.proofs.Records.{one-read, none-read, end-read, malformed-read}
 

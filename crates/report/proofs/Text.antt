@@ -33,7 +33,7 @@ use Rattle.jobs.specs.declared.ReduceOutcome.the-variants.{Done, Refused}
 use Rattle.jobs.proofs.Opened.{run-sheet-refused, run-accepted}
 use Rattle.trace.specs.Written.{written}
 use Rattle.trace.proofs.Written.{written-front}
-use Rattle.text.proofs.Laws.{Puts, after}
+use Rattle.fields.proofs.Laws.{Puts, after}
 use Rattle.report.specs.Records.{recordsIn}
 use Rattle.report.specs.Report.{reportRoom, reportText, Ran}
 use Rattle.report.proofs.Counting.{active-counted, values-counted}

@@ -94,7 +94,7 @@ fn put_run(out: &mut [u8], s: &[u8], trace: &[u8], end: End, steps: usize, m: Ma
     ensures within { λ r. ⌜ r ≤ reportRoom ⌝ }
 {
     let n = s[5] as usize;
-    let sum = sheet::size_sum(s);
+    let sum = table::size_sum(s);
     let variables = count_bits(m.active, 32);
     let values = count_values(m);
     let p = text::put_first_line(out, 0, n, sum);

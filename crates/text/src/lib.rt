@@ -1,82 +1,19 @@
 // The program's lines, written into a lent buffer at a place. Each function answers the place after its text.
-use problem::End;
-use problem::Record;
 ghost use mathlib.Core.Path.{_≡_};
-ghost use mathlib.Core.List.{_∷_, [], _++_};
+ghost use mathlib.Core.List.{_∷_, _++_, []};
 ghost use Prim.Native.Nat.{_+_, _<_, _≤_};
 ghost use lib.ListN.{length};
-ghost use Rattle.jobs.specs.Print.{decimal, field, sheetWord, refusedWord, stepText, endWord, refusedLine};
+ghost use Rattle.jobs.specs.Print.{decimal, field, sheetWord, stepText, endWord, refusedLine};
 ghost use Rattle.trace.specs.Written.{written, Small};
 ghost use Rattle.text.specs.Parts.{stepWord, stepFields};
-
-// ---- bytes and words
-
-// One byte.
-fn put_byte(out: &mut [u8], at: usize, v: u8) -> usize
-    requires { ⌜ at + 1 ≤ length (now out) ⌝ }
-    ensures text { λ r. ⌜ (now (out .exit) ≡ written (now (out .entry)) at (v ∷ [])) × (r ≡ at + length (v ∷ [])) ⌝ }
-{
-    out[at] = v;
-    at + 1
-}
-
-// A byte string.
-fn put_bytes(out: &mut [u8], at: usize, w: &[u8]) -> usize
-    requires { ⌜ at + length (now w) ≤ length (now out) ⌝ }
-    ensures text { λ r. ⌜ (now (out .exit) ≡ written (now (out .entry)) at (now (w .entry))) × (r ≡ at + length (now (w .entry))) ⌝ }
-{
-    let mut j: usize = 0;
-    while j < w.len() {
-        out[at + j] = w[j];
-        j += 1;
-    }
-    at + j
-}
-
-// ---- numbers
-
-// A number in decimal digits: those before the last one, if any, and the last one.
-fn put_decimal(out: &mut [u8], at: usize, x: usize) -> usize
-    requires { ⌜ (x < 100000) × (at + 5 ≤ length (now out)) ⌝ }
-    ensures text { λ r. ⌜ (now (out .exit) ≡ written (now (out .entry)) at (decimal x)) × (r ≡ at + length (decimal x)) ⌝ }
-    ensures within { λ r. ⌜ r ≤ at + 5 ⌝ }
-{
-    if x < 10 {
-        return put_byte(out, at, (48 + x) as u8);
-    }
-    let p = put_decimal(out, at, x / 10);
-    put_byte(out, p, (48 + x % 10) as u8)
-}
-
-// A space and a number.
-fn put_field(out: &mut [u8], at: usize, x: usize) -> usize
-    requires { ⌜ (x < 100000) × (at + 6 ≤ length (now out)) ⌝ }
-    ensures text { λ r. ⌜ (now (out .exit) ≡ written (now (out .entry)) at (field x)) × (r ≡ at + length (field x)) ⌝ }
-    ensures within { λ r. ⌜ r ≤ at + 6 ⌝ }
-{
-    let p = put_byte(out, at, 32);
-    put_decimal(out, p, x)
-}
-
-// Two fields.
-fn put_two(out: &mut [u8], at: usize, x: usize, y: usize) -> usize
-    requires { ⌜ (x < 100000) × ((y < 100000) × (at + 12 ≤ length (now out))) ⌝ }
-    ensures text { λ r. ⌜ (now (out .exit) ≡ written (now (out .entry)) at (field x ++ field y)) × (r ≡ at + length (field x ++ field y)) ⌝ }
-    ensures within { λ r. ⌜ r ≤ at + 12 ⌝ }
-{
-    let p = put_field(out, at, x);
-    put_field(out, p, y)
-}
-
-// Three fields.
-fn put_three(out: &mut [u8], at: usize, x: usize, y: usize, z: usize) -> usize
-    requires { ⌜ (x < 100000) × ((y < 100000) × ((z < 100000) × (at + 18 ≤ length (now out)))) ⌝ }
-    ensures text { λ r. ⌜ (now (out .exit) ≡ written (now (out .entry)) at (field x ++ (field y ++ field z))) × (r ≡ at + length (field x ++ (field y ++ field z))) ⌝ }
-    ensures within { λ r. ⌜ r ≤ at + 18 ⌝ }
-{
-    let p = put_field(out, at, x);
-    put_two(out, p, y, z)
-}
+use fields::put_byte;
+use fields::put_bytes;
+use fields::put_decimal;
+use fields::put_field;
+use fields::put_three;
+use fields::put_two;
+use problem::End;
+use problem::Record;
 
 // ---- lines
 

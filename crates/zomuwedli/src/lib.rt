@@ -94,7 +94,7 @@ fn put_state(b: &mut [u8], m: Masks)
 pub extern "C" fn zomuwedli_read(sheet: &[u8]) -> u64
     ensures { λ r. ⌜ r ≡ readCall (now (sheet .entry)) ⌝ }
 {
-    match sheet::read_sheet(sheet) {
+    match read_sheet::read_sheet(sheet) {
         SheetRead::Refused(r) => sheet::sheet_number(r) as u64,
         SheetRead::Accepted { variables, blocks } => 256 * (variables as u64 + 256 * blocks as u64),
     }

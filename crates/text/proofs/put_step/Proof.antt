@@ -3,7 +3,8 @@ use borrow.Author.Needs.{needs}
 use native.Mathlib.Omega.{arith}
 use Prim.Native.Nat.{_≤_}
 use lib.ListN.{length}
-use Rattle.text.proofs.Laws.{after, step-parts}
+use Rattle.fields.proofs.Laws.{after}
+use Rattle.text.proofs.Steps.{step-parts}
 use Rattle.text.proofs.put_step.Statement.{statement}
 use Rattle.text.proofs.put_step.Tie as tie
 
