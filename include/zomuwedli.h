@@ -1,17 +1,26 @@
 /* Zomuwedli for C: every job of the proved library, over numbers and byte buffers. What each job does is in docs/FORMAT.md; the answers and
- * the bytes of a state are under "The state's bytes and the C boundary".
+ * the bytes of a state are under "The state's bytes and the C boundary". Programs that use it stand in examples/c/.
  *
- * Link target/staticlib/libzomuwedli.a, which `rt staticlib zomuwedli` writes for x86-64 Linux. It allocates nothing, keeps nothing between calls,
- * so that threads need no lock, and calls nothing of the C library but memset and memcpy (tests/callers looks at the archive).
+ * Link libzomuwedli.a, which `rt staticlib zomuwedli` writes to target/staticlib/ for x86-64 Linux. It allocates nothing, keeps nothing
+ * between calls, so that threads need no lock, and calls nothing of the C library but memset and memcpy (tests/callers looks at the
+ * archive). The functions that are written out here are the caller's own code and nothing of them is proved; tests/boundary.c tries them.
  *
  * Buffers. Each is an address and then a length in bytes. It is read, and written, within that length only. An address is not followed
  * where the length is 0. The caller's part, which nothing checks: the lengths are those of its memory, and a buffer that a call writes
  * overlaps no other buffer of that call.
  *
  * Answers. Each call answers one number. Its low byte, zomuwedli_number(answer), is 0 where the job was done, and otherwise the one number
- * of the call's first fault: 1 to 20 as in the table of docs/FORMAT.md, "Where each thing is turned away", 200 and 201 as below. A refused
- * call changes no byte of any buffer. The other fields of an answer are 0 where the call was refused; the functions after each declaration
- * take them out.
+ * of the call's first fault, as ZOMUWEDLI_REFUSALS lists them. A refused call changes no byte of any buffer. The other fields of an answer
+ * are 0 where the call was refused; the functions after each declaration take them out.
+ *
+ * Stack. No contract speaks of it. Leave each call as much as its constant says, which is above what tests/stack.c measures on sheets of
+ * 32 items of 16 settings and a trace of 512 records:
+ *
+ *     zomuwedli_read         ZOMUWEDLI_READ_STACK         4 KiB
+ *     zomuwedli_run          ZOMUWEDLI_RUN_STACK         40 KiB
+ *     zomuwedli_start        ZOMUWEDLI_START_STACK       40 KiB
+ *     zomuwedli_hand_call    ZOMUWEDLI_HAND_CALL_STACK   40 KiB
+ *     zomuwedli_put_back     ZOMUWEDLI_PUT_BACK_STACK   320 KiB, since it keeps a state for each record of the trace
  */
 #ifndef ZOMUWEDLI_H
 #define ZOMUWEDLI_H
@@ -22,6 +31,13 @@
 #ifdef __cplusplus
 extern "C" {
 #endif
+
+/* The version, and as one number to compare with: 100 for 0.1.0, 10203 for 1.2.3. */
+#define ZOMUWEDLI_VERSION_MAJOR 0
+#define ZOMUWEDLI_VERSION_MINOR 1
+#define ZOMUWEDLI_VERSION_PATCH 0
+#define ZOMUWEDLI_VERSION "0.1.0"
+#define ZOMUWEDLI_VERSION_NUMBER (ZOMUWEDLI_VERSION_MAJOR * 10000 + ZOMUWEDLI_VERSION_MINOR * 100 + ZOMUWEDLI_VERSION_PATCH)
 
 /* The longest sheet, the most items, and the most settings of one item. */
 #define ZOMUWEDLI_MAX_SHEET 16904
@@ -38,25 +54,73 @@ extern "C" {
 /* The bytes of a hand state. It has a length of its own; today its bytes are those of a run's state. */
 #define ZOMUWEDLI_HAND_STATE_LENGTH 68
 
-/* The boundary's own refusals. They come before every other. */
-#define ZOMUWEDLI_BAD_STATE 200      /* the run's state buffer is not ZOMUWEDLI_STATE_LENGTH bytes */
-#define ZOMUWEDLI_BAD_HAND_STATE 201 /* the hand state buffer is not ZOMUWEDLI_HAND_STATE_LENGTH bytes */
-
-/* How a run ends. */
-#define ZOMUWEDLI_IMPOSSIBLE 0 /* an item in has no setting on: the full sheet has no plan */
-#define ZOMUWEDLI_SOLVED 1     /* no item is in: the full sheet has a plan, and putting back gives one */
-#define ZOMUWEDLI_REST 2       /* items are in and no rule holds: a search decides */
-
-/* Stack to leave for a call, and for putting back, which keeps a state for each record of the trace. No contract speaks of the stack:
- * these are above what tests/stack.c measured, on sheets of 32 items of 16 settings and a trace of 512 records. */
-#define ZOMUWEDLI_STACK (40 * 1024)
-#define ZOMUWEDLI_PUT_BACK_STACK (256 * 1024)
-
 /* The plan's byte for an item that is out. */
 #define ZOMUWEDLI_OUT 255
 
+/* The stack for each call, as above, and for any but putting back. */
+#define ZOMUWEDLI_READ_STACK (4 * 1024)
+#define ZOMUWEDLI_RUN_STACK (40 * 1024)
+#define ZOMUWEDLI_START_STACK (40 * 1024)
+#define ZOMUWEDLI_HAND_CALL_STACK (40 * 1024)
+#define ZOMUWEDLI_PUT_BACK_STACK (320 * 1024)
+#define ZOMUWEDLI_STACK (40 * 1024)
+
+/* ---- The refusals: the constant, the number and the text of each. The numbers are those of docs/FORMAT.md, "Where each thing is turned
+ * away"; in which order they are looked for stands with each call. A new number is one line here. */
+#define ZOMUWEDLI_REFUSALS(ROW) \
+    /* the sheet, in every call */ \
+    ROW(ZOMUWEDLI_REFUSED_SHEET_FRONT, 1, "the sheet has fewer than 8 bytes") \
+    ROW(ZOMUWEDLI_REFUSED_SHEET_VERSION, 2, "byte 0 of the sheet is not 1") \
+    ROW(ZOMUWEDLI_REFUSED_SHEET_LENGTH, 3, "the sheet's stated length is not the length lent") \
+    ROW(ZOMUWEDLI_REFUSED_ITEM_COUNT, 4, "the number of items is 0 or above 32") \
+    ROW(ZOMUWEDLI_REFUSED_ITEM_SIZE, 5, "a size is missing, 0 or above 16") \
+    ROW(ZOMUWEDLI_REFUSED_BLOCK_BYTES, 6, "a block's bytes are missing or cut short, or bytes are left over after the blocks") \
+    ROW(ZOMUWEDLI_REFUSED_BLOCK_ORDER, 7, "a block is without i < j < n, or not after the block before") \
+    ROW(ZOMUWEDLI_REFUSED_ROW_BEYOND, 8, "a row has a bit for a setting that item j lacks") \
+    ROW(ZOMUWEDLI_REFUSED_BARS_NOTHING, 9, "a block bars nothing") \
+    /* the run */ \
+    ROW(ZOMUWEDLI_REFUSED_TRACE_BUFFER, 10, "the trace buffer is shorter than 1 + 5 x the sum of the sizes") \
+    /* the hand call */ \
+    ROW(ZOMUWEDLI_REFUSED_STATE_MISFIT, 11, "the state does not fit the sheet") \
+    ROW(ZOMUWEDLI_REFUSED_ITEM_NOT_IN, 12, "the named item is not on the sheet or not in") \
+    ROW(ZOMUWEDLI_REFUSED_ITEM_EMPTY, 13, "some item in has no setting on") \
+    ROW(ZOMUWEDLI_REFUSED_NO_SNAKE, 14, "the snake rule holds for no setting of the named item") \
+    /* putting back; 18 and 20 come before 15 */ \
+    ROW(ZOMUWEDLI_REFUSED_TRACE_FRONT, 15, "the trace has no byte, or its byte 0 is not 1") \
+    ROW(ZOMUWEDLI_REFUSED_RECORD_SHAPE, 16, "a record is cut short, of an unknown kind, or has a wrong length byte") \
+    ROW(ZOMUWEDLI_REFUSED_RECORD_UNLAWFUL, 17, "a record is not lawful in the state reached, or an item in has no setting on there") \
+    ROW(ZOMUWEDLI_REFUSED_PLAN_LENGTH, 18, "the plan does not have one byte for each item") \
+    ROW(ZOMUWEDLI_REFUSED_PLAN_UNFIT, 19, "the plan has an item out that is not 255, a setting not on, or a barred pair") \
+    ROW(ZOMUWEDLI_REFUSED_RESULT_LENGTH, 20, "the result buffer does not have one byte for each item") \
+    /* the boundary's own, before every other of their calls */ \
+    ROW(ZOMUWEDLI_REFUSED_RUN_STATE_LENGTH, 200, "the buffer for the run's state is not 68 bytes") \
+    ROW(ZOMUWEDLI_REFUSED_HAND_STATE_LENGTH, 201, "the buffer for the hand state is not 68 bytes")
+
+#define ZOMUWEDLI_CONSTANT_ROW(name, number, text) name = number,
+#define ZOMUWEDLI_TEXT_ROW(name, number, text) \
+    case number: \
+        return text;
+
+enum zomuwedli_refusal { ZOMUWEDLI_DONE = 0, ZOMUWEDLI_REFUSALS(ZOMUWEDLI_CONSTANT_ROW) };
+
+/* The shorter names of the boundary's two. */
+#define ZOMUWEDLI_BAD_STATE ZOMUWEDLI_REFUSED_RUN_STATE_LENGTH
+#define ZOMUWEDLI_BAD_HAND_STATE ZOMUWEDLI_REFUSED_HAND_STATE_LENGTH
+
 /* 0, or the number of the first fault. */
 static inline unsigned zomuwedli_number(uint64_t answer) { return (unsigned)(answer & 0xff); }
+
+/* What a number says, without a full stop, for a message. Never NULL. */
+static inline const char *zomuwedli_text(unsigned number)
+{
+    switch (number) {
+        ZOMUWEDLI_REFUSALS(ZOMUWEDLI_TEXT_ROW)
+    case ZOMUWEDLI_DONE:
+        return "done";
+    default:
+        return "no refusal has this number";
+    }
+}
 
 /* ---- The read check: whether the bytes are a sheet. Refused: 1 to 9. */
 uint64_t zomuwedli_read(const uint8_t *sheet, size_t sheet_length);
@@ -69,6 +133,11 @@ static inline unsigned zomuwedli_blocks(uint64_t answer) { return (unsigned)(ans
  * 1 + 5 x the sum of the sizes. */
 uint64_t zomuwedli_run(const uint8_t *sheet, size_t sheet_length, uint8_t *trace, size_t trace_length, uint8_t *state,
                        size_t state_length);
+
+/* How a run ends. */
+#define ZOMUWEDLI_IMPOSSIBLE 0 /* an item in has no setting on: the full sheet has no plan */
+#define ZOMUWEDLI_SOLVED 1     /* no item is in: the full sheet has a plan, and putting back gives one */
+#define ZOMUWEDLI_REST 2       /* items are in and no rule holds: a search decides */
 
 static inline unsigned zomuwedli_end(uint64_t answer) { return (unsigned)(answer >> 8 & 0xff); }
 static inline unsigned zomuwedli_steps(uint64_t answer) { return (unsigned)(answer >> 16 & 0xffff); }
@@ -101,6 +170,95 @@ static inline uint16_t zomuwedli_settings_on(const uint8_t *state, unsigned i)
 {
     return (uint16_t)(state[4 + 2 * i] << 8 | state[5 + 2 * i]);
 }
+
+/* ---- What a trace's bytes say. Byte 0 is the version, 1; then each record is a length byte, which counts the fields after it, and the
+ * fields, one byte each: the kind, the item i, a third and, in some kinds, a fourth. The kinds, by number, fields and word; what each does
+ * is in docs/FORMAT.md, "State and the five rules". */
+#define ZOMUWEDLI_KINDS(ROW) \
+    ROW(ZOMUWEDLI_BARE, 1, 4, "bare")   /* third b, fourth k: setting b of i has no partner at item k, and is switched off */ \
+    ROW(ZOMUWEDLI_SNAKE, 2, 3, "snake") /* third v: i is taken out with setting v */ \
+    ROW(ZOMUWEDLI_FOLD, 3, 3, "fold")   /* third j: i is taken out, and goes where item j goes */ \
+    ROW(ZOMUWEDLI_COVER, 4, 4, "cover") /* third b, fourth a: setting b of i is switched off, since a covers it */ \
+    ROW(ZOMUWEDLI_SLIDE, 5, 4, "slide") /* third b, fourth a: setting b of i is switched off, since it can slide to a */
+
+#define ZOMUWEDLI_KIND_ROW(name, kind, fields, word) name = kind,
+#define ZOMUWEDLI_FIELDS_ROW(name, kind, fields, word) \
+    case kind: \
+        return fields;
+#define ZOMUWEDLI_WORD_ROW(name, kind, fields, word) \
+    case kind: \
+        return word;
+
+enum zomuwedli_kind { ZOMUWEDLI_KINDS(ZOMUWEDLI_KIND_ROW) };
+
+/* How many fields a record of this kind has, or 0 where there is no such kind. */
+static inline unsigned zomuwedli_kind_fields(unsigned kind)
+{
+    switch (kind) {
+        ZOMUWEDLI_KINDS(ZOMUWEDLI_FIELDS_ROW)
+    default:
+        return 0;
+    }
+}
+
+/* The word of a kind. Never NULL. */
+static inline const char *zomuwedli_kind_text(unsigned kind)
+{
+    switch (kind) {
+        ZOMUWEDLI_KINDS(ZOMUWEDLI_WORD_ROW)
+    default:
+        return "unknown";
+    }
+}
+
+struct zomuwedli_record {
+    unsigned fields; /* 4, or 3 */
+    unsigned kind;   /* ZOMUWEDLI_BARE and so on */
+    unsigned item;   /* i */
+    unsigned third;  /* b, v or j, by the kind */
+    unsigned fourth; /* k or a, by the kind; 0 in a record of 3 fields */
+};
+
+/* Where the first record of a trace begins. */
+#define ZOMUWEDLI_TRACE_FIRST 1
+
+/* Takes the record that begins at byte *at of the trace, and moves *at behind it. Answers 1 where there was one, 0 where *at is the trace's
+ * end, and -1 where the trace's front (15) or this record (16) is malformed; then nothing is moved or written. Whether a record is lawful
+ * is not looked at. No byte outside the length is read, whatever the bytes are and wherever *at is. To walk a trace:
+ *
+ *     size_t at = ZOMUWEDLI_TRACE_FIRST;
+ *     struct zomuwedli_record record;
+ *     int more;
+ *     while ((more = zomuwedli_next_record(trace, length, &at, &record)) == 1) { ... }
+ *     if (more < 0) { ... }
+ */
+static inline int zomuwedli_next_record(const uint8_t *trace, size_t length, size_t *at, struct zomuwedli_record *record)
+{
+    if (length == 0 || trace[0] != 1 || *at > length) {
+        return -1;
+    }
+    size_t left = length - *at;
+    if (left == 0) {
+        return 0;
+    }
+    const uint8_t *bytes = trace + *at;
+    if (left == 1 || bytes[0] == 0 || bytes[0] != zomuwedli_kind_fields(bytes[1]) || left - 1 < bytes[0]) {
+        return -1;
+    }
+    record->fields = bytes[0];
+    record->kind = bytes[1];
+    record->item = bytes[2];
+    record->third = bytes[3];
+    record->fourth = bytes[0] == 4 ? bytes[4] : 0;
+    *at += 1 + (size_t)bytes[0];
+    return 1;
+}
+
+#undef ZOMUWEDLI_CONSTANT_ROW
+#undef ZOMUWEDLI_TEXT_ROW
+#undef ZOMUWEDLI_KIND_ROW
+#undef ZOMUWEDLI_FIELDS_ROW
+#undef ZOMUWEDLI_WORD_ROW
 
 #ifdef __cplusplus
 }

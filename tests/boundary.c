@@ -1,5 +1,7 @@
 /* Calls every function of include/zomuwedli.h from C, so that the header's declarations are tried against the library: answers, fields,
- * numbers of the boundary, bytes that a refusal leaves alone, and the longest trace there is. Says nothing where all is well. */
+ * each refusal by its constant, bytes that a refusal leaves alone, and the longest trace there is. Then what the header has of its own: the
+ * version, the texts, and walking a trace, which is held against putting back. Says nothing where all is well. */
+#include <limits.h>
 #include <stdio.h>
 #include <stdlib.h>
 
@@ -46,17 +48,37 @@ static const uint8_t sheet_b[] = {1, 0, 0, 0, 16, 2, 0, 1, 2, 2, 0, 1, 0, 2, 0, 
 /* C: three items of 2, each pair unequal. */
 static const uint8_t sheet_c[] = {1, 0, 0, 0, 29, 3, 0, 3, 2, 2, 2, 0, 1, 0, 2, 0, 1, 0, 2, 0, 2, 0, 1, 1, 2, 0, 2, 0, 1};
 
+/* D: two items of 1, the pair barred. */
+static const uint8_t sheet_d[] = {1, 0, 0, 0, 14, 2, 0, 1, 1, 1, 0, 1, 0, 0};
+
 static const uint8_t trace_b[] = {1, 3, 2, 0, 0, 3, 2, 1, 0};
+
+/* The read check of sheet B with one byte changed. */
+static uint64_t read_changed(size_t place, uint8_t value)
+{
+    uint8_t sheet[sizeof sheet_b];
+    memcpy(sheet, sheet_b, sizeof sheet);
+    sheet[place] = value;
+    return zomuwedli_read(sheet, sizeof sheet);
+}
 
 static void read_check(void)
 {
+    const uint8_t bars_nothing[] = {1, 0, 0, 0, 16, 2, 0, 1, 2, 2, 0, 1, 0, 3, 0, 3};
     uint64_t answer = zomuwedli_read(sheet_c, sizeof sheet_c);
-    EXPECT(zomuwedli_number(answer) == 0);
+    EXPECT(zomuwedli_number(answer) == ZOMUWEDLI_DONE);
     EXPECT(zomuwedli_items(answer) == 3);
     EXPECT(zomuwedli_blocks(answer) == 3);
-    EXPECT(zomuwedli_read(sheet_b, 7) == 1);
-    EXPECT(zomuwedli_read(sheet_b, 15) == 3);
-    EXPECT(zomuwedli_read(NULL, 0) == 1);
+    EXPECT(zomuwedli_read(NULL, 0) == ZOMUWEDLI_REFUSED_SHEET_FRONT);
+    EXPECT(zomuwedli_read(sheet_b, 7) == ZOMUWEDLI_REFUSED_SHEET_FRONT);
+    EXPECT(read_changed(0, 2) == ZOMUWEDLI_REFUSED_SHEET_VERSION);
+    EXPECT(zomuwedli_read(sheet_b, 15) == ZOMUWEDLI_REFUSED_SHEET_LENGTH);
+    EXPECT(read_changed(5, 33) == ZOMUWEDLI_REFUSED_ITEM_COUNT);
+    EXPECT(read_changed(8, 17) == ZOMUWEDLI_REFUSED_ITEM_SIZE);
+    EXPECT(read_changed(7, 2) == ZOMUWEDLI_REFUSED_BLOCK_BYTES);
+    EXPECT(read_changed(10, 1) == ZOMUWEDLI_REFUSED_BLOCK_ORDER);
+    EXPECT(read_changed(13, 4) == ZOMUWEDLI_REFUSED_ROW_BEYOND);
+    EXPECT(zomuwedli_read(bars_nothing, sizeof bars_nothing) == ZOMUWEDLI_REFUSED_BARS_NOTHING);
 }
 
 static void run_done(size_t trace_length)
@@ -89,18 +111,20 @@ static void run_refused(const uint8_t *sheet, size_t sheet_length, size_t trace_
 static void start_and_call(void)
 {
     uint8_t *state = lent(ZOMUWEDLI_HAND_STATE_LENGTH), started[ZOMUWEDLI_HAND_STATE_LENGTH];
-    EXPECT(zomuwedli_start(sheet_b, 15, state, ZOMUWEDLI_HAND_STATE_LENGTH) == 3);
+    EXPECT(zomuwedli_start(sheet_b, 15, state, ZOMUWEDLI_HAND_STATE_LENGTH) == ZOMUWEDLI_REFUSED_SHEET_LENGTH);
     EXPECT(as_lent(state, ZOMUWEDLI_HAND_STATE_LENGTH));
     EXPECT(zomuwedli_start(sheet_c, sizeof sheet_c, state, ZOMUWEDLI_HAND_STATE_LENGTH) == 0);
     EXPECT(zomuwedli_items_in(state) == 7);
     EXPECT(zomuwedli_settings_on(state, 2) == 3);
     EXPECT(zomuwedli_settings_on(state, 3) == 0);
     memcpy(started, state, sizeof started);
-    EXPECT(zomuwedli_hand_call(sheet_c, sizeof sheet_c, state, ZOMUWEDLI_HAND_STATE_LENGTH, 0) == 14);
-    EXPECT(zomuwedli_hand_call(sheet_c, sizeof sheet_c, state, ZOMUWEDLI_HAND_STATE_LENGTH, UINT64_MAX) == 12);
-    EXPECT(zomuwedli_hand_call(sheet_b, sizeof sheet_b, state, ZOMUWEDLI_HAND_STATE_LENGTH, 0) == 11);
-    EXPECT(zomuwedli_hand_call(sheet_b, 15, state, ZOMUWEDLI_HAND_STATE_LENGTH, 0) == 3);
+    EXPECT(zomuwedli_hand_call(sheet_c, sizeof sheet_c, state, ZOMUWEDLI_HAND_STATE_LENGTH, 0) == ZOMUWEDLI_REFUSED_NO_SNAKE);
+    EXPECT(zomuwedli_hand_call(sheet_c, sizeof sheet_c, state, ZOMUWEDLI_HAND_STATE_LENGTH, UINT64_MAX) == ZOMUWEDLI_REFUSED_ITEM_NOT_IN);
+    EXPECT(zomuwedli_hand_call(sheet_b, sizeof sheet_b, state, ZOMUWEDLI_HAND_STATE_LENGTH, 0) == ZOMUWEDLI_REFUSED_STATE_MISFIT);
+    EXPECT(zomuwedli_hand_call(sheet_b, 15, state, ZOMUWEDLI_HAND_STATE_LENGTH, 0) == ZOMUWEDLI_REFUSED_SHEET_LENGTH);
     EXPECT(memcmp(state, started, sizeof started) == 0);
+    EXPECT(zomuwedli_start(sheet_d, sizeof sheet_d, state, ZOMUWEDLI_HAND_STATE_LENGTH) == 0);
+    EXPECT(zomuwedli_hand_call(sheet_d, sizeof sheet_d, state, ZOMUWEDLI_HAND_STATE_LENGTH, 0) == ZOMUWEDLI_REFUSED_ITEM_EMPTY);
     EXPECT(zomuwedli_start(sheet_b, sizeof sheet_b, state, ZOMUWEDLI_HAND_STATE_LENGTH) == 0);
     uint64_t answer = zomuwedli_hand_call(sheet_b, sizeof sheet_b, state, ZOMUWEDLI_HAND_STATE_LENGTH, 1);
     EXPECT(zomuwedli_number(answer) == 0);
@@ -114,7 +138,7 @@ static void start_and_call(void)
 static void hand_state_refused(size_t length)
 {
     uint8_t *state = lent(length);
-    EXPECT(zomuwedli_start(sheet_b, sizeof sheet_b, state, length) == ZOMUWEDLI_BAD_HAND_STATE);
+    EXPECT(zomuwedli_start(sheet_b, sizeof sheet_b, state, length) == ZOMUWEDLI_REFUSED_HAND_STATE_LENGTH);
     EXPECT(zomuwedli_hand_call(sheet_b, sizeof sheet_b, state, length, 0) == ZOMUWEDLI_BAD_HAND_STATE);
     EXPECT(as_lent(state, length));
     free(state);
@@ -122,13 +146,14 @@ static void hand_state_refused(size_t length)
 
 static void put_back(void)
 {
-    const uint8_t plan[] = {ZOMUWEDLI_OUT, ZOMUWEDLI_OUT};
+    const uint8_t plan[] = {ZOMUWEDLI_OUT, ZOMUWEDLI_OUT}, slide[] = {1, 4, ZOMUWEDLI_SLIDE, 0, 0, 1};
     uint8_t *result = lent(2);
-    EXPECT(zomuwedli_put_back(sheet_b, sizeof sheet_b, trace_b, sizeof trace_b, plan, 1, result, 2) == 18);
-    EXPECT(zomuwedli_put_back(sheet_b, sizeof sheet_b, trace_b, sizeof trace_b, plan, 2, result, 1) == 20);
-    EXPECT(zomuwedli_put_back(sheet_b, sizeof sheet_b, NULL, 0, plan, 2, result, 2) == 15);
-    EXPECT(zomuwedli_put_back(sheet_b, sizeof sheet_b, trace_b, 8, plan, 2, result, 2) == 16);
-    EXPECT(zomuwedli_put_back(sheet_b, sizeof sheet_b, trace_b, 5, plan, 2, result, 2) == 19);
+    EXPECT(zomuwedli_put_back(sheet_b, sizeof sheet_b, trace_b, sizeof trace_b, plan, 1, result, 2) == ZOMUWEDLI_REFUSED_PLAN_LENGTH);
+    EXPECT(zomuwedli_put_back(sheet_b, sizeof sheet_b, trace_b, sizeof trace_b, plan, 2, result, 1) == ZOMUWEDLI_REFUSED_RESULT_LENGTH);
+    EXPECT(zomuwedli_put_back(sheet_b, sizeof sheet_b, NULL, 0, plan, 2, result, 2) == ZOMUWEDLI_REFUSED_TRACE_FRONT);
+    EXPECT(zomuwedli_put_back(sheet_b, sizeof sheet_b, trace_b, 8, plan, 2, result, 2) == ZOMUWEDLI_REFUSED_RECORD_SHAPE);
+    EXPECT(zomuwedli_put_back(sheet_b, sizeof sheet_b, slide, sizeof slide, plan, 2, result, 2) == ZOMUWEDLI_REFUSED_RECORD_UNLAWFUL);
+    EXPECT(zomuwedli_put_back(sheet_b, sizeof sheet_b, trace_b, 5, plan, 2, result, 2) == ZOMUWEDLI_REFUSED_PLAN_UNFIT);
     EXPECT(as_lent(result, 2));
     EXPECT(zomuwedli_put_back(sheet_b, sizeof sheet_b, trace_b, sizeof trace_b, plan, 2, result, 2) == 0);
     EXPECT(result[0] == 0 && result[1] == 1);
@@ -146,15 +171,162 @@ static void longest_trace(void)
     free(result);
 }
 
+static void version(void)
+{
+    char text[32];
+    snprintf(text, sizeof text, "%d.%d.%d", ZOMUWEDLI_VERSION_MAJOR, ZOMUWEDLI_VERSION_MINOR, ZOMUWEDLI_VERSION_PATCH);
+    EXPECT(strcmp(text, ZOMUWEDLI_VERSION) == 0);
+    EXPECT(ZOMUWEDLI_VERSION_MINOR < 100 && ZOMUWEDLI_VERSION_PATCH < 100);
+}
+
+/* The numbers that the format has. They stand here again, so that one that the header lacks is missed. */
+static int is_refusal(unsigned number) { return (number >= 1 && number <= 20) || number == 200 || number == 201; }
+
+/* Each refusal has a text of its own, 0 has "done", and every other number has one text, which is none of these. */
+static void texts(void)
+{
+    const char *unknown = zomuwedli_text(UINT_MAX);
+    EXPECT(strcmp(zomuwedli_text(0), "done") == 0);
+    EXPECT(strlen(unknown) > 8 && strcmp(unknown, "done") != 0);
+    for (unsigned number = 1; number < 300; number++) {
+        const char *text = zomuwedli_text(number);
+        if ((strcmp(text, unknown) != 0) != is_refusal(number) || strlen(text) < 8) {
+            printf("boundary: %u has the text: %s\n", number, text);
+            failures++;
+        }
+        for (unsigned other = 0; is_refusal(number) && other < number; other++) {
+            expect(strcmp(text, zomuwedli_text(other)) != 0, text);
+        }
+    }
+}
+
+static void kinds(void)
+{
+    static const char *const words[] = {"unknown", "bare", "snake", "fold", "cover", "slide", "unknown"};
+    for (unsigned kind = 0; kind < sizeof words / sizeof words[0]; kind++) {
+        expect(strcmp(zomuwedli_kind_text(kind), words[kind]) == 0, words[kind]);
+    }
+    EXPECT(ZOMUWEDLI_BARE == 1 && ZOMUWEDLI_SNAKE == 2 && ZOMUWEDLI_FOLD == 3 && ZOMUWEDLI_COVER == 4 && ZOMUWEDLI_SLIDE == 5);
+    EXPECT(zomuwedli_kind_fields(0) == 0 && zomuwedli_kind_fields(6) == 0 && zomuwedli_kind_fields(UINT_MAX) == 0);
+}
+
+static const uint8_t trace_of_all_kinds[] = {1, 4, 1, 2, 3, 4, 3, 2, 5, 6, 3, 3, 7, 8, 4, 4, 9, 10, 11, 4, 5, 12, 13, 255};
+
+static void walk_fields(void)
+{
+    static const struct zomuwedli_record expected[] = {
+        {4, ZOMUWEDLI_BARE, 2, 3, 4}, {3, ZOMUWEDLI_SNAKE, 5, 6, 0},     {3, ZOMUWEDLI_FOLD, 7, 8, 0},
+        {4, ZOMUWEDLI_COVER, 9, 10, 11}, {4, ZOMUWEDLI_SLIDE, 12, 13, 255},
+    };
+    struct zomuwedli_record record;
+    size_t at = ZOMUWEDLI_TRACE_FIRST;
+    for (unsigned k = 0; k < 5; k++) {
+        memset(&record, 0xa5, sizeof record);
+        EXPECT(zomuwedli_next_record(trace_of_all_kinds, sizeof trace_of_all_kinds, &at, &record) == 1);
+        EXPECT(record.fields == expected[k].fields && record.kind == expected[k].kind && record.item == expected[k].item);
+        EXPECT(record.third == expected[k].third && record.fourth == expected[k].fourth);
+    }
+    EXPECT(at == sizeof trace_of_all_kinds);
+    EXPECT(zomuwedli_next_record(trace_of_all_kinds, sizeof trace_of_all_kinds, &at, &record) == 0);
+    EXPECT(at == sizeof trace_of_all_kinds);
+}
+
+/* Every field goes here, so that the compiler keeps its reading, which memcheck looks at. */
+static volatile unsigned seen;
+
+/* Walks a copy of exactly so many bytes on the heap, so that memcheck sees a byte beyond it. Answers the records, or -1 - them where what
+ * stands after them is malformed. */
+static int walked(const uint8_t *bytes, size_t length)
+{
+    uint8_t *trace = lent(length);
+    struct zomuwedli_record record;
+    size_t at = ZOMUWEDLI_TRACE_FIRST, from = at;
+    int records = 0, more;
+    for (size_t k = 0; k < length; k++) {
+        trace[k] = bytes[k];
+    }
+    while ((more = zomuwedli_next_record(trace, length, &at, &record)) == 1) {
+        records++;
+        seen = record.item + record.third + record.fourth;
+        EXPECT((record.fields == 3 || record.fields == 4) && at == from + 1 + record.fields);
+        from = at;
+    }
+    EXPECT(more == 0 ? at == length : more == -1 && at == from);
+    free(trace);
+    return more == 0 ? records : -1 - records;
+}
+
+/* The trace of all kinds, cut to each of its lengths: a record is whole, or the cut shows. */
+static void walk_cut(void)
+{
+    static const int expected[] = {-1, 0, -1, -1, -1, -1, 1, -2, -2, -2, 2, -3, -3, -3, 3, -4, -4, -4, -4, 4, -5, -5, -5, -5, 5};
+    for (size_t length = 0; length <= sizeof trace_of_all_kinds; length++) {
+        EXPECT(walked(trace_of_all_kinds, length) == expected[length]);
+    }
+}
+
+/* A place that no record begins at is refused, and nothing is moved or written. */
+static void walk_astray(void)
+{
+    static const size_t places[] = {0, 2, sizeof trace_b + 1, SIZE_MAX};
+    const struct zomuwedli_record untouched = {91, 92, 93, 94, 95};
+    uint8_t *trace = lent(sizeof trace_b);
+    memcpy(trace, trace_b, sizeof trace_b);
+    for (unsigned k = 0; k < sizeof places / sizeof places[0]; k++) {
+        struct zomuwedli_record record = untouched;
+        size_t at = places[k];
+        EXPECT(zomuwedli_next_record(trace, sizeof trace_b, &at, &record) == -1);
+        EXPECT(at == places[k]);
+        EXPECT(memcmp(&record, &untouched, sizeof record) == 0);
+    }
+    free(trace);
+    struct zomuwedli_record record;
+    size_t at = 0;
+    EXPECT(zomuwedli_next_record(NULL, 0, &at, &record) == -1);
+}
+
+/* Putting back, on sheet B with both items left, of a trace of one record: the walk finds it malformed exactly where putting back does. */
+static void walk_as_put_back(const uint8_t *trace, size_t length)
+{
+    const uint8_t plan[] = {0, 1};
+    uint8_t result[2];
+    uint64_t number = zomuwedli_put_back(sheet_b, sizeof sheet_b, trace, length, plan, 2, result, 2);
+    int malformed = number == ZOMUWEDLI_REFUSED_TRACE_FRONT || number == ZOMUWEDLI_REFUSED_RECORD_SHAPE;
+    EXPECT((walked(trace, length) < 0) == malformed);
+}
+
+/* Every length byte and kind near the known ones and at the far end, whole and cut at each place, under each version. */
+static void walk_shapes(void)
+{
+    static const uint8_t near[] = {0, 1, 2, 3, 4, 5, 6, 7, 254, 255};
+    for (unsigned k = 0; k < sizeof near; k++) {
+        for (unsigned j = 0; j < sizeof near; j++) {
+            const uint8_t good[] = {1, near[k], near[j], 0, 0, 1}, bad[] = {2, near[k], near[j], 0, 0, 1};
+            size_t whole = near[j] == ZOMUWEDLI_SNAKE || near[j] == ZOMUWEDLI_FOLD ? 5 : 6;
+            for (size_t length = 0; length <= whole; length++) {
+                walk_as_put_back(good, length);
+                walk_as_put_back(bad, length);
+            }
+        }
+    }
+}
+
 int main(void)
 {
+    version();
+    texts();
+    kinds();
+    walk_fields();
+    walk_cut();
+    walk_astray();
+    walk_shapes();
     read_check();
     run_done(21);
     run_done(ZOMUWEDLI_MAX_TRACE);
-    run_refused(sheet_b, sizeof sheet_b, 20, ZOMUWEDLI_STATE_LENGTH, 10);
-    run_refused(sheet_b, 7, 20, ZOMUWEDLI_STATE_LENGTH, 1);
+    run_refused(sheet_b, sizeof sheet_b, 20, ZOMUWEDLI_STATE_LENGTH, ZOMUWEDLI_REFUSED_TRACE_BUFFER);
+    run_refused(sheet_b, 7, 20, ZOMUWEDLI_STATE_LENGTH, ZOMUWEDLI_REFUSED_SHEET_FRONT);
     run_refused(sheet_b, 7, 20, ZOMUWEDLI_STATE_LENGTH - 1, ZOMUWEDLI_BAD_STATE);
-    run_refused(sheet_b, sizeof sheet_b, 21, ZOMUWEDLI_STATE_LENGTH + 1, ZOMUWEDLI_BAD_STATE);
+    run_refused(sheet_b, sizeof sheet_b, 21, ZOMUWEDLI_STATE_LENGTH + 1, ZOMUWEDLI_REFUSED_RUN_STATE_LENGTH);
     run_refused(sheet_b, sizeof sheet_b, 21, 0, ZOMUWEDLI_BAD_STATE);
     start_and_call();
     hand_state_refused(0);

@@ -129,6 +129,11 @@ static uint64_t put_back(const struct sheet *sheet)
 #define RUN_ANSWER(end, steps, bytes) ((uint64_t)(end) << 8 | (uint64_t)(steps) << 16 | (uint64_t)(bytes) << 32)
 #define AND(answer, figure) ((uint64_t)(answer) | (uint64_t)(figure) << 32)
 
+/* What is enough for any call but putting back is enough for each of them. */
+_Static_assert(ZOMUWEDLI_READ_STACK <= ZOMUWEDLI_STACK && ZOMUWEDLI_RUN_STACK <= ZOMUWEDLI_STACK
+                   && ZOMUWEDLI_START_STACK <= ZOMUWEDLI_STACK && ZOMUWEDLI_HAND_CALL_STACK <= ZOMUWEDLI_STACK,
+               "ZOMUWEDLI_STACK is less than some call's own");
+
 enum { MOST_CALLS = 5 };
 
 struct job {
@@ -146,9 +151,9 @@ static const struct job baseline = {"a thread alone", STACK, prepare_nothing, no
 
 /* The runs take steps of kinds 2, none, 1, 4 and 3; kind 5 never comes up in a run. */
 static const struct job jobs[] = {
-    {"read", ZOMUWEDLI_STACK, prepare_nothing, read_check, {{&no_block, READ_ANSWER(0)}, {&unequal, READ_ANSWER(496)}}},
+    {"read", ZOMUWEDLI_READ_STACK, prepare_nothing, read_check, {{&no_block, READ_ANSWER(0)}, {&unequal, READ_ANSWER(496)}}},
     {"run",
-     ZOMUWEDLI_STACK,
+     ZOMUWEDLI_RUN_STACK,
      prepare_nothing,
      run,
      {{&no_block, RUN_ANSWER(ZOMUWEDLI_SOLVED, 32, 1 + 4 * 32)},
@@ -157,12 +162,12 @@ static const struct job jobs[] = {
       {&parity, RUN_ANSWER(ZOMUWEDLI_REST, 448, 1 + 5 * 448)},
       {&equal, RUN_ANSWER(ZOMUWEDLI_SOLVED, 32, 1 + 4 * 32)}}},
     {"start",
-     ZOMUWEDLI_STACK,
+     ZOMUWEDLI_START_STACK,
      prepare_start,
      start,
      {{&no_block, AND(0, UINT32_MAX)}, {&unequal, AND(0, UINT32_MAX)}, {&less, AND(0, UINT32_MAX)}, {&parity, AND(0, UINT32_MAX)}}},
     {"hand call",
-     ZOMUWEDLI_STACK,
+     ZOMUWEDLI_HAND_CALL_STACK,
      prepare_hand_call,
      hand_call,
      {{&no_block, AND(0, UINT32_MAX >> 1)}, {&unequal, AND(14, UINT32_MAX)}, {&less, AND(13, UINT32_MAX)}, {&parity, AND(14, UINT32_MAX)}}},

@@ -1,13 +1,12 @@
 /* From a sheet to a finished plan: runs the sheet, searches a plan for the items left, puts the items taken out back, and prints the
  * setting of each item, or that the sheet has no plan. The search is a plain one, to show how the jobs fit together.
  *
- *     cc -I include include/plan_sheet.c target/staticlib/libzomuwedli.a -o plan_sheet
- *     ./plan_sheet examples/F.sheet
+ *     make examples
+ *     target/c/plan examples/F.sheet
  */
-#include <stdio.h>
 #include <string.h>
 
-#include "zomuwedli.h"
+#include "example.h"
 
 /* The rows of each two items, either way round: bit b of rows[i][j][a] is set where a of i and b of j may stand together. */
 static uint16_t rows[ZOMUWEDLI_MAX_ITEMS][ZOMUWEDLI_MAX_ITEMS][ZOMUWEDLI_MAX_SETTINGS];
@@ -70,50 +69,37 @@ static int search(const uint8_t *state, unsigned n, uint8_t *plan, unsigned i)
     return 0;
 }
 
-static void print_plan(const uint8_t *result, unsigned n)
-{
-    printf("plan");
-    for (unsigned i = 0; i < n; i++) {
-        printf(" %u", result[i]);
-    }
-    printf("\n");
-}
-
-/* 0, or the number of a refusal. */
-static unsigned finish(const uint8_t *sheet, size_t length)
+/* "no plan" is an answer, and no refusal. */
+static int print_finished(const char *name, const uint8_t *sheet, size_t length)
 {
     uint8_t trace[ZOMUWEDLI_MAX_TRACE], state[ZOMUWEDLI_STATE_LENGTH], plan[ZOMUWEDLI_MAX_ITEMS], result[ZOMUWEDLI_MAX_ITEMS];
     uint64_t answer = zomuwedli_run(sheet, length, trace, sizeof trace, state, sizeof state);
     if (zomuwedli_number(answer) != 0) {
-        return zomuwedli_number(answer);
+        return refuse(name, zomuwedli_number(answer));
     }
     unsigned n = sheet[5];
     fill_rows(sheet);
     if (!search(state, n, plan, 0)) {
         printf("no plan\n");
-        return 0;
+        return DONE;
     }
     answer = zomuwedli_put_back(sheet, length, trace, zomuwedli_written(answer), plan, n, result, n);
-    if (zomuwedli_number(answer) == 0) {
-        print_plan(result, n);
+    if (zomuwedli_number(answer) != 0) {
+        return refuse(name, zomuwedli_number(answer));
     }
-    return zomuwedli_number(answer);
+    print_plan(result, n);
+    return DONE;
 }
-
-static uint8_t sheet[ZOMUWEDLI_MAX_SHEET + 1];
 
 int main(int argc, char **argv)
 {
-    FILE *file = argc == 2 ? fopen(argv[1], "rb") : NULL;
-    if (file == NULL) {
-        fprintf(stderr, "usage: %s SHEET\n", argv[0]);
-        return 2;
+    static uint8_t sheet[SHEET_ROOM];
+    size_t length;
+    if (argc != 2) {
+        return usage(argv[0], "SHEET");
     }
-    size_t length = fread(sheet, 1, sizeof sheet, file);
-    fclose(file);
-    unsigned number = finish(sheet, length);
-    if (number != 0) {
-        printf("refused %u\n", number);
+    if (!read_file(argv[1], sheet, sizeof sheet, &length)) {
+        return FAILED;
     }
-    return 0;
+    return finish(print_finished(argv[1], sheet, length));
 }
