@@ -97,6 +97,11 @@ mod refusal;
 mod state;
 mod trace;
 
+/// So that the example in the README runs too.
+#[cfg(doctest)]
+#[doc = include_str!("../README.md")]
+mod readme {}
+
 pub use jobs::{hand_call, put_back, read, run, start, Accepted, End, Run, Taken};
 pub use refusal::Refusal;
 pub use state::{HandState, State};
