@@ -1,11 +1,10 @@
-//! Runs the four programs of examples/ and compares what they print, their status, and that standard error says why.
-//!
-//! `cargo test` builds the examples before it runs the tests; `cargo test --test examples` alone does not.
+//! Builds and runs the four programs of examples/, and compares what they print, their status, and that standard error says why.
 
 use std::ffi::OsStr;
 use std::fs::{self, File};
 use std::path::{Path, PathBuf};
 use std::process::{Command, Output, Stdio};
+use std::sync::OnceLock;
 
 /// The folder of the example sheets, with what is printed for each.
 fn sheets() -> PathBuf {
@@ -16,12 +15,29 @@ fn sheet(name: &str) -> String {
     sheets().join(name).with_extension("sheet").to_str().expect("a path in UTF-8").to_string()
 }
 
-/// The program of an example: cargo puts it beside the folder of the tests.
+/// The folder of the examples' programs. `cargo test --test examples` builds none of them, and older ones would pass for these: so they
+/// are built here, in the folder and the profile of this test.
+fn programs() -> &'static Path {
+    static PROGRAMS: OnceLock<PathBuf> = OnceLock::new();
+    PROGRAMS.get_or_init(|| {
+        let test = std::env::current_exe().expect("the path of this test");
+        let [_, _, profile, target] = *test.ancestors().take(4).collect::<Vec<_>>() else { panic!("TARGET/PROFILE/deps/TEST") };
+        let name = profile.file_name().expect("the name of the profile");
+        let name = if name == "debug" { OsStr::new("dev") } else { name };
+        let cargo = Command::new(env!("CARGO"))
+            .args(["build", "--examples", "--quiet", "--offline", "--locked", "--profile"])
+            .arg(name)
+            .arg("--target-dir")
+            .arg(target)
+            .current_dir(env!("CARGO_MANIFEST_DIR"))
+            .status();
+        assert!(cargo.expect("cargo runs").success(), "the examples are not built");
+        profile.join("examples")
+    })
+}
+
 fn program(example: &str) -> Command {
-    let tests = std::env::current_exe().expect("the path of this test");
-    let program = tests.ancestors().nth(2).expect("the folder of the profile").join("examples").join(example);
-    assert!(program.exists(), "{} is missing: cargo build --examples, in this profile", program.display());
-    Command::new(program)
+    Command::new(programs().join(example))
 }
 
 fn output(example: &str, arguments: &[&str]) -> Output {
