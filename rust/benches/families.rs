@@ -1,15 +1,19 @@
 //! Times the seven families of sheets of 32 items of 16 settings: the proved library, the reference and the fast implementation, side by
 //! side in one run. `families --count NAME IMPLEMENTATION REPETITIONS` runs one of them only, for counting instructions.
 
+#[path = "../tests/support/mod.rs"]
+mod support;
+
 use std::hint::black_box;
 use std::time::{Duration, Instant};
 
-use zomuwedli::boundary::{self, HandCall, PutBack, Run, Start, HAND_STATE_LENGTH, MOST_ITEMS, STATE_LENGTH};
-use zomuwedli::fast::Workspace;
-use zomuwedli::generate::{self, Random};
-use zomuwedli::reference::{self, State, OUT};
+use support::fast::Workspace;
+use support::generate::{self, Random};
+use support::proved::raw;
+use support::reference::{self, State};
+use support::{Answer, Done};
+use zomuwedli::{Taken, HAND_STATE_LENGTH, MAX_ITEMS, MAX_TRACE, OUT, STATE_LENGTH};
 
-const TRACE_LENGTH: usize = 1 + 5 * 512;
 const ROUNDS: usize = 7;
 /// A round repeats a call until it has taken about this long.
 const ROUND: Duration = Duration::from_millis(4);
@@ -33,33 +37,33 @@ impl Implementation {
         }
     }
 
-    fn run(&mut self, sheet: &[u8], trace: &mut [u8], state: &mut [u8]) -> Run {
+    fn run(&mut self, sheet: &[u8], trace: &mut [u8], state: &mut [u8]) -> Answer<Done> {
         match self {
-            Implementation::Proved => boundary::run(sheet, trace, state),
+            Implementation::Proved => raw::run(sheet, trace, state),
             Implementation::Reference => reference::run(sheet, trace, state),
             Implementation::Fast(workspace) => workspace.run(sheet, trace, state),
         }
     }
 
-    fn start(&mut self, sheet: &[u8], state: &mut [u8]) -> Start {
+    fn start(&mut self, sheet: &[u8], state: &mut [u8]) -> Answer<()> {
         match self {
-            Implementation::Proved => boundary::start(sheet, state),
+            Implementation::Proved => raw::start(sheet, state),
             Implementation::Reference => reference::start(sheet, state),
             Implementation::Fast(workspace) => workspace.start(sheet, state),
         }
     }
 
-    fn hand_call(&mut self, sheet: &[u8], state: &mut [u8], item: u64) -> HandCall {
+    fn hand_call(&mut self, sheet: &[u8], state: &mut [u8], item: u64) -> Answer<Taken> {
         match self {
-            Implementation::Proved => boundary::hand_call(sheet, state, item),
+            Implementation::Proved => raw::hand_call(sheet, state, item),
             Implementation::Reference => reference::hand_call(sheet, state, item),
             Implementation::Fast(workspace) => workspace.hand_call(sheet, state, item),
         }
     }
 
-    fn put_back(&mut self, sheet: &[u8], trace: &[u8], plan: &[u8], result: &mut [u8]) -> PutBack {
+    fn put_back(&mut self, sheet: &[u8], trace: &[u8], plan: &[u8], result: &mut [u8]) -> Answer<()> {
         match self {
-            Implementation::Proved => boundary::put_back(sheet, trace, plan, result),
+            Implementation::Proved => raw::put_back(sheet, trace, plan, result),
             Implementation::Reference => reference::put_back(sheet, trace, plan, result),
             Implementation::Fast(workspace) => workspace.put_back(sheet, trace, plan, result),
         }
@@ -75,7 +79,7 @@ struct Buffers {
 
 impl Buffers {
     fn new() -> Buffers {
-        Buffers { trace: vec![0; TRACE_LENGTH], state: vec![0; STATE_LENGTH], result: vec![0; MOST_ITEMS] }
+        Buffers { trace: vec![0; MAX_TRACE], state: vec![0; STATE_LENGTH], result: vec![0; MAX_ITEMS] }
     }
 
     fn clear(&mut self) {
@@ -87,15 +91,15 @@ impl Buffers {
 
 /// What a timed call answers.
 #[derive(Clone, Copy, PartialEq, Debug)]
-enum Answer {
-    Run(Run),
-    Start(Start),
+enum Timed {
+    Run(Answer<Done>),
+    Start(Answer<()>),
     TakenOut(usize),
-    PutBack(PutBack),
+    PutBack(Answer<()>),
 }
 
 /// One call to be timed: its answer and the buffers must be the same for all implementations.
-type Call<'a> = &'a dyn Fn(&mut Implementation, &mut Buffers) -> Answer;
+type Call<'a> = &'a dyn Fn(&mut Implementation, &mut Buffers) -> Timed;
 
 /// The time of one call.
 fn once(call: Call, implementation: &mut Implementation, buffers: &mut Buffers) -> Duration {
@@ -122,7 +126,7 @@ fn best(call: Call) -> [Duration; 3] {
 }
 
 /// What all three answer and write; stops where they differ.
-fn agreed(name: &str, call: Call) -> Answer {
+fn agreed(name: &str, call: Call) -> Timed {
     let [proved, reference, fast] = NAMES.map(|implementation| {
         let mut buffers = Buffers::new();
         let answer = call(&mut Implementation::named(implementation), &mut buffers);
@@ -140,31 +144,35 @@ fn agreed(name: &str, call: Call) -> Answer {
 
 fn print_row(name: &str, call: Call) {
     let answer = match agreed(name, call) {
-        Answer::Run(Run::Done { end, steps, .. }) => format!("{end:?}, {steps} steps"),
-        Answer::TakenOut(count) => format!("{count} taken out"),
-        answer => format!("{answer:?}"),
+        Timed::Run(Ok(Done { end, steps, .. })) => format!("{end:?}, {steps} steps"),
+        Timed::TakenOut(count) => format!("{count} taken out"),
+        Timed::Start(Ok(())) => "Start(Started)".to_string(),
+        Timed::PutBack(Ok(())) => "PutBack(Done)".to_string(),
+        Timed::Run(Err(fault)) => format!("Run({fault:?})"),
+        Timed::Start(Err(fault)) => format!("Start({fault:?})"),
+        Timed::PutBack(Err(fault)) => format!("PutBack({fault:?})"),
     };
     let [proved, reference, fast] = best(call).map(|time| time.as_nanos() as f64 / 1000.0);
     println!("{name:<40} {proved:>11.1} {:>11.3} {:>11.3}  {answer}", reference / proved, fast / proved);
 }
 
-fn run_call(sheet: &[u8]) -> impl Fn(&mut Implementation, &mut Buffers) -> Answer + '_ {
-    |implementation, buffers| Answer::Run(implementation.run(sheet, &mut buffers.trace, &mut buffers.state))
+fn run_call(sheet: &[u8]) -> impl Fn(&mut Implementation, &mut Buffers) -> Timed + '_ {
+    |implementation, buffers| Timed::Run(implementation.run(sheet, &mut buffers.trace, &mut buffers.state))
 }
 
 /// Calls every item once, the lowest first, from the state that a start answers.
-fn hand_list(sheet: &[u8]) -> impl Fn(&mut Implementation, &mut Buffers) -> Answer + '_ {
+fn hand_list(sheet: &[u8]) -> impl Fn(&mut Implementation, &mut Buffers) -> Timed + '_ {
     let start = started(sheet);
     move |implementation, buffers| {
         buffers.state.copy_from_slice(&start);
-        let call = |item: &usize| matches!(implementation.hand_call(sheet, &mut buffers.state, *item as u64), HandCall::Taken { .. });
-        Answer::TakenOut((0..MOST_ITEMS).filter(call).count())
+        let call = |item: &usize| implementation.hand_call(sheet, &mut buffers.state, *item as u64).is_ok();
+        Timed::TakenOut((0..MAX_ITEMS).filter(call).count())
     }
 }
 
 fn started(sheet: &[u8]) -> Vec<u8> {
     let mut state = vec![0; HAND_STATE_LENGTH];
-    assert_eq!(boundary::start(sheet, &mut state), Start::Started);
+    assert_eq!(raw::start(sheet, &mut state), Ok(()));
     state
 }
 
@@ -172,23 +180,23 @@ fn started(sheet: &[u8]) -> Vec<u8> {
 /// when the whole trace has been judged.
 fn trace_and_plan(sheet: &[u8]) -> (Vec<u8>, Vec<u8>) {
     let mut buffers = Buffers::new();
-    let Run::Done { written, .. } = boundary::run(sheet, &mut buffers.trace, &mut buffers.state) else {
+    let Ok(Done { written, .. }) = raw::run(sheet, &mut buffers.trace, &mut buffers.state) else {
         panic!("the sheets of the families keep the layout");
     };
     let (problem, _) = reference::read_sheet(sheet).expect("the sheets of the families keep the layout");
     let left = State::from_bytes(&buffers.state);
-    let lowest = || (0..MOST_ITEMS).map(|i| left.live(i).first().map_or(OUT, |&a| a as u8)).collect();
+    let lowest = || (0..MAX_ITEMS).map(|i| left.live(i).first().map_or(OUT, |&a| a as u8)).collect();
     let plan = generate::find_plan(&mut Random::new(1), &problem, &left).unwrap_or_else(lowest);
-    (buffers.trace[..usize::from(written)].to_vec(), plan)
+    (buffers.trace[..written].to_vec(), plan)
 }
 
 fn print_put_back(name: &str, sheet: &[u8]) {
     let (trace, plan) = trace_and_plan(sheet);
-    print_row(name, &|implementation, buffers| Answer::PutBack(implementation.put_back(sheet, &trace, &plan, &mut buffers.result)));
+    print_row(name, &|implementation, buffers| Timed::PutBack(implementation.put_back(sheet, &trace, &plan, &mut buffers.result)));
 }
 
 fn print_start(name: &str, sheet: &[u8]) {
-    print_row(name, &|implementation, buffers| Answer::Start(implementation.start(sheet, &mut buffers.state)));
+    print_row(name, &|implementation, buffers| Timed::Start(implementation.start(sheet, &mut buffers.state)));
 }
 
 /// Prints the row of one family, by its name and its sheet.
@@ -216,7 +224,7 @@ fn count(family: &str, implementation: &str, repetitions: usize) {
     let (_, sheet) = families.iter().find(|(name, _)| *name == family).unwrap_or_else(|| panic!("no family {family}"));
     let (mut implementation, mut buffers) = (Implementation::named(implementation), Buffers::new());
     for _ in 0..repetitions {
-        black_box(implementation.run(black_box(sheet), &mut buffers.trace, &mut buffers.state));
+        let _ = black_box(implementation.run(black_box(sheet), &mut buffers.trace, &mut buffers.state));
     }
 }
 

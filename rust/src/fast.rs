@@ -1,22 +1,19 @@
 //! The five jobs written for speed, from docs/FORMAT.md: sets as bit masks, and the rows of every pair both ways in one dense table. The
-//! enums, the limits and the state with its bytes are those of the boundary; all else is written here.
+//! answers' types and the limits are those of the library; all else is written here. No part of the library: tests/support has it.
 //!
 //! Two facts save most of the work, and neither changes the trace. A state only ever shrinks, so a value that covers another at an item
 //! covers it there for good: for each two values one mark, the lowest item at which the one may fail to cover the other, only moves up
 //! (`Reduction::gap`). And a rule that failed rests on a few items only: it is not tested again before one of them changes (`Failed`).
 
-use crate::boundary::{
-    End, HandCall, PutBack, Read, Refusal, Run, Start, State, HAND_STATE_LENGTH, MOST_ITEMS, MOST_SETTINGS, STATE_LENGTH,
-};
+use zomuwedli::{Accepted, End, Refusal, Taken, HAND_STATE_LENGTH, MAX_ITEMS, MAX_SETTINGS, OUT, STATE_LENGTH};
 
-/// The byte that a plan has for an item out.
-const OUT: u8 = 255;
+use super::{Answer, Done, Fault};
 
 /// What a mark says when no item is left at which a value fails to cover another.
-const NONE: usize = MOST_ITEMS;
+const NONE: usize = MAX_ITEMS;
 
-type Rows = [[[u16; MOST_ITEMS]; MOST_SETTINGS]; MOST_ITEMS];
-type Marks = [[[u8; MOST_SETTINGS]; MOST_SETTINGS]; MOST_ITEMS];
+type Rows = [[[u16; MAX_ITEMS]; MAX_SETTINGS]; MAX_ITEMS];
+type Marks = [[[u8; MAX_SETTINGS]; MAX_SETTINGS]; MAX_ITEMS];
 
 /// The members of a set, rising.
 fn members(set: u32) -> impl Iterator<Item = usize> {
@@ -34,11 +31,37 @@ fn values(set: u16) -> impl Iterator<Item = usize> {
 
 /// The set of all values below a size of 1 to 16.
 fn below(size: usize) -> u16 {
-    u16::MAX >> (MOST_SETTINGS - size)
+    u16::MAX >> (MAX_SETTINGS - size)
 }
 
 fn has(set: u32, member: usize) -> bool {
     member < 32 && set >> member & 1 == 1
+}
+
+/// A state: bit i of `items` for an item in, bit c of `settings[i]` for a setting on at it.
+#[derive(Clone)]
+pub struct State {
+    pub items: u32,
+    pub settings: [u16; MAX_ITEMS],
+}
+
+impl State {
+    /// The state that these bytes hold.
+    pub fn from_bytes(bytes: &[u8; STATE_LENGTH]) -> State {
+        let items = u32::from_be_bytes([bytes[0], bytes[1], bytes[2], bytes[3]]);
+        let settings = std::array::from_fn(|i| u16::from_be_bytes([bytes[4 + 2 * i], bytes[5 + 2 * i]]));
+        State { items, settings }
+    }
+
+    /// The bytes that hold this state.
+    pub fn to_bytes(&self) -> [u8; STATE_LENGTH] {
+        let mut bytes = [0; STATE_LENGTH];
+        bytes[..4].copy_from_slice(&self.items.to_be_bytes());
+        for (place, settings) in bytes[4..].chunks_exact_mut(2).zip(&self.settings) {
+            place.copy_from_slice(&settings.to_be_bytes());
+        }
+        bytes
+    }
 }
 
 // ---- The sheet ----------------------------------------------------------------------------------------------------------------------
@@ -46,31 +69,25 @@ fn has(set: u32, member: usize) -> bool {
 /// A sheet's table: `rows[i][a][j]` is the set of values of j allowed with value a of i. Where a pair has no block, and for j = i, all
 /// 16 bits are set: every use meets the row with values that are live.
 struct Table {
-    sizes: [usize; MOST_ITEMS],
+    sizes: [usize; MAX_ITEMS],
     count: usize,
     blocks: usize,
     rows: Rows,
     /// The values that some row gives nothing: they have no support before the first step.
-    unsupported: [u16; MOST_ITEMS],
+    unsupported: [u16; MAX_ITEMS],
 }
 
 impl Table {
     fn new() -> Table {
-        Table {
-            sizes: [0; MOST_ITEMS],
-            count: 0,
-            blocks: 0,
-            rows: [[[0; MOST_ITEMS]; MOST_SETTINGS]; MOST_ITEMS],
-            unsupported: [0; MOST_ITEMS],
-        }
+        Table { sizes: [0; MAX_ITEMS], count: 0, blocks: 0, rows: [[[0; MAX_ITEMS]; MAX_SETTINGS]; MAX_ITEMS], unsupported: [0; MAX_ITEMS] }
     }
 
     /// Reads a sheet into the table; a refused one leaves the table without meaning.
     fn fill(&mut self, sheet: &[u8]) -> Result<(), Refusal> {
         self.read_front(sheet)?;
         self.read_sizes(&sheet[8..])?;
-        self.rows[..self.count].fill([[u16::MAX; MOST_ITEMS]; MOST_SETTINGS]);
-        self.unsupported = [0; MOST_ITEMS];
+        self.rows[..self.count].fill([[u16::MAX; MAX_ITEMS]; MAX_SETTINGS]);
+        self.unsupported = [0; MAX_ITEMS];
         let mut rest = &sheet[8 + self.count..];
         let mut before = None;
         for _ in 0..self.blocks {
@@ -101,7 +118,7 @@ impl Table {
         }
         self.count = usize::from(sheet[5]);
         self.blocks = usize::from(u16::from_be_bytes([sheet[6], sheet[7]]));
-        if (1..=MOST_ITEMS).contains(&self.count) {
+        if (1..=MAX_ITEMS).contains(&self.count) {
             Ok(())
         } else {
             Err(Refusal::ItemCount)
@@ -112,7 +129,7 @@ impl Table {
         let sizes = bytes.get(..self.count).ok_or(Refusal::ItemSize)?;
         for (size, byte) in self.sizes.iter_mut().zip(sizes) {
             *size = usize::from(*byte);
-            if !(1..=MOST_SETTINGS).contains(size) {
+            if !(1..=MAX_SETTINGS).contains(size) {
                 return Err(Refusal::ItemSize);
             }
         }
@@ -127,7 +144,7 @@ impl Table {
         }
         let (lines, rest) = bytes.split_at(2 * size);
         let all = below(self.sizes[j]);
-        let mut block = [0; MOST_SETTINGS];
+        let mut block = [0; MAX_SETTINGS];
         for (row, line) in block.iter_mut().zip(lines.chunks_exact(2)) {
             *row = u16::from_be_bytes([line[0], line[1]]);
         }
@@ -142,7 +159,7 @@ impl Table {
         Ok(rest)
     }
 
-    fn enter(&mut self, i: usize, j: usize, block: &[u16; MOST_SETTINGS]) {
+    fn enter(&mut self, i: usize, j: usize, block: &[u16; MAX_SETTINGS]) {
         for (a, &row) in block[..self.sizes[i]].iter().enumerate() {
             self.rows[i][a][j] = row;
             self.unsupported[i] |= u16::from(row == 0) << a;
@@ -151,7 +168,7 @@ impl Table {
 
     fn full_state(&self) -> State {
         let settings = std::array::from_fn(|i| if i < self.count { below(self.sizes[i]) } else { 0 });
-        State { items: u32::MAX >> (MOST_ITEMS - self.count), settings }
+        State { items: u32::MAX >> (MAX_ITEMS - self.count), settings }
     }
 
     fn trace_length(&self) -> usize {
@@ -160,9 +177,9 @@ impl Table {
 }
 
 /// Bit a of row c for bit c of row a: squares off the diagonal are exchanged, 8 wide, then 4, 2 and 1.
-fn transposed(mut block: [u16; MOST_SETTINGS]) -> [u16; MOST_SETTINGS] {
+fn transposed(mut block: [u16; MAX_SETTINGS]) -> [u16; MAX_SETTINGS] {
     for (width, low) in [(8, 0x00ff), (4, 0x0f0f), (2, 0x3333), (1, 0x5555)] {
-        for a in (0..MOST_SETTINGS).filter(|a| a & width == 0) {
+        for a in (0..MAX_SETTINGS).filter(|a| a & width == 0) {
             let swap = ((block[a] >> width) ^ block[a + width]) & low;
             block[a] ^= swap << width;
             block[a + width] ^= swap;
@@ -284,18 +301,18 @@ impl Step {
 
 /// Tests of one kind, by variable and third field. A test that failed waits until one of the items that its failure rests on changes.
 struct Failed<const WIDTH: usize> {
-    rests_on: [[u32; WIDTH]; MOST_ITEMS],
-    waits: [u32; MOST_ITEMS],
+    rests_on: [[u32; WIDTH]; MAX_ITEMS],
+    waits: [u32; MAX_ITEMS],
     changed: u32,
 }
 
 impl<const WIDTH: usize> Failed<WIDTH> {
     fn new() -> Self {
-        Failed { rests_on: [[0; WIDTH]; MOST_ITEMS], waits: [0; MOST_ITEMS], changed: 0 }
+        Failed { rests_on: [[0; WIDTH]; MAX_ITEMS], waits: [0; MAX_ITEMS], changed: 0 }
     }
 
     fn clear(&mut self) {
-        self.waits = [0; MOST_ITEMS];
+        self.waits = [0; MAX_ITEMS];
         self.changed = 0;
     }
 
@@ -330,21 +347,21 @@ struct Reduction {
     state: State,
     emptied: bool,
     /// Values found without support at some other item; those still live are switched off next.
-    unsupported: [u16; MOST_ITEMS],
+    unsupported: [u16; MAX_ITEMS],
     /// `marks[i][b][a]`: below this item a covers b.
     marks: Marks,
-    snakes: Failed<MOST_SETTINGS>,
-    triangles: Failed<MOST_ITEMS>,
-    neighbourhoods: Failed<MOST_SETTINGS>,
+    snakes: Failed<MAX_SETTINGS>,
+    triangles: Failed<MAX_ITEMS>,
+    neighbourhoods: Failed<MAX_SETTINGS>,
 }
 
 impl Reduction {
     fn new() -> Reduction {
         Reduction {
-            state: State { items: 0, settings: [0; MOST_ITEMS] },
+            state: State { items: 0, settings: [0; MAX_ITEMS] },
             emptied: false,
-            unsupported: [0; MOST_ITEMS],
-            marks: [[[0; MOST_SETTINGS]; MOST_SETTINGS]; MOST_ITEMS],
+            unsupported: [0; MAX_ITEMS],
+            marks: [[[0; MAX_SETTINGS]; MAX_SETTINGS]; MAX_ITEMS],
             snakes: Failed::new(),
             triangles: Failed::new(),
             neighbourhoods: Failed::new(),
@@ -355,7 +372,7 @@ impl Reduction {
         self.emptied = members(state.items).any(|i| state.settings[i] == 0);
         self.state = state;
         self.unsupported = table.unsupported;
-        self.marks[..table.count].fill([[0; MOST_SETTINGS]; MOST_SETTINGS]);
+        self.marks[..table.count].fill([[0; MAX_SETTINGS]; MAX_SETTINGS]);
         self.snakes.clear();
         self.triangles.clear();
         self.neighbourhoods.clear();
@@ -389,7 +406,7 @@ impl Reduction {
     }
 
     fn take_out(&mut self, table: &Table, i: usize) {
-        let lost: [u16; MOST_ITEMS] = std::array::from_fn(|j| if j == i { 0 } else { table.lost(&self.state, i, j) });
+        let lost: [u16; MAX_ITEMS] = std::array::from_fn(|j| if j == i { 0 } else { table.lost(&self.state, i, j) });
         self.state.items &= !(1 << i);
         self.state.settings[i] = 0;
         self.note_changed(i);
@@ -564,25 +581,19 @@ impl Workspace {
     }
 
     /// Reads a sheet.
-    pub fn read(&mut self, sheet: &[u8]) -> Read {
-        match self.table.fill(sheet) {
-            Ok(()) => Read::Accepted { items: self.table.count as u8, blocks: self.table.blocks as u16 },
-            Err(refused) => Read::Refused(refused),
-        }
+    pub fn read(&mut self, sheet: &[u8]) -> Answer<Accepted> {
+        self.table.fill(sheet)?;
+        Ok(Accepted { items: self.table.count, blocks: self.table.blocks })
     }
 
     /// Runs a sheet to its end.
-    pub fn run(&mut self, sheet: &[u8], trace: &mut [u8], state: &mut [u8]) -> Run {
-        self.try_run(sheet, trace, state).unwrap_or_else(Run::Refused)
-    }
-
-    fn try_run(&mut self, sheet: &[u8], trace: &mut [u8], state: &mut [u8]) -> Result<Run, Refusal> {
+    pub fn run(&mut self, sheet: &[u8], trace: &mut [u8], state: &mut [u8]) -> Answer<Done> {
         if state.len() != STATE_LENGTH {
-            return Err(Refusal::RunStateLength);
+            return Err(Fault::RunStateLength);
         }
         self.table.fill(sheet)?;
         if trace.len() < self.table.trace_length() {
-            return Err(Refusal::TraceBuffer);
+            return Err(Refusal::TraceBuffer.into());
         }
         self.reduction.begin(&self.table, self.table.full_state());
         let mut steps = 0;
@@ -594,17 +605,13 @@ impl Workspace {
             steps += 1;
         }
         state.copy_from_slice(&self.reduction.state.to_bytes());
-        Ok(Run::Done { end: self.reduction.end(), steps, written: written as u16 })
+        Ok(Done { end: self.reduction.end(), steps, written })
     }
 
     /// Starts taking out by hand.
-    pub fn start(&mut self, sheet: &[u8], state: &mut [u8]) -> Start {
-        self.try_start(sheet, state).unwrap_or_else(Start::Refused)
-    }
-
-    fn try_start(&mut self, sheet: &[u8], state: &mut [u8]) -> Result<Start, Refusal> {
+    pub fn start(&mut self, sheet: &[u8], state: &mut [u8]) -> Answer<()> {
         if state.len() != HAND_STATE_LENGTH {
-            return Err(Refusal::HandStateLength);
+            return Err(Fault::HandStateLength);
         }
         self.table.fill(sheet)?;
         self.reduction.begin(&self.table, self.table.full_state());
@@ -612,61 +619,53 @@ impl Workspace {
             self.reduction.switch_off(&self.table, i, b);
         }
         state.copy_from_slice(&self.reduction.state.to_bytes());
-        Ok(Start::Started)
+        Ok(())
     }
 
     /// Takes one item out by hand.
-    pub fn hand_call(&mut self, sheet: &[u8], state: &mut [u8], item: u64) -> HandCall {
-        self.try_hand_call(sheet, state, item).unwrap_or_else(HandCall::Refused)
-    }
-
-    fn try_hand_call(&mut self, sheet: &[u8], state: &mut [u8], item: u64) -> Result<HandCall, Refusal> {
-        let bytes = <&[u8; HAND_STATE_LENGTH]>::try_from(&*state).map_err(|_| Refusal::HandStateLength)?;
+    pub fn hand_call(&mut self, sheet: &[u8], state: &mut [u8], item: u64) -> Answer<Taken> {
+        let bytes = <&[u8; HAND_STATE_LENGTH]>::try_from(&*state).map_err(|_| Fault::HandStateLength)?;
         let before = State::from_bytes(bytes);
         self.table.fill(sheet)?;
         if !self.fits(&before) {
-            return Err(Refusal::StateMisfit);
+            return Err(Refusal::StateMisfit.into());
         }
         let i = members(before.items).find(|&i| i as u64 == item).ok_or(Refusal::ItemNotIn)?;
         self.reduction.begin(&self.table, before);
         if self.reduction.emptied {
-            return Err(Refusal::ItemEmpty);
+            return Err(Refusal::ItemEmpty.into());
         }
         let live = self.reduction.state.settings[i];
         let v = values(live).find(|&v| self.reduction.snake_fails(&self.table, i, v).is_none()).ok_or(Refusal::NoSnake)?;
         self.reduction.take_out(&self.table, i);
         state.copy_from_slice(&self.reduction.state.to_bytes());
-        Ok(HandCall::Taken { setting: v as u8 })
+        Ok(Taken { setting: v as u8 })
     }
 
     fn fits(&self, state: &State) -> bool {
         let full = self.table.full_state();
         let fits = |i: usize| state.settings[i] & !full.settings[i] == 0 && (has(state.items, i) || state.settings[i] == 0);
-        state.items & !full.items == 0 && (0..MOST_ITEMS).all(fits)
+        state.items & !full.items == 0 && (0..MAX_ITEMS).all(fits)
     }
 
     /// Puts a plan for the items left back through a trace.
-    pub fn put_back(&mut self, sheet: &[u8], trace: &[u8], plan: &[u8], result: &mut [u8]) -> PutBack {
-        self.try_put_back(sheet, trace, plan, result).unwrap_or_else(PutBack::Refused)
-    }
-
-    fn try_put_back(&mut self, sheet: &[u8], trace: &[u8], plan: &[u8], result: &mut [u8]) -> Result<PutBack, Refusal> {
+    pub fn put_back(&mut self, sheet: &[u8], trace: &[u8], plan: &[u8], result: &mut [u8]) -> Answer<()> {
         self.table.fill(sheet)?;
         if plan.len() != self.table.count {
-            return Err(Refusal::PlanLength);
+            return Err(Refusal::PlanLength.into());
         }
         if result.len() != self.table.count {
-            return Err(Refusal::ResultLength);
+            return Err(Refusal::ResultLength.into());
         }
         let steps = self.replay(trace)?;
         if !self.table.is_solution(&self.reduction.state, plan) {
-            return Err(Refusal::PlanUnfit);
+            return Err(Refusal::PlanUnfit.into());
         }
         result.copy_from_slice(plan);
         for (before, step) in steps.iter().rev() {
             self.table.undo(before, *step, result);
         }
-        Ok(PutBack::Done)
+        Ok(())
     }
 
     /// The steps of a trace that take an item out, each with the state before it: the others change nothing when undone.

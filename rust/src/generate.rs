@@ -1,7 +1,10 @@
-//! Sheets, states, traces and plans for the comparisons, from a seed: lawful ones, and ones with a fault or several.
+//! Sheets, states, traces and plans for the comparisons, from a seed: lawful ones, and ones with a fault or several. No part of the
+//! library: tests/support has it.
 
-use crate::boundary::{State as Masks, MOST_ITEMS, MOST_SETTINGS, STATE_LENGTH};
-use crate::reference::{Problem, State, Step, OUT};
+use zomuwedli::{MAX_ITEMS, MAX_SETTINGS, OUT, STATE_LENGTH};
+
+use super::fast::State as Masks;
+use super::reference::{Problem, State, Step};
 
 /// A number that the environment gives, as a seed or a part of the sizes.
 pub fn from_environment(name: &str, default: u64) -> u64 {
@@ -36,7 +39,7 @@ impl Random {
     }
 
     /// A number from the first to the last.
-    pub fn from_to(&mut self, first: usize, last: usize) -> usize {
+    pub fn between(&mut self, first: usize, last: usize) -> usize {
         first + self.below(last - first + 1)
     }
 
@@ -151,7 +154,7 @@ impl Network {
             3 => Network::Cycle,
             4 => Network::Tree,
             5 => Network::Star,
-            6 => Network::Groups(random.from_to(2, 4)),
+            6 => Network::Groups(random.between(2, 4)),
             _ => Network::Sparse(random.pick(&[15, 30, 50, 70, 90])),
         }
     }
@@ -173,14 +176,14 @@ impl Network {
 fn random_sizes(random: &mut Random) -> Vec<u8> {
     let (n, most) = match random.below(1000) {
         0..=649 => (random.pick(&[1, 2, 3, 3, 4, 4, 5, 5, 6]), random.pick(&[2, 3, 3, 4])),
-        650..=849 => (random.from_to(2, 6), random.pick(&[3, 5, 6])),
-        850..=949 => (random.from_to(5, 9), random.pick(&[2, 3, 5, 8])),
-        950..=969 => (random.from_to(1, 6), MOST_SETTINGS),
-        970..=994 => (random.from_to(10, 20), random.pick(&[2, 3, 6])),
-        _ => (random.from_to(15, MOST_ITEMS), random.pick(&[1, 2, 4, MOST_SETTINGS])),
+        650..=849 => (random.between(2, 6), random.pick(&[3, 5, 6])),
+        850..=949 => (random.between(5, 9), random.pick(&[2, 3, 5, 8])),
+        950..=969 => (random.between(1, 6), MAX_SETTINGS),
+        970..=994 => (random.between(10, 20), random.pick(&[2, 3, 6])),
+        _ => (random.between(15, MAX_ITEMS), random.pick(&[1, 2, 4, MAX_SETTINGS])),
     };
     let alike = random.chance(40);
-    let size = |random: &mut Random| if alike { most } else { random.from_to(1, most) };
+    let size = |random: &mut Random| if alike { most } else { random.between(1, most) };
     (0..n).map(|_| size(random) as u8).collect()
 }
 
@@ -190,7 +193,7 @@ fn fill(random: &mut Random, sizes: Vec<u8>, network: Network) -> Draft {
     let style = random.below(3);
     let for_all = random.pick(&RELATIONS);
     let barred = random.pick(&[5, 20, 35, 45, 55, 70]);
-    let classes = random.pick(&[2, 3, MOST_SETTINGS, MOST_SETTINGS]);
+    let classes = random.pick(&[2, 3, MAX_SETTINGS, MAX_SETTINGS]);
     let n = sizes.len();
     let relations: Vec<Vec<bool>> = (0..n * n)
         .map(|pair| {
@@ -202,12 +205,10 @@ fn fill(random: &mut Random, sizes: Vec<u8>, network: Network) -> Draft {
                 1 => for_pair(a, b),
                 _ => !random.chance(barred),
             };
-            (0..MOST_SETTINGS * MOST_SETTINGS)
-                .map(|entry_of| !linked || entry(entry_of / MOST_SETTINGS, entry_of % MOST_SETTINGS))
-                .collect()
+            (0..MAX_SETTINGS * MAX_SETTINGS).map(|entry_of| !linked || entry(entry_of / MAX_SETTINGS, entry_of % MAX_SETTINGS)).collect()
         })
         .collect();
-    Draft::new(sizes, |i, a, j, b| relations[i * n + j][a % classes * MOST_SETTINGS + b % classes])
+    Draft::new(sizes, |i, a, j, b| relations[i * n + j][a % classes * MAX_SETTINGS + b % classes])
 }
 
 /// A sheet that keeps the layout.
@@ -220,14 +221,14 @@ pub fn random_draft(random: &mut Random) -> Draft {
 /// A sheet of 32 items of 16 settings with a block for each of the 496 pairs, or for some.
 pub fn large_draft(random: &mut Random) -> Draft {
     let network = if random.chance(60) { Network::Clique } else { Network::random(random) };
-    fill(random, vec![MOST_SETTINGS as u8; MOST_ITEMS], network)
+    fill(random, vec![MAX_SETTINGS as u8; MAX_ITEMS], network)
 }
 
 /// A small sheet of a few items, with a plan more often than not.
 pub fn small_draft(random: &mut Random) -> Draft {
-    let n = random.from_to(2, 5);
+    let n = random.between(2, 5);
     let least = random.pick(&[1, 2]);
-    let sizes = (0..n).map(|_| random.from_to(least, 3) as u8).collect();
+    let sizes = (0..n).map(|_| random.between(least, 3) as u8).collect();
     let network = Network::random(random);
     fill(random, sizes, network)
 }
@@ -270,9 +271,9 @@ fn damage_draft(random: &mut Random, draft: &mut Draft) {
             let item = random.below(draft.sizes.len());
             draft.sizes[item] = random.pick(&[0, 17, 255, 16, 1]);
         }
-        5 => draft.cut = random.from_to(1, 12),
+        5 => draft.cut = random.between(1, 12),
         6 => {
-            let length = if random.chance(5) { MANY } else { random.from_to(1, 3) };
+            let length = if random.chance(5) { MANY } else { random.between(1, 3) };
             draft.left_over = random.bytes(length);
         }
         7 => draft.block_count = Some((draft.blocks.len() as u16).wrapping_add(random.pick(&[1, 2, u16::MAX]))),
@@ -290,15 +291,15 @@ fn damage_block(random: &mut Random, draft: &mut Draft) {
     let other = random.below(draft.blocks.len());
     let n = draft.sizes.len() as u8;
     let block = &mut draft.blocks[place];
-    let size = usize::from(*draft.sizes.get(usize::from(block.j)).unwrap_or(&1)).clamp(1, MOST_SETTINGS);
+    let size = usize::from(*draft.sizes.get(usize::from(block.j)).unwrap_or(&1)).clamp(1, MAX_SETTINGS);
     match random.below(9) {
         0 => std::mem::swap(&mut block.i, &mut block.j),
         1 => block.i = block.j,
         2 => block.j = n.wrapping_add(random.pick(&[0, 1, 30])),
-        3 => block.rows.iter_mut().for_each(|row| *row = u16::MAX >> (MOST_SETTINGS - size)),
+        3 => block.rows.iter_mut().for_each(|row| *row = u16::MAX >> (MAX_SETTINGS - size)),
         4 | 5 if !block.rows.is_empty() => {
             let line = random.below(block.rows.len());
-            block.rows[line] |= 1 << random.from_to(size.min(MOST_SETTINGS - 1), MOST_SETTINGS - 1);
+            block.rows[line] |= 1 << random.between(size.min(MAX_SETTINGS - 1), MAX_SETTINGS - 1);
         }
         6 => {
             let repeated = block.clone();
@@ -331,9 +332,9 @@ fn damage_bytes(random: &mut Random, bytes: &mut Vec<u8>) {
 /// The seven families of sheets of 32 items of 16 settings that the program is timed on.
 pub fn families() -> Vec<(&'static str, Vec<u8>)> {
     let mut random = Random::new(1);
-    let linked: Vec<bool> = (0..MOST_ITEMS * MOST_ITEMS).map(|_| random.chance(15)).collect();
+    let linked: Vec<bool> = (0..MAX_ITEMS * MAX_ITEMS).map(|_| random.chance(15)).collect();
     let sheet =
-        |allowed: &mut dyn FnMut(usize, usize, usize, usize) -> bool| Draft::new(vec![MOST_SETTINGS as u8; MOST_ITEMS], allowed).bytes();
+        |allowed: &mut dyn FnMut(usize, usize, usize, usize) -> bool| Draft::new(vec![MAX_SETTINGS as u8; MAX_ITEMS], allowed).bytes();
     vec![
         ("no block", sheet(&mut |_, _, _, _| true)),
         ("every pair unequal", sheet(&mut |_, a, _, b| a != b)),
@@ -341,7 +342,7 @@ pub fn families() -> Vec<(&'static str, Vec<u8>)> {
         ("every pair of unlike parity", sheet(&mut |_, a, _, b| (a + b) % 2 == 1)),
         ("|a - b| >= 3 for every pair", sheet(&mut |_, a, _, b| a.abs_diff(b) >= 3)),
         ("eight groups of four, pairwise unequal", sheet(&mut |i, a, j, b| i / 4 != j / 4 || a != b)),
-        ("random, 15% of pairs, 30% barred", sheet(&mut |i, _, j, _| !linked[i * MOST_ITEMS + j] || !random.chance(30))),
+        ("random, 15% of pairs, 30% barred", sheet(&mut |i, _, j, _| !linked[i * MAX_ITEMS + j] || !random.chance(30))),
     ]
 }
 
@@ -351,7 +352,7 @@ pub fn families() -> Vec<(&'static str, Vec<u8>)> {
 pub fn fitting_state(random: &mut Random, problem: &Problem) -> Masks {
     let (stay, keep) = (random.pick(&[50, 80, 100]), random.pick(&[30, 60, 90, 100]));
     let may_be_empty = random.chance(30);
-    let mut state = Masks { items: 0, settings: [0; MOST_ITEMS] };
+    let mut state = Masks { items: 0, settings: [0; MAX_ITEMS] };
     for (i, &size) in problem.sizes().iter().enumerate() {
         if random.chance(stay) {
             state.items |= 1 << i;
@@ -367,15 +368,15 @@ pub fn fitting_state(random: &mut Random, problem: &Problem) -> Masks {
 /// A state with one thing that may speak against it: an item beyond the sheet, a setting at an item out, a setting beyond the size.
 pub fn misfitting_state(random: &mut Random, problem: &Problem) -> [u8; STATE_LENGTH] {
     let mut state = fitting_state(random, problem);
-    let i = random.below(MOST_ITEMS);
+    let i = random.below(MAX_ITEMS);
     match random.below(5) {
         0 => state.items |= 1 << i,
-        1 => state.settings[i] |= 1 << random.below(MOST_SETTINGS),
+        1 => state.settings[i] |= 1 << random.below(MAX_SETTINGS),
         2 => state.items &= !(1 << random.below(problem.sizes().len())),
         3 => {
             let item = random.below(problem.sizes().len());
-            let beyond = problem.sizes()[item].min(MOST_SETTINGS - 1);
-            state.settings[item] |= 1 << random.from_to(beyond, MOST_SETTINGS - 1);
+            let beyond = problem.sizes()[item].min(MAX_SETTINGS - 1);
+            state.settings[item] |= 1 << random.between(beyond, MAX_SETTINGS - 1);
         }
         _ => {
             let bytes = random.bytes(STATE_LENGTH);
@@ -404,7 +405,7 @@ pub fn lawful_steps(random: &mut Random, problem: &Problem) -> (Vec<Step>, State
     let mut state = State::full(problem);
     let mut steps = Vec::new();
     while steps.len() < most && !state.emptied() {
-        let kinds = [liked, random.from_to(1, 5), random.from_to(1, 5), 1, 2, 3, 4, 5];
+        let kinds = [liked, random.between(1, 5), random.between(1, 5), 1, 2, 3, 4, 5];
         let Some(step) = kinds.into_iter().find_map(|kind| lawful_step(random, problem, &state, kind)) else {
             break;
         };
@@ -446,12 +447,12 @@ fn damage_records(random: &mut Random, records: &mut Vec<Vec<u8>>) {
         4 => records[place][1] = random.pick(&[0, 1, 2, 3, 4, 5, 6, 255]),
         5 => records[place][0] = random.pick(&[0, 1, 2, 3, 4, 5, 255]),
         6 => {
-            let field = random.from_to(2, records[place].len() - 1);
+            let field = random.between(2, records[place].len() - 1);
             records[place][field] = random.pick(&[0, 1, 2, 3, 15, 16, 31, 32, 33, 255]);
         }
         7 => {
             let (i, third, fourth) = (random.below(4) as u8, random.below(4) as u8, random.below(4) as u8);
-            let kind = random.from_to(1, 5) as u8;
+            let kind = random.between(1, 5) as u8;
             let record = if kind == 2 || kind == 3 { vec![3, kind, i, third] } else { vec![4, kind, i, third, fourth] };
             records.insert(place, record);
         }

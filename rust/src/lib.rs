@@ -2,28 +2,183 @@
 //!
 //! A *sheet* lists items, the settings of each, and which settings of two items may stand together. A run crosses off settings and takes
 //! out items that cannot matter, and writes each step into a trace; a plan for the items left is put back through the trace into a plan
-//! of the full sheet. Here two items of two settings each are unequal: the run takes out both, and nothing is left to plan.
+//! of the full sheet. What each job does, byte for byte, is in docs/FORMAT.md of the repository.
+//!
+//! | job | refused, by number |
+//! |---|---|
+//! | [`read`]: whether bytes are a sheet | 1 to 9 |
+//! | [`run`]: works a sheet down to its end | 1 to 9, 10 |
+//! | [`start`]: starts taking items out by hand | 1 to 9 |
+//! | [`hand_call`]: takes one item out by hand | 1 to 9, 11, 12, 13, 14 |
+//! | [`put_back`]: from a trace and a plan for the items left, the plan of the full sheet | 1 to 9, 18, 20, 15, 16, 17, 19 |
+//!
+//! Each answers a `Result`, and a refused call changes no byte that was lent to it. The library allocates nothing, keeps nothing between
+//! calls and may be called from several threads. [`records`] takes a trace apart and [`trace_of`] writes one; these two are plain Rust.
+//!
+//! Here two items of two settings each are unequal: the run takes out both, and nothing is left to plan.
 //!
 //! ```
-//! use zomuwedli::boundary::{put_back, run, End, PutBack, Run, STATE_LENGTH};
+//! use zomuwedli::{put_back, run, End, MAX_TRACE, OUT};
 //!
 //! let sheet = [1, 0, 0, 0, 16, 2, 0, 1, 2, 2, 0, 1, 0, 2, 0, 1];
-//! let mut trace = [0; 1 + 5 * 4];
-//! let mut state = [0; STATE_LENGTH];
-//! assert_eq!(run(&sheet, &mut trace, &mut state), Run::Done { end: End::Solved, steps: 2, written: 9 });
-//! assert_eq!(trace[..9], [1, 3, 2, 0, 0, 3, 2, 1, 0]);
+//! let mut trace = [0; MAX_TRACE];
+//! let run = run(&sheet, &mut trace)?;
+//! assert_eq!(run.end, End::Solved);
 //!
 //! let mut plan = [0; 2];
-//! assert_eq!(put_back(&sheet, &trace[..9], &[255, 255], &mut plan), PutBack::Done);
+//! put_back(&sheet, &trace[..run.written], &[OUT, OUT], &mut plan)?;
 //! assert_eq!(plan, [0, 1]);
+//! # Ok::<(), zomuwedli::Refusal>(())
 //! ```
-//!
-//! [`boundary`] wraps the five functions of the proved library. [`mod@reference`] and [`fast`] are two further implementations, one for
-//! clarity and one for speed: the tests compare all three. Each has its own reading, rules and jobs; both answer with the enums of
-//! [`boundary`], and [`fast`] keeps its states in the type there. [`generate`] makes what is compared on, lawful traces by the reference's
-//! rules.
 
-pub mod boundary;
-pub mod fast;
-pub mod generate;
-pub mod reference;
+#![deny(missing_docs)]
+#![deny(unsafe_code)]
+#![deny(unsafe_op_in_unsafe_fn)]
+
+// reference.rs, fast.rs and generate.rs beside this file are no part of the library: tests/support has them.
+#[allow(unsafe_code)]
+mod boundary;
+/// An answer that is dropped is warned of, here as an error: each of these five does not compile.
+///
+/// ```compile_fail
+/// # #![deny(unused_must_use)]
+/// # fn dropped() -> Result<(), zomuwedli::Refusal> {
+/// zomuwedli::read(&[])?;
+/// # Ok(())
+/// # }
+/// ```
+///
+/// ```compile_fail
+/// # #![deny(unused_must_use)]
+/// # fn dropped() -> Result<(), zomuwedli::Refusal> {
+/// zomuwedli::run(&[], &mut [])?;
+/// # Ok(())
+/// # }
+/// ```
+///
+/// ```compile_fail
+/// # #![deny(unused_must_use)]
+/// # fn dropped() -> Result<(), zomuwedli::Refusal> {
+/// zomuwedli::start(&[])?;
+/// # Ok(())
+/// # }
+/// ```
+///
+/// ```compile_fail
+/// # #![deny(unused_must_use)]
+/// # fn dropped(state: &mut zomuwedli::HandState) -> Result<(), zomuwedli::Refusal> {
+/// zomuwedli::hand_call(&[], state, 0)?;
+/// # Ok(())
+/// # }
+/// ```
+///
+/// ```compile_fail
+/// # #![deny(unused_must_use)]
+/// # fn dropped() {
+/// zomuwedli::put_back(&[], &[], &[], &mut []);
+/// # }
+/// ```
+///
+/// And each is right but for that:
+///
+/// ```
+/// # #![deny(unused_must_use)]
+/// # fn kept(state: &mut zomuwedli::HandState) -> Result<(), zomuwedli::Refusal> {
+/// let _ = zomuwedli::read(&[])?;
+/// let _ = zomuwedli::run(&[], &mut [])?;
+/// let _ = zomuwedli::start(&[])?;
+/// let _ = zomuwedli::hand_call(&[], state, 0)?;
+/// let _ = zomuwedli::put_back(&[], &[], &[], &mut []);
+/// # Ok(())
+/// # }
+/// ```
+mod jobs;
+mod refusal;
+mod state;
+mod trace;
+
+/// So that the example in the README runs too.
+#[cfg(doctest)]
+#[doc = include_str!("../README.md")]
+mod readme {}
+
+pub use jobs::{hand_call, put_back, read, run, start, Accepted, End, Run, Taken};
+pub use refusal::Refusal;
+pub use state::{HandState, State};
+pub use trace::{records, trace_of, Record, Records};
+
+/// The most items that a sheet has.
+///
+/// ```
+/// // A plan for any sheet, every item out.
+/// let plan = [zomuwedli::OUT; zomuwedli::MAX_ITEMS];
+/// assert_eq!(plan.len(), 32);
+/// ```
+pub const MAX_ITEMS: usize = 32;
+
+/// The most settings that an item has.
+///
+/// ```
+/// assert_eq!(zomuwedli::MAX_SETTINGS, 16);
+/// ```
+pub const MAX_SETTINGS: usize = 16;
+
+/// The bytes of the longest sheet: its front, a size for each item, and a block of 16 rows for each two items.
+///
+/// ```
+/// use std::io::Read;
+///
+/// // One byte more than the longest sheet has, so that a longer file is refused and not cut to a sheet.
+/// fn sheet(file: impl Read) -> std::io::Result<Vec<u8>> {
+///     let mut bytes = Vec::new();
+///     file.take(zomuwedli::MAX_SHEET as u64 + 1).read_to_end(&mut bytes)?;
+///     Ok(bytes)
+/// }
+///
+/// assert_eq!(sheet(std::io::repeat(1))?.len(), 16_905);
+/// # Ok::<(), std::io::Error>(())
+/// ```
+pub const MAX_SHEET: usize = 8 + MAX_ITEMS + MAX_ITEMS * (MAX_ITEMS - 1) / 2 * (2 + 2 * MAX_SETTINGS);
+
+/// The most records of a lawful trace, a run's own or not: each uses up at least one setting.
+///
+/// ```
+/// assert_eq!(zomuwedli::MAX_RECORDS, 512);
+/// ```
+pub const MAX_RECORDS: usize = MAX_ITEMS * MAX_SETTINGS;
+
+/// The bytes of the longest lawful trace: a buffer that is long enough for every run.
+///
+/// ```
+/// assert_eq!(zomuwedli::MAX_TRACE, 2_561);
+/// assert!(zomuwedli::run(&[1, 0, 0, 0, 9, 1, 0, 0, 2], &mut [0; zomuwedli::MAX_TRACE]).is_ok());
+/// ```
+pub const MAX_TRACE: usize = 1 + 5 * MAX_RECORDS;
+
+/// The bytes of a run's state.
+///
+/// ```
+/// assert_eq!(zomuwedli::State::from_bytes([0; zomuwedli::STATE_LENGTH]).count_items(), 0);
+/// ```
+pub const STATE_LENGTH: usize = 68;
+
+/// The bytes of a hand state. It has a length of its own; today its bytes are those of a run's state.
+///
+/// ```
+/// let bytes: [u8; zomuwedli::HAND_STATE_LENGTH] = zomuwedli::start(&[1, 0, 0, 0, 9, 1, 0, 0, 2])?.to_bytes();
+/// assert_eq!(bytes[..6], [0, 0, 0, 1, 0, 3]);
+/// # Ok::<(), zomuwedli::Refusal>(())
+/// ```
+pub const HAND_STATE_LENGTH: usize = 68;
+
+/// The plan's byte for an item that is out.
+///
+/// ```
+/// use zomuwedli::{put_back, OUT};
+///
+/// let mut result = [0];
+/// put_back(&[1, 0, 0, 0, 9, 1, 0, 0, 2], &[1, 3, 2, 0, 1], &[OUT], &mut result)?;
+/// assert_eq!(result, [1]);
+/// # Ok::<(), zomuwedli::Refusal>(())
+/// ```
+pub const OUT: u8 = 255;

@@ -1,13 +1,13 @@
 //! The five jobs written from docs/FORMAT.md alone, for clarity: lists of items and settings, one function for each rule, and the
-//! sentence of that paper over it. The enums and the limits are those of the boundary; all else is written here.
+//! sentence of that paper over it. The answers' types and the limits are those of the library; all else is written here. No part of the
+//! library: tests/support has it.
 //!
 //! Its words and ours ("Terms" there): item, setting = variable, value; in, on = active, live; partner = support; plan = solution;
 //! covers = substitutes; bare, snake, fold, cover, slide = unsupported, snake, triangle, neighbourhood, snake substitution.
 
-use crate::boundary::{End, HandCall, PutBack, Read, Refusal, Run, Start, HAND_STATE_LENGTH, MOST_ITEMS, MOST_SETTINGS, STATE_LENGTH};
+use zomuwedli::{Accepted, End, Refusal, Taken, HAND_STATE_LENGTH, MAX_ITEMS, MAX_SETTINGS, OUT, STATE_LENGTH};
 
-/// The byte that a plan has for an item out.
-pub const OUT: u8 = 255;
+use super::{Answer, Done, Fault};
 
 /// What a sheet says: how many values each variable has, and which pairs are allowed.
 pub struct Problem {
@@ -19,12 +19,12 @@ pub struct Problem {
 impl Problem {
     /// "A pair with no block allows everything."
     fn without_blocks(sizes: Vec<usize>) -> Problem {
-        let settings = sizes.len() * MOST_SETTINGS;
+        let settings = sizes.len() * MAX_SETTINGS;
         Problem { sizes, table: vec![true; settings * settings] }
     }
 
     fn entry(&self, i: usize, a: usize, j: usize, b: usize) -> usize {
-        ((i * MOST_SETTINGS + a) * self.sizes.len() + j) * MOST_SETTINGS + b
+        ((i * MAX_SETTINGS + a) * self.sizes.len() + j) * MAX_SETTINGS + b
     }
 
     fn bar(&mut self, i: usize, a: usize, j: usize, b: usize) {
@@ -73,7 +73,7 @@ fn read_front(sheet: &[u8]) -> Result<(usize, usize), Refusal> {
     if u64::from(u32::from_be_bytes([l0, l1, l2, l3])) != sheet.len() as u64 {
         return Err(Refusal::SheetLength);
     }
-    if n == 0 || usize::from(n) > MOST_ITEMS {
+    if n == 0 || usize::from(n) > MAX_ITEMS {
         return Err(Refusal::ItemCount);
     }
     Ok((usize::from(n), usize::from(u16::from_be_bytes([m0, m1]))))
@@ -82,7 +82,7 @@ fn read_front(sheet: &[u8]) -> Result<(usize, usize), Refusal> {
 /// "A size is missing, 0 or above 16."
 fn read_sizes(bytes: &[u8], n: usize) -> Result<Vec<usize>, Refusal> {
     let sizes = bytes.get(..n).ok_or(Refusal::ItemSize)?;
-    if sizes.iter().any(|&size| size == 0 || usize::from(size) > MOST_SETTINGS) {
+    if sizes.iter().any(|&size| size == 0 || usize::from(size) > MAX_SETTINGS) {
         return Err(Refusal::ItemSize);
     }
     Ok(sizes.iter().map(|&size| usize::from(size)).collect())
@@ -133,7 +133,7 @@ pub struct State {
 impl State {
     /// "At first all items are in and all settings on."
     pub fn full(problem: &Problem) -> State {
-        let live = (0..MOST_ITEMS).map(|i| (0..problem.sizes.get(i).copied().unwrap_or(0)).collect());
+        let live = (0..MAX_ITEMS).map(|i| (0..problem.sizes.get(i).copied().unwrap_or(0)).collect());
         State { active: (0..problem.sizes.len()).collect(), live: live.collect() }
     }
 
@@ -142,8 +142,8 @@ impl State {
         let number = |bytes: &[u8]| bytes.iter().fold(0u32, |number, &byte| number << 8 | u32::from(byte));
         let members = |set: u32, most: usize| (0..most).filter(|c| set >> c & 1 == 1).collect::<Vec<_>>();
         State {
-            active: members(number(&bytes[..4]), MOST_ITEMS),
-            live: bytes[4..STATE_LENGTH].chunks(2).map(|set| members(number(set), MOST_SETTINGS)).collect(),
+            active: members(number(&bytes[..4]), MAX_ITEMS),
+            live: bytes[4..STATE_LENGTH].chunks(2).map(|set| members(number(set), MAX_SETTINGS)).collect(),
         }
     }
 
@@ -382,7 +382,7 @@ impl Problem {
     pub fn arc_consistent(&self, state: &State) -> State {
         let supported = |i: usize, a: usize| state.others(i).all(|j| self.has_support(state, i, a, j));
         let keep = |i: usize| state.live(i).iter().copied().filter(|&a| supported(i, a)).collect();
-        let kept = State { active: state.active.clone(), live: (0..MOST_ITEMS).map(keep).collect() };
+        let kept = State { active: state.active.clone(), live: (0..MAX_ITEMS).map(keep).collect() };
         if kept == *state {
             kept
         } else {
@@ -426,31 +426,25 @@ impl Problem {
 // ---- The jobs -----------------------------------------------------------------------------------------------------------------------
 
 /// Reads a sheet.
-pub fn read(sheet: &[u8]) -> Read {
-    match read_sheet(sheet) {
-        Ok((problem, blocks)) => Read::Accepted { items: problem.sizes.len() as u8, blocks: blocks as u16 },
-        Err(refused) => Read::Refused(refused),
-    }
+pub fn read(sheet: &[u8]) -> Answer<Accepted> {
+    let (problem, blocks) = read_sheet(sheet)?;
+    Ok(Accepted { items: problem.sizes.len(), blocks })
 }
 
 /// Runs a sheet to its end.
-pub fn run(sheet: &[u8], trace: &mut [u8], state: &mut [u8]) -> Run {
-    try_run(sheet, trace, state).unwrap_or_else(Run::Refused)
-}
-
-fn try_run(sheet: &[u8], trace: &mut [u8], state: &mut [u8]) -> Result<Run, Refusal> {
+pub fn run(sheet: &[u8], trace: &mut [u8], state: &mut [u8]) -> Answer<Done> {
     if state.len() != STATE_LENGTH {
-        return Err(Refusal::RunStateLength);
+        return Err(Fault::RunStateLength);
     }
     let (problem, _) = read_sheet(sheet)?;
     if trace.len() < 1 + 5 * problem.sizes.iter().sum::<usize>() {
-        return Err(Refusal::TraceBuffer);
+        return Err(Refusal::TraceBuffer.into());
     }
     let (steps, last) = problem.reduce();
     let written = trace_of(&steps);
     trace[..written.len()].copy_from_slice(&written);
     state.copy_from_slice(&last.to_bytes());
-    Ok(Run::Done { end: end(&last), steps: steps.len() as u16, written: written.len() as u16 })
+    Ok(Done { end: end(&last), steps: steps.len(), written: written.len() })
 }
 
 /// "The trace is byte 0, version 1, then one record a step."
@@ -470,40 +464,32 @@ fn end(last: &State) -> End {
 }
 
 /// "Starting answers the state with all items in and the largest sets of settings in which each has a partner at every other item."
-pub fn start(sheet: &[u8], state: &mut [u8]) -> Start {
-    try_start(sheet, state).unwrap_or_else(Start::Refused)
-}
-
-fn try_start(sheet: &[u8], state: &mut [u8]) -> Result<Start, Refusal> {
+pub fn start(sheet: &[u8], state: &mut [u8]) -> Answer<()> {
     if state.len() != HAND_STATE_LENGTH {
-        return Err(Refusal::HandStateLength);
+        return Err(Fault::HandStateLength);
     }
     let (problem, _) = read_sheet(sheet)?;
     state.copy_from_slice(&problem.arc_consistent(&State::full(&problem)).to_bytes());
-    Ok(Start::Started)
+    Ok(())
 }
 
 /// "A hand call names one item. It performs the snake step with the lowest fitting v and answers the new state and v."
-pub fn hand_call(sheet: &[u8], state: &mut [u8], item: u64) -> HandCall {
-    try_hand_call(sheet, state, item).unwrap_or_else(HandCall::Refused)
-}
-
-fn try_hand_call(sheet: &[u8], state: &mut [u8], item: u64) -> Result<HandCall, Refusal> {
+pub fn hand_call(sheet: &[u8], state: &mut [u8], item: u64) -> Answer<Taken> {
     if state.len() != HAND_STATE_LENGTH {
-        return Err(Refusal::HandStateLength);
+        return Err(Fault::HandStateLength);
     }
     let (problem, _) = read_sheet(sheet)?;
     let before = State::from_bytes(state);
     if !fits(&problem, &before) {
-        return Err(Refusal::StateMisfit);
+        return Err(Refusal::StateMisfit.into());
     }
     let i = named(&before, item).ok_or(Refusal::ItemNotIn)?;
     if before.emptied() {
-        return Err(Refusal::ItemEmpty);
+        return Err(Refusal::ItemEmpty.into());
     }
     let v = before.live(i).iter().copied().find(|&v| problem.snake(&before, i, v)).ok_or(Refusal::NoSnake)?;
     state.copy_from_slice(&problem.perform(&before, Step::Snake { i, v }).to_bytes());
-    Ok(HandCall::Taken { setting: v as u8 })
+    Ok(Taken { setting: v as u8 })
 }
 
 /// "An item in is not below n, an item out has a setting on, or a setting on is not below its size" speaks against a state.
@@ -511,8 +497,8 @@ fn fits(problem: &Problem, state: &State) -> bool {
     let below_n = |i: usize| i < problem.sizes.len();
     let below_size = |i: usize, c: usize| problem.sizes.get(i).is_some_and(|&size| c < size);
     state.active.iter().all(|&i| below_n(i))
-        && (0..MOST_ITEMS).all(|i| state.is_active(i) || state.live(i).is_empty())
-        && (0..MOST_ITEMS).all(|i| state.live(i).iter().all(|&c| below_size(i, c)))
+        && (0..MAX_ITEMS).all(|i| state.is_active(i) || state.live(i).is_empty())
+        && (0..MAX_ITEMS).all(|i| state.live(i).iter().all(|&c| below_size(i, c)))
 }
 
 /// The item that a hand call names, if it is in. "Named item not below n or not in"; items in are below n where the state fits.
@@ -521,21 +507,17 @@ fn named(state: &State, item: u64) -> Option<usize> {
 }
 
 /// Puts a plan for the items left back through a trace.
-pub fn put_back(sheet: &[u8], trace: &[u8], plan: &[u8], result: &mut [u8]) -> PutBack {
-    try_put_back(sheet, trace, plan, result).unwrap_or_else(PutBack::Refused)
-}
-
-fn try_put_back(sheet: &[u8], trace: &[u8], plan: &[u8], result: &mut [u8]) -> Result<PutBack, Refusal> {
+pub fn put_back(sheet: &[u8], trace: &[u8], plan: &[u8], result: &mut [u8]) -> Answer<()> {
     let (problem, _) = read_sheet(sheet)?;
     if plan.len() != problem.sizes.len() {
-        return Err(Refusal::PlanLength);
+        return Err(Refusal::PlanLength.into());
     }
     if result.len() != problem.sizes.len() {
-        return Err(Refusal::ResultLength);
+        return Err(Refusal::ResultLength.into());
     }
     let (steps, last) = replay(&problem, trace)?;
     if !problem.is_solution(&last, plan) {
-        return Err(Refusal::PlanUnfit);
+        return Err(Refusal::PlanUnfit.into());
     }
     let mut full = plan.to_vec();
     // "Records are undone last first, each against the state before it."
@@ -543,7 +525,22 @@ fn try_put_back(sheet: &[u8], trace: &[u8], plan: &[u8], result: &mut [u8]) -> R
         problem.undo(before, *step, &mut full);
     }
     result.copy_from_slice(&full);
-    Ok(PutBack::Done)
+    Ok(())
+}
+
+/// The steps that a trace's bytes say, lawful or not: the two faults of its shape alone.
+pub fn steps_of(trace: &[u8]) -> Result<Vec<Step>, Refusal> {
+    let [1, records @ ..] = trace else {
+        return Err(Refusal::TraceFront);
+    };
+    let mut rest = records;
+    let mut steps = Vec::new();
+    while !rest.is_empty() {
+        let (step, after) = Step::read(rest)?;
+        steps.push(step);
+        rest = after;
+    }
+    Ok(steps)
 }
 
 /// The steps of a trace, each with the state before it, and the last state. "No byte, or byte 0 is not 1"; then each record in turn:

@@ -1,8 +1,11 @@
-//! The bench sheets of docs/FORMAT.md, "Bench sheets", by the wrappers, with their bytes and what is expected written out.
+//! The bench sheets of docs/FORMAT.md, "Bench sheets", by both layers of the proved library (support/proved.rs), with their bytes and what
+//! is expected written out.
 
-use zomuwedli::boundary::{
-    hand_call, put_back, read, run, start, End, HandCall, PutBack, Read, Refusal, Run, Start, State, HAND_STATE_LENGTH, STATE_LENGTH,
-};
+mod support;
+
+use support::proved::{self, hand_call, put_back, read, run, start};
+use support::{Answer, Done, Fault};
+use zomuwedli::{Accepted, End, Refusal, State, Taken, HAND_STATE_LENGTH, STATE_LENGTH};
 
 const A: [u8; 9] = [1, 0, 0, 0, 9, 1, 0, 0, 2];
 const B: [u8; 16] = [1, 0, 0, 0, 16, 2, 0, 1, 2, 2, 0, 1, 0, 2, 0, 1];
@@ -51,30 +54,38 @@ fn untouched(buffer: &[u8]) -> bool {
     buffer.iter().all(|&byte| byte == OLD)
 }
 
+fn refuses<T>(refusal: Refusal) -> Answer<T> {
+    Err(Fault::Refused(refusal))
+}
+
 /// Runs a sheet in a buffer that is three bytes longer than asked for, and answers the end, the last state and the whole buffer.
-fn worked(sheet: &[u8], sum_of_sizes: usize) -> (Run, State, Vec<u8>) {
+fn worked(sheet: &[u8], sum_of_sizes: usize) -> (Answer<Done>, State, Vec<u8>) {
     let mut trace = vec![OLD; 1 + 5 * sum_of_sizes + 3];
     let mut state = [OLD; STATE_LENGTH];
     let answer = run(sheet, &mut trace, &mut state);
-    (answer, State::from_bytes(&state), trace)
+    (answer, State::from_bytes(state), trace)
 }
 
 /// The sheet runs to this end with this trace, with the buffer's old bytes after it; answers the last state.
-fn runs(sheet: &[u8], sum_of_sizes: usize, end: End, steps: u16, trace: &[u8]) -> State {
+fn runs(sheet: &[u8], sum_of_sizes: usize, end: End, steps: usize, trace: &[u8]) -> State {
     let (answer, state, buffer) = worked(sheet, sum_of_sizes);
-    assert_eq!(answer, Run::Done { end, steps, written: trace.len() as u16 });
+    assert_eq!(answer, Ok(Done { end, steps, written: trace.len() }));
     assert_eq!(buffer[..trace.len()], *trace);
     assert!(untouched(&buffer[trace.len()..]));
     state
 }
 
+/// The state with these items in and these settings on, as bits.
 fn state(items: u32, settings: &[u16]) -> State {
-    State { items, settings: std::array::from_fn(|i| settings.get(i).copied().unwrap_or(0)) }
+    let mut bytes = items.to_be_bytes().to_vec();
+    settings.iter().for_each(|set| bytes.extend(set.to_be_bytes()));
+    bytes.resize(STATE_LENGTH, 0);
+    proved::state(&bytes)
 }
 
 fn started(sheet: &[u8]) -> [u8; HAND_STATE_LENGTH] {
     let mut state = [OLD; HAND_STATE_LENGTH];
-    assert_eq!(start(sheet, &mut state), Start::Started);
+    assert_eq!(start(sheet, &mut state), Ok(()));
     state
 }
 
@@ -82,7 +93,7 @@ fn started(sheet: &[u8]) -> [u8; HAND_STATE_LENGTH] {
 fn hand_refused(sheet: &[u8], item: u64, refusal: Refusal) {
     let mut state = started(sheet);
     let given = state;
-    assert_eq!(hand_call(sheet, &mut state, item), HandCall::Refused(refusal));
+    assert_eq!(hand_call(sheet, &mut state, item), refuses(refusal));
     assert_eq!(state, given);
 }
 
@@ -90,30 +101,30 @@ fn hand_refused(sheet: &[u8], item: u64, refusal: Refusal) {
 fn refused(sheet: &[u8], number: u8) {
     let refusal = Refusal::from_number(number).unwrap();
     let (mut trace, mut state, mut result) = ([OLD; 21], [OLD; STATE_LENGTH], [OLD; 2]);
-    assert_eq!(read(sheet), Read::Refused(refusal));
-    assert_eq!(run(sheet, &mut trace, &mut state), Run::Refused(refusal));
+    assert_eq!(read(sheet), refuses(refusal));
+    assert_eq!(run(sheet, &mut trace, &mut state), refuses(refusal));
     assert!(untouched(&trace) && untouched(&state));
-    assert_eq!(start(sheet, &mut state), Start::Refused(refusal));
+    assert_eq!(start(sheet, &mut state), refuses(refusal));
     assert!(untouched(&state));
-    assert_eq!(hand_call(sheet, &mut state, 0), HandCall::Refused(refusal));
+    assert_eq!(hand_call(sheet, &mut state, 0), refuses(refusal));
     assert!(untouched(&state));
-    assert_eq!(put_back(sheet, &[1], &[0, 0], &mut result), PutBack::Refused(refusal));
+    assert_eq!(put_back(sheet, &[1], &[0, 0], &mut result), refuses(refusal));
     assert!(untouched(&result));
 }
 
 #[test]
 fn a_one_item() {
-    assert_eq!(read(&A), Read::Accepted { items: 1, blocks: 0 });
+    assert_eq!(read(&A), Ok(Accepted { items: 1, blocks: 0 }));
     assert_eq!(runs(&A, 2, End::Solved, 1, &[1, 3, 2, 0, 0]), state(0, &[]));
-    assert_eq!(State::from_bytes(&started(&A)), state(1, &[3]));
+    assert_eq!(State::from_bytes(started(&A)), state(1, &[3]));
 }
 
 #[test]
 fn b_two_unequal_items() {
-    assert_eq!(read(&B), Read::Accepted { items: 2, blocks: 1 });
-    runs(&B, 4, End::Solved, 2, &[1, 3, 2, 0, 0, 3, 2, 1, 0]);
+    assert_eq!(read(&B), Ok(Accepted { items: 2, blocks: 1 }));
+    assert_eq!(runs(&B, 4, End::Solved, 2, &[1, 3, 2, 0, 0, 3, 2, 1, 0]), state(0, &[]));
     let mut plan = [OLD; 2];
-    assert_eq!(put_back(&B, &[1, 3, 2, 0, 0, 3, 2, 1, 0], &[255, 255], &mut plan), PutBack::Done);
+    assert_eq!(put_back(&B, &[1, 3, 2, 0, 0, 3, 2, 1, 0], &[255, 255], &mut plan), Ok(()));
     assert_eq!(plan, [0, 1]);
 }
 
@@ -121,47 +132,47 @@ fn b_two_unequal_items() {
 fn b_buffers() {
     let (mut exact, mut short) = ([OLD; 21], [OLD; 20]);
     let mut state = [OLD; STATE_LENGTH];
-    assert_eq!(run(&B, &mut short, &mut state), Run::Refused(Refusal::TraceBuffer));
+    assert_eq!(run(&B, &mut short, &mut state), refuses(Refusal::TraceBuffer));
     assert!(untouched(&short) && untouched(&state));
-    assert_eq!(run(&B, &mut exact, &mut state), Run::Done { end: End::Solved, steps: 2, written: 9 });
+    assert_eq!(run(&B, &mut exact, &mut state), Ok(Done { end: End::Solved, steps: 2, written: 9 }));
 }
 
 /// The numbers of the lines `sheet 2 4` and `solved 2 0 0`.
 #[test]
 fn b_printed() {
-    let Read::Accepted { items, .. } = read(&B) else { panic!("accepted") };
+    let Ok(Accepted { items, .. }) = read(&B) else { panic!("accepted") };
     let sum_of_sizes: u32 = B[8..10].iter().map(|&size| u32::from(size)).sum();
     assert_eq!((items, sum_of_sizes), (2, 4));
     let (answer, last, _) = worked(&B, 4);
-    let Run::Done { end, steps, .. } = answer else { panic!("accepted") };
-    assert_eq!((end, steps, last.items_in(), last.settings_on()), (End::Solved, 2, 0, 0));
+    let Ok(Done { end, steps, .. }) = answer else { panic!("accepted") };
+    assert_eq!((end, steps, last.count_items(), last.count_settings()), (End::Solved, 2, 0, 0));
 }
 
 #[test]
 fn c_three_unequal_items() {
     let last = runs(&C, 6, End::Rest, 0, &[1]);
     assert_eq!(last, state(7, &[3, 3, 3]));
-    assert_eq!((last.items_in(), last.settings_on()), (3, 6));
+    assert_eq!((last.count_items(), last.count_settings()), (3, 6));
     assert!(every_plan(3, 2).iter().all(|plan| !is_plan(&C, plan)));
 }
 
 #[test]
 fn d_barred_pair() {
     assert_eq!(runs(&D, 2, End::Impossible, 1, &[1, 4, 1, 0, 0, 1]), state(3, &[0, 1]));
-    assert_eq!(State::from_bytes(&started(&D)), state(3, &[]));
+    assert_eq!(State::from_bytes(started(&D)), state(3, &[]));
     hand_refused(&D, 0, Refusal::ItemEmpty);
 }
 
 #[test]
 fn e_header_and_three() {
     let trace = [1, 3, 2, 0, 0, 3, 2, 1, 0, 3, 2, 2, 0, 3, 2, 3, 0];
-    runs(&E, 8, End::Solved, 4, &trace);
+    assert_eq!(runs(&E, 8, End::Solved, 4, &trace), state(0, &[]));
     assert_eq!(every_plan(4, 2).iter().filter(|plan| is_plan(&E, plan)).count(), 2);
     let left = every_plan(3, 2);
     assert_eq!(left.len(), 8);
     for plan in left {
         let mut full = [OLD; 4];
-        assert_eq!(put_back(&E, &trace[..5], &[&[255], &plan[..]].concat(), &mut full), PutBack::Done);
+        assert_eq!(put_back(&E, &trace[..5], &[&[255], &plan[..]].concat(), &mut full), Ok(()));
         assert_eq!(full, [0, 1, 1, 1]);
     }
 }
@@ -169,16 +180,16 @@ fn e_header_and_three() {
 #[test]
 fn f_setting_0_does_not_serve() {
     let trace = [1, 3, 2, 0, 1, 3, 2, 1, 0, 3, 2, 2, 0];
-    runs(&F, 9, End::Solved, 3, &trace);
+    assert_eq!(runs(&F, 9, End::Solved, 3, &trace), state(0, &[]));
     let mut plan = [OLD; 3];
-    assert_eq!(put_back(&F, &trace, &[255; 3], &mut plan), PutBack::Done);
+    assert_eq!(put_back(&F, &trace, &[255; 3], &mut plan), Ok(()));
     assert_eq!(plan, [1, 0, 0]);
     let other = [1, 3, 2, 0, 0];
-    assert_eq!(put_back(&F, &other, &[255, 0, 0], &mut plan), PutBack::Refused(Refusal::RecordUnlawful));
+    assert_eq!(put_back(&F, &other, &[255, 0, 0], &mut plan), refuses(Refusal::RecordUnlawful));
     assert_eq!(plan, [1, 0, 0]);
     let mut by_hand = started(&F);
-    assert_eq!(hand_call(&F, &mut by_hand, 0), HandCall::Taken { setting: 1 });
-    assert_eq!(State::from_bytes(&by_hand), state(6, &[0, 7, 7]));
+    assert_eq!(hand_call(&F, &mut by_hand, 0), Ok(Taken { setting: 1 }));
+    assert_eq!(State::from_bytes(by_hand), state(6, &[0, 7, 7]));
 }
 
 #[test]
@@ -200,7 +211,7 @@ fn i_by_hand() {
 #[test]
 fn j_barred_plan() {
     let mut result = [OLD; 3];
-    assert_eq!(put_back(&C, &[1], &[0, 1, 0], &mut result), PutBack::Refused(Refusal::PlanUnfit));
+    assert_eq!(put_back(&C, &[1], &[0, 1, 0], &mut result), refuses(Refusal::PlanUnfit));
     assert!(untouched(&result));
 }
 
@@ -215,8 +226,9 @@ fn refused_sheets() {
 
 #[test]
 fn every_refusal_has_its_number() {
-    let numbers = (0..=255).filter(|&number| Refusal::from_number(number).is_some());
-    assert_eq!(numbers.collect::<Vec<u8>>(), (1..=20).chain([200, 201]).collect::<Vec<u8>>());
+    let numbers = |known: fn(u8) -> bool| (0..=255).filter(|&number| known(number)).collect::<Vec<u8>>();
+    assert_eq!(numbers(|number| Refusal::from_number(number).is_some()), (1..=20).collect::<Vec<u8>>());
+    assert_eq!(numbers(|number| Fault::from_number(number).is_some()), (1..=20).chain([200, 201]).collect::<Vec<u8>>());
     assert!(Refusal::ALL.iter().all(|&refusal| Refusal::from_number(refusal.number()) == Some(refusal)));
 }
 
@@ -225,11 +237,11 @@ fn state_lengths() {
     for length in [0, 67, 69, 136] {
         for sheet in [&B[..], &[]] {
             let (mut trace, mut wrong) = ([OLD; 21], vec![OLD; length]);
-            assert_eq!(run(sheet, &mut trace, &mut wrong), Run::Refused(Refusal::RunStateLength));
+            assert_eq!(run(sheet, &mut trace, &mut wrong), Err(Fault::RunStateLength));
             assert!(untouched(&trace) && untouched(&wrong));
-            assert_eq!(start(sheet, &mut wrong), Start::Refused(Refusal::HandStateLength));
+            assert_eq!(start(sheet, &mut wrong), Err(Fault::HandStateLength));
             assert!(untouched(&wrong));
-            assert_eq!(hand_call(sheet, &mut wrong, 0), HandCall::Refused(Refusal::HandStateLength));
+            assert_eq!(hand_call(sheet, &mut wrong, 0), Err(Fault::HandStateLength));
             assert!(untouched(&wrong));
         }
     }
@@ -245,12 +257,12 @@ fn every_plan(n: u32, settings: usize) -> Vec<Vec<u8>> {
 fn is_plan(sheet: &[u8], plan: &[u8]) -> bool {
     let mut result = vec![OLD; plan.len()];
     match put_back(sheet, &[1], plan, &mut result) {
-        PutBack::Done => {
+        Ok(()) => {
             assert_eq!(result, plan);
             true
         }
-        PutBack::Refused(refusal) => {
-            assert_eq!(refusal, Refusal::PlanUnfit);
+        Err(fault) => {
+            assert_eq!(fault, Fault::Refused(Refusal::PlanUnfit));
             assert!(untouched(&result));
             false
         }

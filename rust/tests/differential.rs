@@ -1,14 +1,19 @@
 //! Compares every job of the proved library with the reference and with the fast implementation: answers, and each lent byte afterwards.
+//! The proved library is called by both its layers (support/proved.rs), and its decoder is asked of every trace.
 //!
 //! ZOMUWEDLI_SEED: the seed. ZOMUWEDLI_PART: a divisor of the sizes and of the least counts.
+
+mod support;
 
 use std::collections::BTreeMap;
 use std::fmt::Debug;
 
-use zomuwedli::boundary::{self, End, HandCall, PutBack, Read, Refusal, Run, Start, HAND_STATE_LENGTH, STATE_LENGTH};
-use zomuwedli::fast::Workspace;
-use zomuwedli::generate::{self, Random};
-use zomuwedli::reference::{self, Problem, State, Step, OUT};
+use support::decoder::{decode, record, reference_decode};
+use support::fast::Workspace;
+use support::generate::{self, Random};
+use support::reference::{self, Problem, State, Step};
+use support::{proved, Answer, Done, Fault};
+use zomuwedli::{Accepted, End, Record, Refusal, HAND_STATE_LENGTH, MAX_SHEET, OUT, STATE_LENGTH};
 
 const SEED: u64 = 20_260_917;
 
@@ -24,8 +29,6 @@ const LEAST_CALLS: u64 = 20_000;
 const LEAST_OF_EACH: u64 = 100;
 const LEAST_FULLEST: u64 = 50;
 const LEAST_LONG: u64 = 10;
-
-const LONGEST_SHEET: usize = 16_904;
 
 const JOBS: [&str; 5] = ["read", "run", "start", "hand call", "put back"];
 const KINDS: [&str; 5] = ["bare", "snake", "fold", "cover", "slide"];
@@ -54,7 +57,7 @@ fn main() {
 
 /// Every answer by its number, 0 for accepted.
 fn numbers() -> impl Iterator<Item = u8> {
-    std::iter::once(0).chain(Refusal::ALL.map(Refusal::number))
+    std::iter::once(0).chain(Fault::all().map(Fault::number))
 }
 
 fn can_answer(job: usize, number: u8) -> bool {
@@ -80,8 +83,10 @@ struct Counts {
     hand_partners_lost: u64,
     changed_when_undone: u64,
     /// Accepted sheets by the number of items, and those of 32 items of 16 settings with 496 blocks.
-    sheets_by_items: BTreeMap<u8, u64>,
+    sheets_by_items: BTreeMap<usize, u64>,
     fullest_sheets: u64,
+    /// Traces that the decoder was asked of, by its number: 0 where it took them apart to their end.
+    decoded: BTreeMap<u8, u64>,
 }
 
 impl Counts {
@@ -102,6 +107,10 @@ impl Counts {
         *self.answers.get(&(job, number)).unwrap_or(&0)
     }
 
+    fn of_decoding(&self, number: u8) -> u64 {
+        *self.decoded.get(&number).unwrap_or(&0)
+    }
+
     fn print(&self) {
         println!("sheets: {}, {} of them accepted", self.sheets, self.accepted_sheets);
         let of_items =
@@ -117,7 +126,7 @@ impl Counts {
         println!("{:>10} {}", "all", [0, 1, 2, 3, 4].map(|job| format!("{:>10}", self.of_job(job))).join(" "));
         let past = JOBS.iter().enumerate().map(|(job, name)| format!("{name} {}", self.past_the_sheet(job)));
         println!("calls that no fault of the sheet turned away: {}", past.collect::<Vec<_>>().join(", "));
-        let ends = [End::Impossible, End::Solved, End::Rest].map(|end| format!("{end:?} {}", self.ends.get(&end.number()).unwrap_or(&0)));
+        let ends = [End::Impossible, End::Solved, End::Rest].map(|end| format!("{end:?} {}", self.ends.get(&(end as u8)).unwrap_or(&0)));
         println!("ends of runs: {}", ends.join(", "));
         println!("steps of runs: {}; runs of more than 255: {}", by_kind(&self.run_steps), self.long_runs);
         println!("records of accepted lent traces: {}", by_kind(&self.lent_records));
@@ -127,6 +136,8 @@ impl Counts {
             self.lent_partners_lost, self.hand_partners_lost
         );
         println!("plans put back in which an item left has another setting than before: {}", self.changed_when_undone);
+        let decoded = [0, 15, 16].map(|number| self.of_decoding(number));
+        println!("traces taken apart: {} to their end, {} refused with 15, {} with 16", decoded[0], decoded[1], decoded[2]);
     }
 
     /// What falls short of its least count.
@@ -139,6 +150,7 @@ impl Counts {
         let ends = [0, 1, 2].map(|end| (format!("end {end}"), *self.ends.get(&end).unwrap_or(&0), LEAST_OF_EACH));
         let steps = [1, 2, 3, 4].map(|kind| (format!("steps of runs of kind {kind}"), self.run_steps[kind], LEAST_OF_EACH));
         let records = [1, 2, 3, 4, 5].map(|kind| (format!("lent records of kind {kind}"), self.lent_records[kind], LEAST_OF_EACH));
+        let decoded = [0, 15, 16].map(|number| (format!("traces taken apart, {number}"), self.of_decoding(number), LEAST_OF_EACH));
         let others = [
             ("sheets".to_string(), self.sheets, LEAST_SHEETS),
             ("runs of more than 255 steps".to_string(), self.long_runs, LEAST_LONG),
@@ -148,7 +160,7 @@ impl Counts {
             ("sheets of 32 items of 16 settings, 496 blocks".to_string(), self.fullest_sheets, LEAST_FULLEST),
             ("settings changed when put back".to_string(), self.changed_when_undone, LEAST_OF_EACH),
         ];
-        let all = jobs.into_iter().chain(answers).chain(ends).chain(steps).chain(records).chain(others);
+        let all = jobs.into_iter().chain(answers).chain(ends).chain(steps).chain(records).chain(decoded).chain(others);
         let scaled = all.map(|(name, count, least)| (name, count, least / divisor));
         scaled.filter(|(_, count, least)| count < least).map(|(name, count, least)| format!("{name}: {count}, least {least}")).collect()
     }
@@ -193,27 +205,12 @@ fn hexadecimal(bytes: &[u8]) -> String {
 }
 
 /// The number of an answer, 0 for accepted.
-trait Answer: Copy + PartialEq + Debug {
-    fn number(self) -> u8;
+fn number<T>(answer: &Answer<T>) -> u8 {
+    answer.as_ref().map_or_else(|fault| fault.number(), |_| 0)
 }
-
-macro_rules! answers {
-    ($($answer:ident),*) => {$(
-        impl Answer for $answer {
-            fn number(self) -> u8 {
-                match self {
-                    $answer::Refused(refusal) => refusal.number(),
-                    _ => 0,
-                }
-            }
-        }
-    )*};
-}
-
-answers!(Read, Run, Start, HandCall, PutBack);
 
 /// A call of one implementation: it is lent inputs, and buffers to write; the workspace is for the fast one.
-type Call<'a, A> = &'a dyn Fn(&mut Workspace, &[Lent], &mut [Lent]) -> A;
+type Call<'a, T> = &'a dyn Fn(&mut Workspace, &[Lent], &mut [Lent]) -> Answer<T>;
 
 impl Comparison {
     fn new(seed: u64) -> Comparison {
@@ -235,7 +232,14 @@ impl Comparison {
 
     /// Calls the three implementations, each with its own copies of the lent bytes: inputs, and buffers that it may write. All must give
     /// one answer and leave the same bytes, and a refused call must leave them as they were.
-    fn call<A: Answer>(&mut self, job: usize, inputs: &[&[u8]], buffers: &[&[u8]], note: &str, calls: [Call<A>; 3]) -> (A, Vec<Lent>) {
+    fn call<T: PartialEq + Debug>(
+        &mut self,
+        job: usize,
+        inputs: &[&[u8]],
+        buffers: &[&[u8]],
+        note: &str,
+        calls: [Call<T>; 3],
+    ) -> (Answer<T>, Vec<Lent>) {
         let results = calls.map(|call| {
             let lent: Vec<Lent> = inputs.iter().map(|bytes| lend(bytes)).collect();
             let mut written: Vec<Lent> = buffers.iter().map(|bytes| lend(bytes)).collect();
@@ -246,7 +250,7 @@ impl Comparison {
         let inputs_stay = results.iter().all(|(_, lent, _)| lent.iter().zip(inputs).all(|(after, before)| **after == **before));
         let unchanged = results.iter().all(|(_, _, written)| written.iter().zip(buffers).all(|(after, before)| **after == **before));
         let alike = proved.0 == reference.0 && proved.2 == reference.2 && fast.0 == reference.0 && fast.2 == reference.2;
-        if !alike || !inputs_stay || (reference.0.number() != 0 && !unchanged) {
+        if !alike || !inputs_stay || (reference.0.is_err() && !unchanged) {
             self.difference(job, inputs, buffers, note);
             for (name, (answer, lent, written)) in ["proved", "reference", "fast"].into_iter().zip(&results) {
                 println!("{name}: {answer:?}");
@@ -255,7 +259,7 @@ impl Comparison {
             }
             std::process::exit(1);
         }
-        *self.counts.answers.entry((job, reference.0.number())).or_default() += 1;
+        *self.counts.answers.entry((job, number(&reference.0))).or_default() += 1;
         let [proved, ..] = results;
         (proved.0, proved.2)
     }
@@ -266,86 +270,99 @@ impl Comparison {
         buffers.iter().for_each(|bytes| println!("    buffer {}", hexadecimal(bytes)));
     }
 
-    fn read(&mut self, sheet: &[u8]) -> Read {
+    fn read(&mut self, sheet: &[u8]) {
         self.counts.sheets += 1;
         let (answer, _) = self.call(
             0,
             &[sheet],
             &[],
             "",
-            [&|_, lent, _| boundary::read(&lent[0]), &|_, lent, _| reference::read(&lent[0]), &|fast, lent, _| fast.read(&lent[0])],
+            [&|_, lent, _| proved::read(&lent[0]), &|_, lent, _| reference::read(&lent[0]), &|fast, lent, _| fast.read(&lent[0])],
         );
-        if let Read::Accepted { items, blocks } = answer {
+        if let Ok(Accepted { items, blocks }) = answer {
             self.counts.accepted_sheets += 1;
             *self.counts.sheets_by_items.entry(items).or_default() += 1;
-            self.counts.fullest_sheets += u64::from(blocks == 496 && sheet.len() == LONGEST_SHEET);
+            self.counts.fullest_sheets += u64::from(blocks == 496 && sheet.len() == MAX_SHEET);
         }
-        answer
     }
 
-    fn run(&mut self, sheet: &[u8], trace_length: usize, state_length: usize) -> (Run, Lent, Lent) {
+    fn run(&mut self, sheet: &[u8], trace_length: usize, state_length: usize) -> (Option<Done>, Lent, Lent) {
         let (answer, written) = self.call(
             1,
             &[sheet],
             &[&buffer(trace_length), &buffer(state_length)],
             "",
             [
-                &|_, lent, written| on_two(written, |trace, state| boundary::run(&lent[0], trace, state)),
+                &|_, lent, written| on_two(written, |trace, state| proved::run(&lent[0], trace, state)),
                 &|_, lent, written| on_two(written, |trace, state| reference::run(&lent[0], trace, state)),
                 &|fast, lent, written| on_two(written, |trace, state| fast.run(&lent[0], trace, state)),
             ],
         );
         let [trace, state] = <[Lent; 2]>::try_from(written).expect("two buffers");
-        (answer, trace, state)
+        (answer.ok(), trace, state)
     }
 
-    fn start(&mut self, sheet: &[u8], state_length: usize) -> (Start, Lent) {
-        let (answer, mut written) = self.call(
+    fn start(&mut self, sheet: &[u8], state_length: usize) -> Lent {
+        let (_, mut written) = self.call(
             2,
             &[sheet],
             &[&buffer(state_length)],
             "",
             [
-                &|_, lent, written| boundary::start(&lent[0], &mut written[0]),
+                &|_, lent, written| proved::start(&lent[0], &mut written[0]),
                 &|_, lent, written| reference::start(&lent[0], &mut written[0]),
                 &|fast, lent, written| fast.start(&lent[0], &mut written[0]),
             ],
         );
-        (answer, written.remove(0))
+        written.remove(0)
     }
 
-    fn hand_call(&mut self, sheet: &[u8], state: &[u8], item: u64) -> (HandCall, Lent) {
+    fn hand_call(&mut self, sheet: &[u8], state: &[u8], item: u64) -> Lent {
         let (answer, mut written) = self.call(
             3,
             &[sheet],
             &[state],
             &format!(", item {item}"),
             [
-                &|_, lent, written| boundary::hand_call(&lent[0], &mut written[0], item),
+                &|_, lent, written| proved::hand_call(&lent[0], &mut written[0], item),
                 &|_, lent, written| reference::hand_call(&lent[0], &mut written[0], item),
                 &|fast, lent, written| fast.hand_call(&lent[0], &mut written[0], item),
             ],
         );
         let after = written.remove(0);
-        if answer.number() == 0 {
+        if answer.is_ok() {
             self.counts.hand_partners_lost += u64::from(partners_lost(&State::from_bytes(state), &State::from_bytes(&after)));
         }
-        (answer, after)
+        after
     }
 
-    fn put_back(&mut self, sheet: &[u8], trace: &[u8], plan: &[u8], result_length: usize) -> (PutBack, Lent) {
+    fn put_back(&mut self, sheet: &[u8], trace: &[u8], plan: &[u8], result_length: usize) -> Option<Lent> {
         let (answer, mut written) = self.call(
             4,
             &[sheet, trace, plan],
             &[&buffer(result_length)],
             "",
             [
-                &|_, lent, written| boundary::put_back(&lent[0], &lent[1], &lent[2], &mut written[0]),
+                &|_, lent, written| proved::put_back(&lent[0], &lent[1], &lent[2], &mut written[0]),
                 &|_, lent, written| reference::put_back(&lent[0], &lent[1], &lent[2], &mut written[0]),
                 &|fast, lent, written| fast.put_back(&lent[0], &lent[1], &lent[2], &mut written[0]),
             ],
         );
-        (answer, written.remove(0))
+        let decoded = decode(trace);
+        let agrees = match answer {
+            // The trace was gone through to its end.
+            Ok(()) | Err(Fault::Refused(Refusal::PlanUnfit)) => decoded.is_ok(),
+            Err(Fault::Refused(refusal @ (Refusal::TraceFront | Refusal::RecordShape))) => decoded == Err(refusal),
+            // Nothing was said of its shape, or not of all of it.
+            _ => true,
+        };
+        if !agrees || decoded != reference_decode(trace) {
+            self.difference(4, &[sheet, trace, plan], &[], " (the decoder)");
+            println!("decoder: {decoded:?}, library: {answer:?}");
+            std::process::exit(1);
+        }
+        *self.counts.decoded.entry(decoded.map_or_else(Refusal::number, |_| 0)).or_default() += 1;
+        answer.ok().map(|()| written.remove(0))
     }
 
     /// Counts what an accepted lent trace holds.
@@ -406,7 +423,7 @@ fn large_case(comparison: &mut Comparison, random: &mut Random) {
     let sheet = if random.chance(10) { generate::damaged(random, draft) } else { draft.bytes() };
     every_job(comparison, random, &sheet);
     if let Ok((problem, _)) = reference::read_sheet(&sheet) {
-        let start = comparison.start(&sheet, HAND_STATE_LENGTH).1;
+        let start = comparison.start(&sheet, HAND_STATE_LENGTH);
         hand_list(comparison, random, &sheet, &problem, start);
     }
 }
@@ -423,14 +440,18 @@ fn every_job(comparison: &mut Comparison, random: &mut Random, sheet: &[u8]) {
 fn accepted_sheet(comparison: &mut Comparison, random: &mut Random, sheet: &[u8], problem: &Problem) {
     let exact = trace_length(problem);
     let (answer, trace, _) = comparison.run(sheet, exact, STATE_LENGTH);
-    if let Run::Done { end, written, .. } = answer {
-        *comparison.counts.ends.entry(end.number()).or_default() += 1;
-        let (steps, _) = reference::replay(problem, &trace[..usize::from(written)]).expect("a run's own trace is lawful");
+    if let Some(Done { end, steps: count, written }) = answer {
+        *comparison.counts.ends.entry(end as u8).or_default() += 1;
+        let (steps, _) = reference::replay(problem, &trace[..written]).expect("a run's own trace is lawful");
+        let records: Vec<Record> = steps.iter().map(|(_, step)| record(*step)).collect();
+        assert_eq!(decode(&trace[..written]), Ok(records), "the decoder takes a run's trace apart otherwise than the reference");
+        assert_eq!(steps.len(), count, "a run's trace has not as many records as the run has steps");
+        *comparison.counts.decoded.entry(0).or_default() += 1;
         comparison.counts.long_runs += u64::from(steps.len() > 255);
         steps.iter().for_each(|(_, step)| comparison.counts.run_steps[step.kind()] += 1);
     }
     if random.chance(50) {
-        comparison.run(sheet, exact + random.from_to(1, 40), STATE_LENGTH);
+        comparison.run(sheet, exact + random.between(1, 40), STATE_LENGTH);
     }
     comparison.run(sheet, exact - 1, STATE_LENGTH);
     comparison.run(sheet, 0, STATE_LENGTH);
@@ -462,7 +483,7 @@ fn hand_case(comparison: &mut Comparison, random: &mut Random) {
         0 => lend(&generate::misfitting_state(random, &problem)),
         1 => lend(&generate::fitting_state(random, &problem).to_bytes()),
         2 => lend(&arc_consistent(&problem, &generate::fitting_state(random, &problem).to_bytes())),
-        _ => comparison.start(&sheet, HAND_STATE_LENGTH).1,
+        _ => comparison.start(&sheet, HAND_STATE_LENGTH),
     };
     hand_list(comparison, random, &sheet, &problem, state);
     if random.chance(10) {
@@ -473,9 +494,9 @@ fn hand_case(comparison: &mut Comparison, random: &mut Random) {
 }
 
 fn hand_list(comparison: &mut Comparison, random: &mut Random, sheet: &[u8], problem: &Problem, mut state: Lent) {
-    for _ in 0..random.from_to(1, 6) {
+    for _ in 0..random.between(1, 6) {
         let item = named_item(random, problem, &state);
-        state = comparison.hand_call(sheet, &state, item).1;
+        state = comparison.hand_call(sheet, &state, item);
     }
 }
 
@@ -531,8 +552,7 @@ struct Lending<'a> {
 
 impl Lending<'_> {
     fn put_back(self, comparison: &mut Comparison, result_length: usize) {
-        let (answer, result) = comparison.put_back(self.sheet, self.trace, self.plan, result_length);
-        if answer == PutBack::Done {
+        if let Some(result) = comparison.put_back(self.sheet, self.trace, self.plan, result_length) {
             comparison.count_lent(self.problem, self.trace, self.plan, &result);
         }
     }

@@ -1,14 +1,17 @@
 //! Demands 2 and 3 by brute force on very small sheets: all plans of what a trace leaves, and all lists of hand calls from a few states.
 //!
-//! The wrappers do the jobs; the reference says which rule holds; the plans are counted out here.
+//! The proved library does the jobs, by both its layers (support/proved.rs); the reference says which rule holds; the plans are counted out here.
 //!
 //! ZOMUWEDLI_PART: one sheet in so many is checked, and the least counts are divided by it.
 
+mod support;
+
 use std::collections::btree_map::{BTreeMap, Entry};
 
-use zomuwedli::boundary::{self, End, HandCall, PutBack, Refusal, Run, Start, HAND_STATE_LENGTH, STATE_LENGTH};
-use zomuwedli::generate::{self, Draft, Random};
-use zomuwedli::reference::{self, Problem, State, Step, OUT};
+use support::generate::{self, Draft, Random};
+use support::reference::{self, Problem, State, Step};
+use support::{proved, Done, Fault};
+use zomuwedli::{End, Refusal, HAND_STATE_LENGTH, OUT, STATE_LENGTH};
 
 const SEED: u64 = 4_711;
 const RANDOM_SHEETS: usize = 1_500;
@@ -197,20 +200,20 @@ impl Case<'_> {
         let most = self.problem.sizes().iter().sum::<usize>();
         let mut buffer = vec![0; 1 + 5 * most];
         let mut state = [0; STATE_LENGTH];
-        let Run::Done { end, steps, written } = boundary::run(self.sheet, &mut buffer, &mut state) else {
+        let Ok(Done { end, steps, written }) = proved::run(self.sheet, &mut buffer, &mut state) else {
             self.fault("the run was refused", &[]);
         };
-        let trace = &buffer[..usize::from(written)];
+        let trace = &buffer[..written];
         let Ok((replayed, last)) = reference::replay(&self.problem, trace) else {
             self.fault("a step is not lawful", trace);
         };
-        self.demand(replayed.len() == usize::from(steps) && usize::from(steps) <= most, "the number of steps is wrong", trace);
+        self.demand(replayed.len() == steps && steps <= most, "the number of steps is wrong", trace);
         self.demand(last.to_bytes() == state, "the last state is not the one that the steps lead to", trace);
         self.demand(last.emptied() == (end == End::Impossible), "the end impossible is wrong", trace);
         self.demand(last.active().is_empty() == (end == End::Solved), "the end solved is wrong", trace);
         self.demand(last.emptied() || self.no_rule_holds(&last), "a rule still holds", trace);
         counts.runs += 1;
-        counts.steps += u64::from(steps);
+        counts.steps += steps as u64;
         self.undone(trace, &last, counts);
     }
 
@@ -225,14 +228,14 @@ impl Case<'_> {
         *if plans.is_empty() { &mut counts.unsolvable } else { &mut counts.solvable } += 1;
         for plan in &plans {
             let mut full = vec![0; plan.len()];
-            let answer = boundary::put_back(self.sheet, trace, plan, &mut full);
-            self.demand(answer == PutBack::Done, "a plan of what is left was refused", trace);
+            let answer = proved::put_back(self.sheet, trace, plan, &mut full);
+            self.demand(answer == Ok(()), "a plan of what is left was refused", trace);
             self.demand(self.plans.contains(&full), "a plan was put back into no plan", trace);
         }
         for plan in &others {
             let mut untouched = vec![77; plan.len()];
-            let answer = boundary::put_back(self.sheet, trace, plan, &mut untouched);
-            self.demand(answer == PutBack::Refused(Refusal::PlanUnfit), "a barred pair was let through", trace);
+            let answer = proved::put_back(self.sheet, trace, plan, &mut untouched);
+            self.demand(answer == Err(Fault::Refused(Refusal::PlanUnfit)), "a barred pair was let through", trace);
             self.demand(untouched == vec![77; plan.len()], "a refused call wrote", trace);
         }
         counts.plans_put_back += plans.len() as u64;
@@ -264,7 +267,7 @@ impl Case<'_> {
 
     fn demand_three(&self, random: &mut Random, counts: &mut Counts) {
         let mut start = [0; HAND_STATE_LENGTH];
-        self.demand(boundary::start(self.sheet, &mut start) == Start::Started, "the start was refused", &[]);
+        self.demand(proved::start(self.sheet, &mut start) == Ok(()), "the start was refused", &[]);
         counts.start_states += 1;
         self.all_lists(&start, counts);
         let fitting = generate::fitting_state(random, &self.problem).to_bytes();
@@ -322,12 +325,12 @@ impl Case<'_> {
     /// One call: an accepted one takes out the item named and no other; a refused one answers the state it was given.
     fn called(&self, state: &[u8], item: u64, counts: &mut Counts) -> Vec<u8> {
         let mut next = state.to_vec();
-        let answer = boundary::hand_call(self.sheet, &mut next, item);
+        let answer = proved::hand_call(self.sheet, &mut next, item);
         counts.hand_calls += 1;
         let (before, after) = (State::from_bytes(state), State::from_bytes(&next));
         match answer {
-            HandCall::Refused(_) => self.demand(next == state, "a refused call wrote", state),
-            HandCall::Taken { .. } => {
+            Err(_) => self.demand(next == state, "a refused call wrote", state),
+            Ok(_) => {
                 let left: Vec<usize> = before.active().iter().copied().filter(|&i| i as u64 != item).collect();
                 self.demand(after.active() == left && left.len() < before.active().len(), "not the named item only went out", state);
             }

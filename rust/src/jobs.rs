@@ -1,0 +1,231 @@
+//! The five jobs of the proved library.
+
+use std::fmt;
+
+use crate::{boundary, HandState, Refusal, State};
+
+/// What reading a sheet that keeps the layout answers.
+///
+/// ```
+/// use zomuwedli::{read, Accepted};
+///
+/// assert_eq!(read(&[1, 0, 0, 0, 9, 1, 0, 0, 2])?, Accepted { items: 1, blocks: 0 });
+/// # Ok::<(), zomuwedli::Refusal>(())
+/// ```
+#[must_use]
+#[derive(Clone, Copy, PartialEq, Eq, Hash, Debug)]
+pub struct Accepted {
+    /// How many items the sheet has, n.
+    pub items: usize,
+    /// How many pair blocks it has, m.
+    pub blocks: usize,
+}
+
+/// Reads a sheet: whether it keeps the layout. Refused: 1 to 9.
+///
+/// ```
+/// use zomuwedli::{read, Refusal};
+///
+/// // Sheet B: two items of two settings, unequal.
+/// let sheet = [1, 0, 0, 0, 16, 2, 0, 1, 2, 2, 0, 1, 0, 2, 0, 1];
+/// let accepted = read(&sheet)?;
+/// assert_eq!((accepted.items, accepted.blocks), (2, 1));
+/// assert_eq!(read(&sheet[..15]), Err(Refusal::SheetLength));
+/// # Ok::<(), Refusal>(())
+/// ```
+pub fn read(sheet: &[u8]) -> Result<Accepted, Refusal> {
+    let (items, blocks) = boundary::read(sheet).map_err(refusal)?;
+    Ok(Accepted { items: items.into(), blocks: blocks.into() })
+}
+
+/// How a run ends.
+///
+/// ```
+/// use zomuwedli::{run, End, MAX_TRACE};
+///
+/// // Sheet D: two items of one setting, the pair barred.
+/// let run = run(&[1, 0, 0, 0, 14, 2, 0, 1, 1, 1, 0, 1, 0, 0], &mut [0; MAX_TRACE])?;
+/// assert_eq!(run.end, End::Impossible);
+/// assert_eq!(run.end.to_string(), "impossible");
+/// # Ok::<(), zomuwedli::Refusal>(())
+/// ```
+#[must_use]
+#[derive(Clone, Copy, PartialEq, Eq, PartialOrd, Ord, Hash, Debug)]
+#[repr(u8)]
+pub enum End {
+    /// An item in has no setting on: the full sheet has no plan.
+    Impossible = 0,
+    /// No item is in: the full sheet has a plan, and putting back gives one.
+    Solved = 1,
+    /// Items are in and no rule holds: a search decides.
+    Rest = 2,
+}
+
+impl End {
+    /// The end with this number, if there is one.
+    ///
+    /// ```
+    /// use zomuwedli::End;
+    ///
+    /// assert_eq!(End::from_number(2), Some(End::Rest));
+    /// assert_eq!(End::from_number(3), None);
+    /// ```
+    #[must_use]
+    pub fn from_number(number: u8) -> Option<End> {
+        [End::Impossible, End::Solved, End::Rest].into_iter().find(|&end| end as u8 == number)
+    }
+}
+
+/// The word of the program's last line.
+impl fmt::Display for End {
+    fn fmt(&self, f: &mut fmt::Formatter<'_>) -> fmt::Result {
+        f.write_str(match self {
+            End::Impossible => "impossible",
+            End::Solved => "solved",
+            End::Rest => "rest",
+        })
+    }
+}
+
+/// What a run answers.
+///
+/// ```
+/// use zomuwedli::{run, End, MAX_TRACE};
+///
+/// let mut trace = [0; MAX_TRACE];
+/// let run = run(&[1, 0, 0, 0, 9, 1, 0, 0, 2], &mut trace)?;
+/// assert_eq!((run.end, run.steps), (End::Solved, 1));
+/// assert_eq!(trace[..run.written], [1, 3, 2, 0, 0]);
+/// assert_eq!(run.state.count_items(), 0);
+/// # Ok::<(), zomuwedli::Refusal>(())
+/// ```
+#[must_use]
+#[derive(Clone, PartialEq, Eq, Hash, Debug)]
+pub struct Run {
+    /// How it ended.
+    pub end: End,
+    /// How many steps it took: the records of its trace.
+    pub steps: usize,
+    /// How many bytes its trace has, from the front of the buffer.
+    pub written: usize,
+    /// The last state.
+    pub state: State,
+}
+
+/// Works a sheet down to its end. Refused: 1 to 9, then 10.
+///
+/// The trace goes to the front of the buffer, which keeps its old bytes after it. A buffer of [`MAX_TRACE`](crate::MAX_TRACE) bytes is
+/// long enough for every sheet; at least it has 1 + 5 × the sum of the sizes.
+///
+/// ```
+/// use zomuwedli::{run, End, Refusal};
+///
+/// // Sheet B: two items of two settings, unequal.
+/// let sheet = [1, 0, 0, 0, 16, 2, 0, 1, 2, 2, 0, 1, 0, 2, 0, 1];
+/// let mut trace = [0; 1 + 5 * 4];
+/// let answer = run(&sheet, &mut trace)?;
+/// assert_eq!((answer.end, answer.steps, answer.written), (End::Solved, 2, 9));
+/// assert_eq!(trace[..answer.written], [1, 3, 2, 0, 0, 3, 2, 1, 0]);
+///
+/// assert_eq!(run(&sheet, &mut [0; 20]), Err(Refusal::TraceBuffer));
+/// # Ok::<(), Refusal>(())
+/// ```
+pub fn run(sheet: &[u8], trace: &mut [u8]) -> Result<Run, Refusal> {
+    let mut state = State::EMPTY;
+    let (end, steps, written) = boundary::run(sheet, trace, &mut state.bytes).map_err(refusal)?;
+    let end = End::from_number(end).unwrap_or_else(|| panic!("the library answered the end {end}"));
+    Ok(Run { end, steps: steps.into(), written: written.into(), state })
+}
+
+/// Starts taking out by hand. Refused: 1 to 9.
+///
+/// Answers the state with all items in and the largest sets of settings in which each has a partner at every other item.
+///
+/// ```
+/// // Items of one and two settings; with setting 0 of item 0, setting 0 of item 1 is allowed, and setting 1 is not.
+/// let state = zomuwedli::start(&[1, 0, 0, 0, 14, 2, 0, 1, 1, 2, 0, 1, 0, 1])?;
+/// assert!(state.state().is_on(1, 0));
+/// assert!(!state.state().is_on(1, 1));
+/// # Ok::<(), zomuwedli::Refusal>(())
+/// ```
+pub fn start(sheet: &[u8]) -> Result<HandState, Refusal> {
+    let mut state = State::EMPTY;
+    boundary::start(sheet, &mut state.bytes).map_err(refusal)?;
+    Ok(HandState { state })
+}
+
+/// What a hand call answers. The setting is needed to put the item back: whoever takes items out by hand keeps it, as the record of a
+/// snake step.
+///
+/// ```
+/// use zomuwedli::{hand_call, start, Taken};
+///
+/// let sheet = [1, 0, 0, 0, 9, 1, 0, 0, 2];
+/// assert_eq!(hand_call(&sheet, &mut start(&sheet)?, 0)?, Taken { setting: 0 });
+/// # Ok::<(), zomuwedli::Refusal>(())
+/// ```
+#[must_use]
+#[derive(Clone, Copy, PartialEq, Eq, Hash, Debug)]
+pub struct Taken {
+    /// The setting v of the snake step, the lowest that fits.
+    pub setting: u8,
+}
+
+/// Takes the named item out under the snake rule. Refused: 1 to 9, then 11, 12, 13, 14.
+///
+/// A refused call leaves the state as it was. The item may be any number.
+///
+/// ```
+/// use zomuwedli::{hand_call, put_back, start, trace_of, Record, Refusal, OUT};
+///
+/// // Sheet B: two items of two settings, unequal.
+/// let sheet = [1, 0, 0, 0, 16, 2, 0, 1, 2, 2, 0, 1, 0, 2, 0, 1];
+/// let mut state = start(&sheet)?;
+/// let taken = hand_call(&sheet, &mut state, 1)?;
+/// assert_eq!(taken.setting, 0);
+/// assert!(!state.state().is_in(1));
+///
+/// let before = state.clone();
+/// assert_eq!(hand_call(&sheet, &mut state, 1), Err(Refusal::ItemNotIn));
+/// assert_eq!(state, before);
+///
+/// // Back again, with setting 0 for item 0, which is left. It is barred with item 1's, and changed.
+/// let trace = trace_of([Record::Snake { item: 1, setting: taken.setting }]);
+/// let mut plan = [0; 2];
+/// put_back(&sheet, &trace, &[0, OUT], &mut plan)?;
+/// assert_eq!(plan, [1, 0]);
+/// # Ok::<(), Refusal>(())
+/// ```
+pub fn hand_call(sheet: &[u8], state: &mut HandState, item: u64) -> Result<Taken, Refusal> {
+    let setting = boundary::hand_call(sheet, &mut state.state.bytes, item).map_err(refusal)?;
+    Ok(Taken { setting })
+}
+
+/// Puts the items that a trace took out back: from a plan for the items left, the plan of the full sheet. Refused: 1 to 9, then 18, 20, 15,
+/// then 16 and 17 record by record, then 19.
+///
+/// Any lawful trace is accepted, whoever wrote it. The plan has a byte for each item, [`OUT`](crate::OUT) for one that is out; the result
+/// has as many, and a refused call leaves it as it was. The call keeps a state for each record on the stack: 256 KiB are enough.
+///
+/// ```
+/// use zomuwedli::{put_back, Refusal, OUT};
+///
+/// // Sheet B: two items of two settings, unequal. Its run took out both items.
+/// let sheet = [1, 0, 0, 0, 16, 2, 0, 1, 2, 2, 0, 1, 0, 2, 0, 1];
+/// let trace = [1, 3, 2, 0, 0, 3, 2, 1, 0];
+/// let mut plan = [0; 2];
+/// put_back(&sheet, &trace, &[OUT, OUT], &mut plan)?;
+/// assert_eq!(plan, [0, 1]);
+///
+/// assert_eq!(put_back(&sheet, &trace, &[OUT, 0], &mut plan), Err(Refusal::PlanUnfit));
+/// assert_eq!(plan, [0, 1]);
+/// # Ok::<(), Refusal>(())
+/// ```
+pub fn put_back(sheet: &[u8], trace: &[u8], plan: &[u8], result: &mut [u8]) -> Result<(), Refusal> {
+    boundary::put_back(sheet, trace, plan, result).map_err(refusal)
+}
+
+/// The refusal with this number. The library answers no other: states are lent in their length, so that 200 and 201 do not come up.
+fn refusal(number: u8) -> Refusal {
+    Refusal::from_number(number).unwrap_or_else(|| panic!("the library answered {number}, which is no refusal of this call"))
+}
