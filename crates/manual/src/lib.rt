@@ -7,7 +7,7 @@ ghost use Rattle.bounded.specs.Bounded.{imp, allBelow, lowest};
 ghost use Rattle.bounded.specs.Mask.{bit};
 ghost use Rattle.problem.specs.Problem.{maxValues, full, stateFits, noneEmpty, snake as snakeHolds};
 ghost use Rattle.problem.specs.Manual.{prune, pruneTimes, start as startState};
-ghost use Rattle.problem.specs.Masks.{stateOf, masksOf};
+ghost use Rattle.problem.specs.Masks.{stateOf, masksOf, sets, Proper};
 ghost use Rattle.problem.specs.Held.{held, RowTable};
 ghost use Rattle.sheet.specs.Sheet.{layout, Keeps};
 ghost use Rattle.sheet.specs.Relation.{problemOf};
@@ -39,13 +39,13 @@ fn size(t: &[u16], i: usize) -> usize
 // ---- one sweep
 
 // At no other active variable is value a of i without a support.
-fn none_bare(t: &[u16], m: Masks, i: usize, a: usize) -> bool
-    requires { ⌜ Ready (now t) m × (i < 32) × (a < 16) ⌝ }
-    ensures { λ r. ⌜ r ≡ noneBare (held (now (t .entry))) (stateOf m) i a ⌝ }
+fn none_bare(t: &[u16], active: u32, on: &[u16; 32], i: usize, a: usize) -> bool
+    requires { ⌜ Ready (now t) (sets active (now on)) × (i < 32) × (a < 16) ⌝ }
+    ensures { λ r. ⌜ r ≡ noneBare (held (now (t .entry))) (stateOf (sets active (now (on .entry)))) i a ⌝ }
 {
     let mut k: usize = 0;
     while k < 32 {
-        if unsupported::unsupported(t, m, i, a, k) {
+        if unsupported::unsupported(t, active, on, i, a, k) {
             return false;
         }
         k += 1;
@@ -54,25 +54,25 @@ fn none_bare(t: &[u16], m: Masks, i: usize, a: usize) -> bool
 }
 
 // Value a of i is in its domain and has a support at every other active variable.
-fn stays(t: &[u16], m: Masks, i: usize, a: usize) -> bool
-    requires { ⌜ Ready (now t) m × (i < 32) × (a < 16) ⌝ }
-    ensures { λ r. ⌜ r ≡ prune (held (now (t .entry))) (stateOf m) .live i a ⌝ }
+fn stays(t: &[u16], active: u32, on: &[u16; 32], i: usize, a: usize) -> bool
+    requires { ⌜ Ready (now t) (sets active (now on)) × (i < 32) × (a < 16) ⌝ }
+    ensures { λ r. ⌜ r ≡ prune (held (now (t .entry))) (stateOf (sets active (now (on .entry)))) .live i a ⌝ }
 {
-    if has16(m.domains[i], a) {
-        none_bare(t, m, i, a)
+    if has16(on[i], a) {
+        none_bare(t, active, on, i, a)
     } else {
         false
     }
 }
 
-fn domain_left(t: &[u16], m: Masks, i: usize) -> u16
-    requires { ⌜ Ready (now t) m × (i < 32) ⌝ }
-    ensures { λ r. ⌜ r ≡ domainLeft (held (now (t .entry))) (stateOf m) i ⌝ }
+fn domain_left(t: &[u16], active: u32, on: &[u16; 32], i: usize) -> u16
+    requires { ⌜ Ready (now t) (sets active (now on)) × (i < 32) ⌝ }
+    ensures { λ r. ⌜ r ≡ domainLeft (held (now (t .entry))) (stateOf (sets active (now (on .entry)))) i ⌝ }
 {
     let mut x: u16 = 0;
     let mut a: usize = 0;
     while a < 16 {
-        x += bounded::weight(stays(t, m, i, a), a);
+        x += bounded::weight(stays(t, active, on, i, a), a);
         a += 1;
     }
     x
@@ -86,7 +86,7 @@ fn prune_once(t: &[u16], m: Masks) -> Masks
     let mut r = m;
     let mut i: usize = 0;
     while i < 32 {
-        r.domains[i] = domain_left(t, m, i);
+        r.domains[i] = domain_left(t, m.active, &m.domains, i);
         i += 1;
     }
     r
@@ -183,12 +183,12 @@ fn below(x: u16, z: usize) -> bool
 }
 
 // 11 at one variable. An active one is one of the problem's and has values of its own only; another has an empty domain.
-fn fits_at(t: &[u16], m: Masks, n: usize, i: usize) -> bool
-    requires { ⌜ RowTable (now t) × (n ≡ (held (now t)) .n) × (i < 32) ⌝ }
-    ensures { λ r. ⌜ r ≡ fitsAt (held (now (t .entry))) (stateOf m) i ⌝ }
+fn fits_at(t: &[u16], active: u32, on: &[u16; 32], n: usize, i: usize) -> bool
+    requires { ⌜ RowTable (now t) × Proper (sets active (now on)) × (n ≡ (held (now t)) .n) × (i < 32) ⌝ }
+    ensures { λ r. ⌜ r ≡ fitsAt (held (now (t .entry))) (stateOf (sets active (now (on .entry)))) i ⌝ }
 {
-    let domain = m.domains[i];
-    if has32(m.active, i) {
+    let domain = on[i];
+    if has32(active, i) {
         (i < n) & below(domain, size(t, i))
     } else {
         domain == 0
@@ -196,14 +196,14 @@ fn fits_at(t: &[u16], m: Masks, n: usize, i: usize) -> bool
 }
 
 // 11: the state fits the sheet.
-fn fits(t: &[u16], m: Masks) -> bool
-    requires { ⌜ RowTable (now t) ⌝ }
-    ensures { λ r. ⌜ r ≡ stateFits (held (now (t .entry))) (stateOf m) ⌝ }
+fn fits(t: &[u16], active: u32, on: &[u16; 32]) -> bool
+    requires { ⌜ RowTable (now t) × Proper (sets active (now on)) ⌝ }
+    ensures { λ r. ⌜ r ≡ stateFits (held (now (t .entry))) (stateOf (sets active (now (on .entry)))) ⌝ }
 {
     let n = held::variables(t);
     let mut i: usize = 0;
     while i < 32 {
-        if !fits_at(t, m, n, i) {
+        if !fits_at(t, active, on, n, i) {
             return false;
         }
         i += 1;
@@ -223,13 +223,13 @@ fn is_active(m: Masks, i: u64) -> bool
 }
 
 // 14: the lowest value for which the snake rule holds, or 16.
-fn lowest_snake(t: &[u16], m: Masks, i: usize) -> usize
-    requires { ⌜ Ready (now t) m × (i < 32) ⌝ }
-    ensures { λ r. ⌜ r ≡ lowest maxValues (snakeHolds (held (now (t .entry))) (stateOf m) i) ⌝ }
+fn lowest_snake(t: &[u16], active: u32, on: &[u16; 32], i: usize) -> usize
+    requires { ⌜ Ready (now t) (sets active (now on)) × (i < 32) ⌝ }
+    ensures { λ r. ⌜ r ≡ lowest maxValues (snakeHolds (held (now (t .entry))) (stateOf (sets active (now (on .entry)))) i) ⌝ }
 {
     let mut v: usize = 0;
     while v < 16 {
-        if snake::snake(t, m, i, v) {
+        if snake::snake(t, active, on, i, v) {
             return v;
         }
         v += 1;
@@ -268,7 +268,7 @@ fn call_snake(t: &[u16], st: ManualState, i: usize) -> CallAnswer
     ensures { λ a. ⌜ a ≡ callOn (held (now (t .entry))) st i ⌝ }
 {
     let m = st.masks;
-    let v = lowest_snake(t, m, i);
+    let v = lowest_snake(t, m.active, &m.domains, i);
     if v < 16 {
         return eliminated(t, m, i, v);
     }
@@ -295,10 +295,16 @@ fn call_on(t: &[u16], st: ManualState, i: u64) -> CallAnswer
     ensures { λ a. ⌜ a ≡ callOn (held (now (t .entry))) st i ⌝ }
 {
     let m = st.masks;
-    if !fits(t, m) {
+    if !fits(t, m.active, &m.domains) {
         return refused_call(ManualRefusal::State, st);
     }
-    call_fitting(t, st, i, is_active(m, i), held::none_empty(t, m))
+    call_fitting(
+        t,
+        st,
+        i,
+        is_active(m, i),
+        held::none_empty(t, m.active, &m.domains),
+    )
 }
 
 fn called(s: &[u8], st: ManualState, i: u64) -> CallAnswer

@@ -26,21 +26,21 @@ proper c =
     }
 
 -- past the test of 11
-ready : (c : tie.Else1) → Ready (now (c .before .before .before .before .args .t)) (c .before .before .before .before .args .st .masks)
+ready : (c : tie.Else1) → Ready (now (c .before .before .before .before .before .before .args .t)) (c .before .before .before .before .before .before .args .st .masks)
 ready c =
-    let w = c .before .before .before .before in
+    let w = c .before .before .before .before .before .before in
     let e = sym (c .before .fits2 .ensures) ∙ not-false _ (c .if1 .left) in
     record { table = w .pre; proper = proper w; fits = fits-iff (held (now (w .args .t))) (w .args .st .masks) (proper w) .0 (T-of e) }
 
 fits-requires : tie.Need-fits-requires
-fits-requires c κs = search needs
+fits-requires c κs = let w = c .before .before .before .before in (w .pre, proper w)
 
 refused-call-requires : tie.Need-refused-call-requires
 refused-call-requires c κs = search needs
 
 returns : tie.Need-returns
 returns c =
-    let a = c .before .before .before .before .before .args in
+    let a = c .before .before .before .before .before .before .before .args in
     let P = held (now (a .t)) in
     let e = sym (c .before .before .fits2 .ensures) ∙ not-true _ (c .before .if1 .taken) in
     c .refused-call .ensures ∙ sym (ap (callAnswer P (a .st) (a .i)) (call-misfit P (stateOf (a .st .masks)) (a .i) e))
@@ -49,10 +49,10 @@ is-active-requires : tie.Need-is-active-requires
 is-active-requires c κs = search needs
 
 none-empty-requires : tie.Need-none-empty-requires
-none-empty-requires c κs = ready (c .before)
+none-empty-requires c κs = ready (c .before .before .before)
 
 call-fitting-requires : tie.Need-call-fitting-requires
-call-fitting-requires c κs = (ready (c .before .before), c .before .is-active .ensures, c .none-empty .ensures)
+call-fitting-requires c κs = (ready (c .before .before .before .before), c .before .before .before .is-active .ensures, c .none-empty .ensures)
 
 returns-2 : tie.Need-returns-2
 returns-2 c = search needs

@@ -19,8 +19,8 @@ eliminated-requires c κs = search needs
 
 returns : tie.Need-returns
 returns c =
-    let a = c .before .before .before .before .before .args in
-    let p = c .before .before .before .before .before .pre in
+    let a = c .before .before .before .before .before .before .before .args in
+    let p = c .before .before .before .before .before .before .before .pre in
     let P = held (now (a .t)) in
     let v = c .before .before .lowest-snake .ensures in
     c .eliminated .ensures
@@ -32,8 +32,8 @@ refused-call-requires c κs = search needs
 
 returns-2 : tie.Need-returns-2
 returns-2 c =
-    let a = c .before .before .before .before .before .args in
-    let p = c .before .before .before .before .before .pre in
+    let a = c .before .before .before .before .before .before .before .args in
+    let p = c .before .before .before .before .before .before .before .pre in
     let v = c .before .before .lowest-snake .ensures in
     c .refused-call .ensures
     ∙ sym (ap (callAnswer (held (now (a .t))) (a .st) (a .i)) (ready-none (p .0) (a .i) (p .2) (p .3) (subst (λ (k : ℕ). 16 ≤ k) v (c .before .if1 .left))))

@@ -7,7 +7,7 @@ use Rattle.bounded.specs.Mask.{maskOf}
 use Rattle.bounded.proofs.Mask.{mask-none, mask-next, mask-lt}
 use Rattle.problem.specs.Manual.{prune}
 use Rattle.problem.specs.Held.{held}
-use Rattle.problem.specs.Masks.{stateOf}
+use Rattle.problem.specs.Masks.{stateOf, sets}
 use Rattle.manual.specs.Parts.{domainLeft}
 use borrow.Author.Needs.{needs}
 use native.Mathlib.Omega.{arith}
@@ -15,10 +15,10 @@ use Rattle.manual.proofs.domain_left.Statement.{statement}
 use Rattle.manual.proofs.domain_left.Tie as tie
 
 abbrev Inv-loop : tie.InvT-loop
-Inv-loop t m i x₀ a₀ x a = (a ≤ 16) × (x ≡ maskOf a (prune (held t) (stateOf m) .live i))
+Inv-loop t active on i x₀ a₀ x a = (a ≤ 16) × (x ≡ maskOf a (prune (held t) (stateOf (sets active on)) .live i))
 
 abbrev μ-loop : tie.MeasureT-loop
-μ-loop t m i x₀ a₀ x a = 16 - a
+μ-loop t active on i x₀ a₀ x a = 16 - a
 
 small : (f : ℕ → Bool) (x a : ℕ) → a < 16 → x ≡ maskOf (a + 1) f → x < 2 ^ 16
 small f x a l e =

@@ -6,7 +6,7 @@ use borrow.Author.Tests.{not-true, not-false}
 use Rattle.bounded.specs.Bounded.{allBelow}
 use Rattle.bounded.proofs.Loops.{all-none, all-more, all-fail, all-end}
 use Rattle.problem.specs.Held.{held}
-use Rattle.problem.specs.Masks.{stateOf}
+use Rattle.problem.specs.Masks.{stateOf, sets}
 use Rattle.manual.specs.Parts.{fitsAt}
 use Rattle.manual.proofs.Laws.{fits-all}
 use borrow.Author.Needs.{needs}
@@ -15,10 +15,10 @@ use Rattle.manual.proofs.fits.Statement.{statement}
 use Rattle.manual.proofs.fits.Tie as tie
 
 abbrev Inv-loop : tie.InvT-loop
-Inv-loop t m n i₀ i = (i ≤ 32) × (allBelow i (fitsAt (held t) (stateOf m)) ≡ true)
+Inv-loop t active on n i₀ i = (i ≤ 32) × (allBelow i (fitsAt (held t) (stateOf (sets active on))) ≡ true)
 
 abbrev μ-loop : tie.MeasureT-loop
-μ-loop t m n i₀ i = 32 - i
+μ-loop t active on n i₀ i = 32 - i
 
 pub fits-spec : {M : Type 1} → statement M
 fits-spec =
@@ -26,7 +26,7 @@ fits-spec =
     (tie.spec Inv-loop μ-loop
     (λ c κs. search needs)
     (λ c. (search needs, all-none _))
-    (λ c κs. (c .before .before .before .before .pre, c .before .before .variables .ensures, search needs))
+    (λ c κs. let p = c .before .before .before .before .pre in (p .0, p .1, c .before .before .variables .ensures, search needs))
     (λ c. sym (sym (fits-all _ _) ∙ all-fail _ 32 _ (omega arith) (sym (c .before .fits-at .ensures) ∙ not-true _ (c .if1 .taken))))
     (λ c. omega arith)
     (λ c. omega arith)

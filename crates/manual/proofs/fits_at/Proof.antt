@@ -2,14 +2,13 @@
 use mathlib.Core.Path.{sym, ap, _∙_}
 use mathlib.Core.Bool.{Bool, _&&_}
 use Prim.Native.Nat.{ℕ}
-use mir.Val.{Fits}
-use mir.Syntax.{w16}
 use denote.Ref.{now}
 use lib.Dec.{ltb}
 use lib.ListN.{getD}
 use Rattle.bounded.specs.Bounded.{imp, allBelow}
 use Rattle.bounded.specs.Mask.{bit}
 use Rattle.problem.specs.Held.{held}
+use Rattle.problem.specs.Masks.{sets}
 use Rattle.problem.proofs.HeldTable.{held-narrow}
 use Rattle.manual.proofs.Laws.{fits-active, fits-idle}
 use borrow.Author.Needs.{needs}
@@ -36,17 +35,17 @@ returns : tie.Need-returns
 returns c =
     let a = c .before .before .before .before .before .before .args in
     let p = c .before .before .before .before .before .before .pre in
-    let e = c .below .ensures ∙ ap (λ (z : ℕ). allBelow 16 (λ v. imp (bit (getD (a .t2 .domains) (a .i) 0) v) (ltb v z))) (c .before .size .ensures) in
+    let e = c .below .ensures ∙ ap (λ (z : ℕ). allBelow 16 (λ v. imp (bit (getD (now (a .on)) (a .i) 0) v) (ltb v z))) (c .before .size .ensures) in
     let P = held (now (a .t)) in
-    ap (λ (n : ℕ). ltb (a .i) n && c .below .result) (p .1)
+    ap (λ (n : ℕ). ltb (a .i) n && c .below .result) (p .2)
     ∙ ap (λ (b : Bool). ltb (a .i) (P .n) && b) e
-    ∙ fits-active P (a .t2) (a .i) (sym (c .before .before .before .has32 .ensures) ∙ c .before .before .if1 .taken)
+    ∙ fits-active P (sets (a .active) (now (a .on))) (a .i) (sym (c .before .before .before .has32 .ensures) ∙ c .before .before .if1 .taken)
 
 returns-2 : tie.Need-returns-2
 returns-2 c =
     let a = c .before .before .before .before .args in
-    let l : Fits w16 (getD (a .t2 .domains) (a .i) 0) = search needs in
-    fits-idle _ (a .t2) (a .i) (l .fits) (sym (c .before .has32 .ensures) ∙ c .if1 .left)
+    let p = c .before .before .before .before .pre in
+    fits-idle _ (sets (a .active) (now (a .on))) (a .i) (p .1 .domain-lt _ (p .3)) (sym (c .before .has32 .ensures) ∙ c .if1 .left)
 
 pub fits-at-spec : {M : Type 1} → statement M
 fits-at-spec =

@@ -5,17 +5,17 @@ use Rattle.bounded.specs.Bounded.{lowest}
 use Rattle.bounded.proofs.Loops.{lowest-none, lowest-more, lowest-hit, lowest-end}
 use Rattle.problem.specs.Problem.{snake}
 use Rattle.problem.specs.Held.{held}
-use Rattle.problem.specs.Masks.{stateOf}
+use Rattle.problem.specs.Masks.{stateOf, sets}
 use borrow.Author.Needs.{needs}
 use native.Mathlib.Omega.{arith}
 use Rattle.manual.proofs.lowest_snake.Statement.{statement}
 use Rattle.manual.proofs.lowest_snake.Tie as tie
 
 abbrev Inv-loop : tie.InvT-loop
-Inv-loop t m i v₀ v = (v ≤ 16) × (lowest v (snake (held t) (stateOf m) i) ≡ v)
+Inv-loop t active on i v₀ v = (v ≤ 16) × (lowest v (snake (held t) (stateOf (sets active on)) i) ≡ v)
 
 abbrev μ-loop : tie.MeasureT-loop
-μ-loop t m i v₀ v = 16 - v
+μ-loop t active on i v₀ v = 16 - v
 
 loop-holds : tie.Need-loop-holds Inv-loop μ-loop
 loop-holds c = (search needs, lowest-none _)

@@ -6,7 +6,7 @@ use Rattle.bounded.specs.Bounded.{allBelow}
 use Rattle.bounded.proofs.Loops.{all-none, all-more, all-fail, all-end}
 use Rattle.problem.specs.Problem.{unsupported}
 use Rattle.problem.specs.Held.{held}
-use Rattle.problem.specs.Masks.{stateOf}
+use Rattle.problem.specs.Masks.{stateOf, sets}
 use Rattle.manual.specs.Parts.{noneBare}
 use borrow.Author.Needs.{needs}
 use native.Mathlib.Omega.{arith}
@@ -14,10 +14,10 @@ use Rattle.manual.proofs.none_bare.Statement.{statement}
 use Rattle.manual.proofs.none_bare.Tie as tie
 
 abbrev Inv-loop : tie.InvT-loop
-Inv-loop t m i a k₀ k = (k ≤ 32) × (allBelow k (λ k. not (unsupported (held t) (stateOf m) i a k)) ≡ true)
+Inv-loop t active on i a k₀ k = (k ≤ 32) × (allBelow k (λ k. not (unsupported (held t) (stateOf (sets active on)) i a k)) ≡ true)
 
 abbrev μ-loop : tie.MeasureT-loop
-μ-loop t m i a k₀ k = 32 - k
+μ-loop t active on i a k₀ k = 32 - k
 
 loop-holds : tie.Need-loop-holds Inv-loop μ-loop
 loop-holds c = (search needs, all-none _)

@@ -39,8 +39,8 @@ loop-less c = search needs
 
 loop-again : tie.Need-loop-again Inv-loop μ-loop
 loop-again c =
-    let w = c .before .before .loop in
-    let len : length (c .before .before .before .before .args .m .domains) ≡ 32 = search needs in
+    let w = c .before .before .before .before .loop in
+    let len : length (c .before .before .before .before .before .before .args .t2 .domains) ≡ 32 = search needs in
     (omega arith, w .inv .1, rw (w .inv .2, c .domain-left .ensures) (filled-more (w .i) _ _ (omega arith)))
 
 returns : tie.Need-returns Inv-loop μ-loop
