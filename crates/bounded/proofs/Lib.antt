@@ -3,3 +3,4 @@ pub mod Bounded
 pub mod Loops
 pub mod Mask
 pub mod Table
+pub mod Causes
