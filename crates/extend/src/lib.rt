@@ -15,10 +15,10 @@ ghost use Rattle.problem.specs.Held.{held, RowTable};
 ghost use Rattle.problem.specs.Masks.{stateOf, masksOf, Proper};
 ghost use Rattle.problem.specs.declared.Record.the-variants.{Snake, Triangle};
 ghost use Rattle.sheet.specs.Bytes.{Is};
-ghost use Rattle.sheet.specs.Sheet.{Keeps, layout, variablesOf};
+ghost use Rattle.sheet.specs.Sheet.{Keeps, layout};
 ghost use Rattle.sheet.specs.Relation.{problemOf};
 ghost use Rattle.rules.specs.Ready.{Ready, Value};
-ghost use Rattle.jobs.specs.PutBack.{planOf, planFits, checkTrace, afterCheck, putBackJob};
+ghost use Rattle.jobs.specs.PutBack.{planOf, planFits, checkTrace, afterCheck, putBackOver, putBackJob};
 ghost use Rattle.extend.specs.Walk.{checkedFrom, ended, faulty, lawfulEnd, goingOn, stoppedWith, checkedTurn};
 ghost use Rattle.extend.specs.Plan.{entryFits, Entries, pairFits, pairsOf};
 ghost use Rattle.extend.specs.Undone.{mended as mendedAt, Left, Undoable, UndoableFrom, undoneBy};
@@ -530,8 +530,8 @@ fn finish(
     Extended::Done
 }
 
-// The trace, then the plan, over the table of a sheet.
-fn put_back_over(t: &[u16], trace: &[u8], plan: &[u8], out: &mut [u8]) -> Extended
+// The trace, then the plan, over a filled table, with a plan and a result of a byte for each variable.
+fn put_back_sized(t: &[u16], trace: &[u8], plan: &[u8], out: &mut [u8]) -> Extended
     requires { ⌜ RowTable (now t) × ((length (now plan) ≡ (held (now t)) .n) × (length (now out) ≡ (held (now t)) .n)) ⌝ }
     ensures { λ r. ⌜ (r ≡ (afterCheck (held (now (t .entry))) (now (plan .entry)) (now (out .entry)) (checkTrace (held (now (t .entry))) (now (trace .entry)))) .answer) × (now (out .exit) ≡ (afterCheck (held (now (t .entry))) (now (plan .entry)) (now (out .entry)) (checkTrace (held (now (t .entry))) (now (trace .entry)))) .result) ⌝ }
 {
@@ -547,10 +547,26 @@ fn put_back_over(t: &[u16], trace: &[u8], plan: &[u8], out: &mut [u8]) -> Extend
     }
 }
 
-// The table of an accepted sheet, and the rest over it.
+// Putting back over a filled table: the lengths first, by its variables, then the trace and the plan. The plan of the whole problem from one
+// for the variables left. A refusal leaves the result as it was.
+pub fn put_back_over(t: &[u16], trace: &[u8], plan: &[u8], out: &mut [u8]) -> Extended
+    requires { ⌜ RowTable (now t) ⌝ }
+    ensures { λ r. ⌜ (r ≡ (putBackOver (held (now (t .entry))) (now (trace .entry)) (now (plan .entry)) (now (out .entry))) .answer) × (now (out .exit) ≡ (putBackOver (held (now (t .entry))) (now (trace .entry)) (now (plan .entry)) (now (out .entry))) .result) ⌝ }
+{
+    let n = reduce::variables(t);
+    if plan.len() != n {
+        return Extended::Refused(ExtendRefusal::PlanLength);
+    }
+    if out.len() != n {
+        return Extended::Refused(ExtendRefusal::ResultLength);
+    }
+    put_back_sized(t, trace, plan, out)
+}
+
+// Putting back over the table of a sheet that keeps the layout.
 fn put_back_sheet(s: &[u8], trace: &[u8], plan: &[u8], out: &mut [u8]) -> Extended
-    requires { ⌜ Keeps layout (now s) × ((length (now plan) ≡ variablesOf (now s)) × (length (now out) ≡ variablesOf (now s))) ⌝ }
-    ensures { λ r. ⌜ (r ≡ (afterCheck (problemOf layout (now (s .entry))) (now (plan .entry)) (now (out .entry)) (checkTrace (problemOf layout (now (s .entry))) (now (trace .entry)))) .answer) × (now (out .exit) ≡ (afterCheck (problemOf layout (now (s .entry))) (now (plan .entry)) (now (out .entry)) (checkTrace (problemOf layout (now (s .entry))) (now (trace .entry)))) .result) ⌝ }
+    requires { ⌜ Keeps layout (now s) ⌝ }
+    ensures { λ r. ⌜ (r ≡ (putBackOver (problemOf layout (now (s .entry))) (now (trace .entry)) (now (plan .entry)) (now (out .entry))) .answer) × (now (out .exit) ≡ (putBackOver (problemOf layout (now (s .entry))) (now (trace .entry)) (now (plan .entry)) (now (out .entry))) .result) ⌝ }
 {
     let mut t = [0u16; 16416];
     sheet::fill_table(s, &mut t);
@@ -561,20 +577,11 @@ fn put_back_sheet(s: &[u8], trace: &[u8], plan: &[u8], out: &mut [u8]) -> Extend
 pub fn put_back(s: &[u8], trace: &[u8], plan: &[u8], out: &mut [u8]) -> Extended
     ensures { λ r. ⌜ (r ≡ (putBackJob (now (s .entry)) (now (trace .entry)) (now (plan .entry)) (now (out .entry))) .answer) × (now (out .exit) ≡ (putBackJob (now (s .entry)) (now (trace .entry)) (now (plan .entry)) (now (out .entry))) .result) ⌝ }
 {
-    let read = sheet::read_sheet(s);
-    match read {
+    match sheet::read_sheet(s) {
         SheetRead::Refused(r) => Extended::Refused(ExtendRefusal::Sheet(r)),
         SheetRead::Accepted {
-            variables,
+            variables: _,
             blocks: _,
-        } => {
-            if plan.len() != variables {
-                return Extended::Refused(ExtendRefusal::PlanLength);
-            }
-            if out.len() != variables {
-                return Extended::Refused(ExtendRefusal::ResultLength);
-            }
-            put_back_sheet(s, trace, plan, out)
-        }
+        } => put_back_sheet(s, trace, plan, out),
     }
 }

@@ -1,6 +1,7 @@
 pub mod Starred
 pub mod Refusals
 pub mod Opened
+pub mod SheetCause
 pub mod Unaltered
 pub mod Ran
 pub mod Worked

@@ -30,7 +30,7 @@ use Rattle.jobs.specs.declared.Reduced.{Reduced}
 use Rattle.jobs.specs.declared.ReduceRefusal.{ReduceRefusal}
 use Rattle.jobs.specs.declared.ReduceRefusal.the-variants.{Sheet}
 use Rattle.jobs.specs.declared.ReduceOutcome.the-variants.{Done, Refused}
-use Rattle.jobs.proofs.Opened.{run-sheet-refused, run-accepted}
+use Rattle.jobs.proofs.Opened.{sheet-refused, sheet-kept, run-sheet-refused, run-accepted}
 use Rattle.trace.specs.Written.{written}
 use Rattle.trace.proofs.Written.{written-front}
 use Rattle.text.proofs.Laws.{Puts, after}
@@ -78,11 +78,11 @@ module _ (P : Problem) (B : Bounded P) (w : List ℕ) (e : End) (steps : ℕ) (m
 -- the text of a refused sheet and of one that is read
 refused-lines : (s : List ℕ) → (r : _) → readSheet layout s ≡ read.Refused r → sheetLines s ≡ refusedLine (sheetNumber r)
 unfolding sheetLines
-refused-lines s r e = rw (e, sheetLines)
+refused-lines s r e = sheet-refused s _ _ r e
 
 pub read-lines : (s : List ℕ) → Keeps layout s → sheetLines s ≡ runLines (problemOf layout s)
 unfolding sheetLines
-read-lines s K = rw (K, sheetLines)
+read-lines s K = sheet-kept s _ _ K
 
 module _ (s b : List ℕ) (long : 2561 ≤ length b) where
   -- a sheet that is read is worked, in every buffer of 1 + 5 × 512 bytes
