@@ -22,7 +22,7 @@ use Rattle.problem.proofs.Sound.{solves-iff, solvesWhole-iff}
 use Rattle.problem.proofs.Trace.{trace-fits}
 use Rattle.sheet.specs.Sheet.{layout, variablesOf, Keeps}
 use Rattle.sheet.specs.Relation.{problemOf}
-use Rattle.jobs.specs.Run.{RunResult, runOver, runJob}
+use Rattle.jobs.specs.Run.{runOver, runJob}
 use Rattle.jobs.specs.Trace.{traceBytes}
 use Rattle.jobs.specs.PutBack.{PutBackResult, planOf, planFits, putBackOver, putBackJob}
 use Rattle.jobs.specs.declared.ReduceOutcome.the-variants as reduced

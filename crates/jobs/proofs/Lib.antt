@@ -5,6 +5,7 @@ pub mod SheetCause
 pub mod Unaltered
 pub mod Ran
 pub mod Worked
+pub mod Fronted
 pub mod HandOrder
 pub mod Called
 pub mod Printed

@@ -30,6 +30,7 @@ use Rattle.jobs.specs.declared.Reduced.{Reduced}
 use Rattle.jobs.specs.declared.ReduceRefusal.{ReduceRefusal}
 use Rattle.jobs.specs.declared.ReduceRefusal.the-variants.{Sheet}
 use Rattle.jobs.specs.declared.ReduceOutcome.the-variants.{Done, Refused}
+use Rattle.jobs.proofs.Ran.{ran-iff}
 use Rattle.jobs.proofs.Opened.{sheet-refused, sheet-kept, run-sheet-refused, run-accepted}
 use Rattle.trace.specs.Written.{written}
 use Rattle.trace.proofs.Written.{written-front}
@@ -91,13 +92,7 @@ module _ (s b : List ℕ) (long : 2561 ≤ length b) where
 
   module _ (x : Reduced) (a : x ≡ (runJob s b) .answer) where
     pub done-keeps : (e : End) (k n : ℕ) → x .outcome ≡ Done e k n → Keeps layout s
-    done-keeps e k n o = go (readSheet layout s) refl
-      where
-        go : (y : SheetRead) → readSheet layout s ≡ y → Keeps layout s
-        go (read.Accepted i j) h = keeps layout s i j h
-        go (read.Refused r) h =
-            let q = ap (λ (y : RunResult). y .answer .outcome) (run-sheet-refused s b r h) in
-            let z : _≡_ {A = ℕ} 0 1 = cc (ap (λ (y : Reduced). y .outcome) a) in absurd (omega arith)
+    done-keeps e k n o = ran-iff s b (Done e k n) .0 (ap (λ (y : Reduced). y .outcome) (sym a) ∙ o) .0
 
     pub refused-text : (r : ReduceRefusal) → x .outcome ≡ Refused r → refusedLine (reduceNumber r) ≡ sheetLines s
     unfolding runDone
