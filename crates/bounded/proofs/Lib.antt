@@ -4,3 +4,4 @@ pub mod Loops
 pub mod Mask
 pub mod Table
 pub mod Guard
+pub mod Causes

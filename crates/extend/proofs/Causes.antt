@@ -1,6 +1,6 @@
 -- "[..] putting back with a fault, and no other, is turned away under the one number [..] for its first fault": what each answer says, and for
 -- each number its cause. Assumes nothing.
-use mathlib.Core.Path.{_≡_, refl, sym, ap, _∙_, subst}
+use mathlib.Core.Path.{_≡_, refl, sym, ap, _∙_}
 use mathlib.Core.Bool.{Bool, true, false, cond, _&&_, _||_, not}
 use mathlib.Core.List.{List, [], _++_}
 use mathlib.Core.Logic.{_⊎_, inl, inr, _≢_, _↔_}
@@ -11,6 +11,7 @@ use lib.ListN.{length}
 use Rattle.bounded.specs.Bounded.{imp, allBelow}
 use Rattle.bounded.proofs.Truth.{T-true, T-false, T-dec, eq-dec, and-iff, or-iff, not-iff, imp-fails, eqb-iff}
 use Rattle.bounded.proofs.Bounded.{all-iff, all-or}
+use Rattle.bounded.proofs.Causes.{cause-iff, number-iff}
 use Rattle.problem.specs.Problem.{Problem, State, full, allOther}
 use Rattle.problem.specs.Reduce.{lawful, lawfulTrace, afterTrace}
 use Rattle.problem.specs.Extend.{solves}
@@ -19,18 +20,15 @@ use Rattle.problem.proofs.Reflect.{Active, Live, Allowed, Fits, full-fits, allA
 use Rattle.problem.proofs.Sound.{Solution, solves-iff}
 use Rattle.problem.proofs.Trace.{trace-fits}
 use Rattle.sheet.specs.Bytes.{byteAt}
-use Rattle.sheet.specs.Sheet.{layout, readSheet, variablesOf, Keeps}
-use Rattle.sheet.specs.Relation.{problemOf}
-use Rattle.sheet.specs.declared.SheetRefusal.{SheetRefusal}
-use Rattle.sheet.specs.declared.SheetRead.the-variants as read
 use Rattle.sheet.proofs.Refusals.{sheet-number}
 use Rattle.jobs.specs.Numbers.{putBackNumber}
 use Rattle.jobs.specs.Trace.{recordBytes, traceBytes}
-use Rattle.jobs.specs.PutBack.{PutBackResult, putBackRefused, putBackDone, Checked, Lawful, Fault, checkTrace, planOf, planFits, afterCheck, putBackJob}
+use Rattle.jobs.specs.PutBack.{PutBackResult, putBackRefused, putBackDone, Checked, Lawful, Fault, checkTrace, planOf, planFits, afterCheck, putBackOver, putBackJob}
 use Rattle.jobs.specs.declared.Extended.{Extended}
 use Rattle.jobs.specs.declared.Extended.the-variants.{Done, Refused}
 use Rattle.jobs.specs.declared.ExtendRefusal.the-variants as refusal
-use Rattle.jobs.proofs.Opened.{sheet-or, put-back-sheet-refused, put-back-plan-length, put-back-result-length, put-back-checked}
+use Rattle.jobs.proofs.Opened.{put-back-plan-length-over, put-back-result-length-over, put-back-checked-over}
+use Rattle.jobs.proofs.SheetCause.{Whose, Sheets, Own, SheetCause, Told, sheet-iff}
 use Rattle.trace.proofs.Causes.{NoRecord, TraceCause, checked-iff}
 
 -- ---- the plan
@@ -97,65 +95,61 @@ module _ (P : Problem) (q : State) (p : List ℕ) where
 
 -- ---- why putting back answers as it does
 
--- the sheet's problem
-module _ (s t p b : List ℕ) where
-  abbrev problem : Problem
-  problem = problemOf layout s
-
+-- over a problem
+module _ (P : Problem) (t p b : List ℕ) where
   -- the state that records lead to
   abbrev left : List Record → State
-  left u = afterTrace problem (full problem) u
+  left u = afterTrace P (full P) u
 
-  -- the sheet keeps the layout, and plan and result have a byte an item
+  -- plan and result have a byte an item
   abbrev pub Sized : Type 0
-  Sized = Keeps layout s × ((length p ≡ variablesOf s) × (length b ≡ variablesOf s))
+  Sized = (length p ≡ P .n) × (length b ≡ P .n)
 
-  abbrev pub BackCause : Extended → Type 0
-  -- the sheet's own fault
-  BackCause (Refused (refusal.Sheet r)) = readSheet layout s ≡ read.Refused r
+  -- Why putting back over a problem answers as it does.
+  abbrev pub BackCauseOver : Extended → Type 0
+  BackCauseOver (Refused (refusal.Sheet r)) = ⊥
   -- 18: "plan is not n bytes"
-  BackCause (Refused refusal.PlanLength) = Keeps layout s × (length p ≢ variablesOf s)
+  BackCauseOver (Refused refusal.PlanLength) = length p ≢ P .n
   -- 20: "result buffer is not n bytes"
-  BackCause (Refused refusal.ResultLength) = Keeps layout s × ((length p ≡ variablesOf s) × (length b ≢ variablesOf s))
+  BackCauseOver (Refused refusal.ResultLength) = (length p ≡ P .n) × (length b ≢ P .n)
   -- 15: "no byte, or byte 0 is not 1"
-  BackCause (Refused refusal.TraceFront) = Sized × ((t ≡ []) ⊎ (byteAt t 0 ≢ 1))
+  BackCauseOver (Refused refusal.TraceFront) = Sized × ((t ≡ []) ⊎ (byteAt t 0 ≢ 1))
   -- 16: after the bytes of lawful records u, bytes that begin with no record's
-  BackCause (Refused refusal.Malformed) =
-      Sized × ((u : List Record) × (more : List ℕ) × (t ≡ traceBytes u ++ more) × T (lawfulTrace problem (full problem) u) × NoRecord more)
+  BackCauseOver (Refused refusal.Malformed) =
+      Sized × ((u : List Record) × (more : List ℕ) × (t ≡ traceBytes u ++ more) × T (lawfulTrace P (full P) u) × NoRecord more)
   -- 17: after the bytes of lawful records u, those of a record that is not lawful in the state reached
-  BackCause (Refused refusal.Unlawful) =
+  BackCauseOver (Refused refusal.Unlawful) =
       Sized
-      × ((u : List Record) × (r : Record) × (more : List ℕ) × (t ≡ traceBytes u ++ (recordBytes r ++ more)) × T (lawfulTrace problem (full problem) u)
-      × (T (lawful problem (left u) r) → ⊥))
+      × ((u : List Record) × (r : Record) × (more : List ℕ) × (t ≡ traceBytes u ++ (recordBytes r ++ more)) × T (lawfulTrace P (full P) u)
+      × (T (lawful P (left u) r) → ⊥))
   -- 19: the trace is lawful, and the plan is not one of what it leaves
-  BackCause (Refused refusal.Plan) =
-      Sized × ((u : List Record) × (t ≡ traceBytes u) × T (lawfulTrace problem (full problem) u) × PlanFault problem (left u) p)
+  BackCauseOver (Refused refusal.Plan) = Sized × ((u : List Record) × (t ≡ traceBytes u) × T (lawfulTrace P (full P) u) × PlanFault P (left u) p)
   -- accepted: the trace is lawful, and the plan is one of what it leaves
-  BackCause Done = Sized × ((u : List Record) × (t ≡ traceBytes u) × T (lawfulTrace problem (full problem) u) × T (planFits problem (left u) p))
+  BackCauseOver Done = Sized × ((u : List Record) × (t ≡ traceBytes u) × T (lawfulTrace P (full P) u) × T (planFits P (left u) p))
 
   abbrev planned : List Record → Bool → PutBackResult
-  planned u x = elim x [ true ↦ putBackDone problem u p | false ↦ putBackRefused refusal.Plan b ]
+  planned u x = elim x [ true ↦ putBackDone P u p | false ↦ putBackRefused refusal.Plan b ]
 
-  checks : Sized → (c : Checked) → TraceCause problem t c → (putBackJob s t p b) .answer ≡ (afterCheck problem p b c) .answer
-  checks Z c x = ap (λ (y : PutBackResult). y .answer) (put-back-checked s t p b (Z .0) (Z .1 .0) (Z .1 .1)) ∙ ap (λ (y : Checked). (afterCheck problem p b y) .answer) (checked-iff problem t c .1 x)
+  checks : Sized → (c : Checked) → TraceCause P t c → (putBackOver P t p b) .answer ≡ (afterCheck P p b c) .answer
+  checks Z c x = ap (λ (y : PutBackResult). y .answer) (put-back-checked-over P t p b (Z .0) (Z .1)) ∙ ap (λ (y : Checked). (afterCheck P p b y) .answer) (checked-iff P t c .1 x)
 
-  cause-answers : (o : Extended) → BackCause o → (putBackJob s t p b) .answer ≡ o
-  cause-answers (Refused (refusal.Sheet r)) e = ap (λ (y : PutBackResult). y .answer) (put-back-sheet-refused s t p b r e)
-  cause-answers (Refused refusal.PlanLength) (K, d) = ap (λ (y : PutBackResult). y .answer) (put-back-plan-length s t p b K d)
-  cause-answers (Refused refusal.ResultLength) (K, (e, d)) = ap (λ (y : PutBackResult). y .answer) (put-back-result-length s t p b K e d)
+  cause-answers : (o : Extended) → BackCauseOver o → (putBackOver P t p b) .answer ≡ o
+  cause-answers (Refused (refusal.Sheet r)) x = absurd x
+  cause-answers (Refused refusal.PlanLength) d = ap (λ (y : PutBackResult). y .answer) (put-back-plan-length-over P t p b d)
+  cause-answers (Refused refusal.ResultLength) (e, d) = ap (λ (y : PutBackResult). y .answer) (put-back-result-length-over P t p b e d)
   cause-answers (Refused refusal.TraceFront) (Z, x) = checks Z (Fault refusal.TraceFront) x
   cause-answers (Refused refusal.Malformed) (Z, x) = checks Z (Fault refusal.Malformed) x
   cause-answers (Refused refusal.Unlawful) (Z, x) = checks Z (Fault refusal.Unlawful) x
   cause-answers (Refused refusal.Plan) (Z, (u, e, l, x)) =
       checks Z (Lawful u) (e, l)
-      ∙ ap (λ (y : Bool). (planned u y) .answer) (T-false (planFits problem (left u) p) (plan-not problem (left u) p (trace-fits problem (full-fits problem) u) x))
-  cause-answers Done (Z, (u, e, l, x)) = checks Z (Lawful u) (e, l) ∙ ap (λ (y : Bool). (planned u y) .answer) (T-true (planFits problem (left u) p) x)
+      ∙ ap (λ (y : Bool). (planned u y) .answer) (T-false (planFits P (left u) p) (plan-not P (left u) p (trace-fits P (full-fits P) u) x))
+  cause-answers Done (Z, (u, e, l, x)) = checks Z (Lawful u) (e, l) ∙ ap (λ (y : Bool). (planned u y) .answer) (T-true (planFits P (left u) p) x)
 
-  some-cause : (o : Extended) × BackCause o
-  some-cause = by-sheet (sheet-or s)
+  some-cause : (o : Extended) × BackCauseOver o
+  some-cause = by-plan (eq-dec (length p) (P .n))
     where
-      by-check : Sized → (c : Checked) → TraceCause problem t c → (o : Extended) × BackCause o
-      by-check Z (Lawful u) x = elim (plan-or problem (left u) p) [ inl y ↦ (Done, (Z, (u, x .0, x .1, y))) | inr y ↦ (Refused refusal.Plan, (Z, (u, x .0, x .1, y))) ]
+      by-check : Sized → (c : Checked) → TraceCause P t c → (o : Extended) × BackCauseOver o
+      by-check Z (Lawful u) x = elim (plan-or P (left u) p) [ inl y ↦ (Done, (Z, (u, x .0, x .1, y))) | inr y ↦ (Refused refusal.Plan, (Z, (u, x .0, x .1, y))) ]
       by-check Z (Fault refusal.TraceFront) x = (Refused refusal.TraceFront, (Z, x))
       by-check Z (Fault refusal.Malformed) x = (Refused refusal.Malformed, (Z, x))
       by-check Z (Fault refusal.Unlawful) x = (Refused refusal.Unlawful, (Z, x))
@@ -164,49 +158,72 @@ module _ (s t p b : List ℕ) where
       by-check Z (Fault refusal.ResultLength) x = absurd x
       by-check Z (Fault refusal.Plan) x = absurd x
 
-      by-result : Keeps layout s → length p ≡ variablesOf s → (length b ≡ variablesOf s) ⊎ (length b ≢ variablesOf s) → (o : Extended) × BackCause o
-      by-result K e (inl f) = by-check (K, (e, f)) (checkTrace problem t) (checked-iff problem t (checkTrace problem t) .0 refl)
-      by-result K e (inr d) = (Refused refusal.ResultLength, (K, (e, d)))
+      by-result : length p ≡ P .n → (length b ≡ P .n) ⊎ (length b ≢ P .n) → (o : Extended) × BackCauseOver o
+      by-result e (inl f) = by-check (e, f) (checkTrace P t) (checked-iff P t (checkTrace P t) .0 refl)
+      by-result e (inr d) = (Refused refusal.ResultLength, (e, d))
 
-      by-plan : Keeps layout s → (length p ≡ variablesOf s) ⊎ (length p ≢ variablesOf s) → (o : Extended) × BackCause o
-      by-plan K (inl e) = by-result K e (eq-dec (length b) (variablesOf s))
-      by-plan K (inr d) = (Refused refusal.PlanLength, (K, d))
+      by-plan : (length p ≡ P .n) ⊎ (length p ≢ P .n) → (o : Extended) × BackCauseOver o
+      by-plan (inl e) = by-result e (eq-dec (length b) (P .n))
+      by-plan (inr d) = (Refused refusal.PlanLength, d)
 
-      by-sheet : ((r : SheetRefusal) × (readSheet layout s ≡ read.Refused r)) ⊎ Keeps layout s → (o : Extended) × BackCause o
-      by-sheet (inl x) = (Refused (refusal.Sheet (x .0)), x .1)
-      by-sheet (inr K) = by-plan K (eq-dec (length p) (variablesOf s))
+  -- Putting back over a problem answers as it does for its cause and for no other.
+  pub put-back-iff-over : (o : Extended) → ((putBackOver P t p b) .answer ≡ o) ↔ BackCauseOver o
+  put-back-iff-over = cause-iff ((putBackOver P t p b) .answer) BackCauseOver cause-answers some-cause
+
+-- ---- over a sheet
+
+abbrev pub whoseBack : Extended → Whose
+whoseBack (Refused (refusal.Sheet r)) = Sheets r
+whoseBack (Refused refusal.PlanLength) = Own
+whoseBack (Refused refusal.ResultLength) = Own
+whoseBack (Refused refusal.TraceFront) = Own
+whoseBack (Refused refusal.Malformed) = Own
+whoseBack (Refused refusal.Unlawful) = Own
+whoseBack (Refused refusal.Plan) = Own
+whoseBack Done = Own
+
+told : (o : Extended) → Told (λ r. Refused (refusal.Sheet r)) (whoseBack o) o
+told (Refused (refusal.Sheet r)) = refl
+told (Refused refusal.PlanLength) = tt
+told (Refused refusal.ResultLength) = tt
+told (Refused refusal.TraceFront) = tt
+told (Refused refusal.Malformed) = tt
+told (Refused refusal.Unlawful) = tt
+told (Refused refusal.Plan) = tt
+told Done = tt
+
+-- the answer that a number from 15 on stands for
+abbrev numbered : ℕ → Extended
+numbered k =
+    cond (eqb k 18) (Refused refusal.PlanLength)
+    (cond (eqb k 20) (Refused refusal.ResultLength)
+    (cond (eqb k 15) (Refused refusal.TraceFront)
+    (cond (eqb k 16) (Refused refusal.Malformed)
+    (cond (eqb k 17) (Refused refusal.Unlawful)
+    (Refused refusal.Plan)))))
+
+number-back : (o : Extended) → 10 ≤ putBackNumber o → numbered (putBackNumber o) ≡ o
+number-back Done l = absurd (omega arith)
+number-back (Refused (refusal.Sheet r)) l = let m = sheet-number r in absurd (omega arith)
+number-back (Refused refusal.PlanLength) l = refl
+number-back (Refused refusal.ResultLength) l = refl
+number-back (Refused refusal.TraceFront) l = refl
+number-back (Refused refusal.Malformed) l = refl
+number-back (Refused refusal.Unlawful) l = refl
+number-back (Refused refusal.Plan) l = refl
+
+module _ (s t p b : List ℕ) where
+  -- Why putting back answers as it does: the sheet's own fault, or the cause over its problem.
+  abbrev pub BackCause : Extended → Type 0
+  BackCause o = SheetCause s (whoseBack o) (λ P. BackCauseOver P t p b o)
 
   -- Putting back answers as it does for its cause and for no other.
   pub put-back-iff : (o : Extended) → ((putBackJob s t p b) .answer ≡ o) ↔ BackCause o
-  put-back-iff o = (λ e. subst BackCause (sym (cause-answers (some-cause .0) (some-cause .1)) ∙ e) (some-cause .1), cause-answers o)
-
-  -- ---- the numbers
-
-  -- the answer that a number from 15 on stands for
-  abbrev numbered : ℕ → Extended
-  numbered k =
-      cond (eqb k 18) (Refused refusal.PlanLength)
-      (cond (eqb k 20) (Refused refusal.ResultLength)
-      (cond (eqb k 15) (Refused refusal.TraceFront)
-      (cond (eqb k 16) (Refused refusal.Malformed)
-      (cond (eqb k 17) (Refused refusal.Unlawful)
-      (Refused refusal.Plan)))))
-
-  number-back : (o : Extended) → 10 ≤ putBackNumber o → numbered (putBackNumber o) ≡ o
-  number-back Done l = absurd (omega arith)
-  number-back (Refused (refusal.Sheet r)) l = let m = sheet-number r in absurd (omega arith)
-  number-back (Refused refusal.PlanLength) l = refl
-  number-back (Refused refusal.ResultLength) l = refl
-  number-back (Refused refusal.TraceFront) l = refl
-  number-back (Refused refusal.Malformed) l = refl
-  number-back (Refused refusal.Unlawful) l = refl
-  number-back (Refused refusal.Plan) l = refl
+  unfolding putBackJob
+  put-back-iff = sheet-iff s _ _ (λ (y : PutBackResult). y .answer) whoseBack told (λ r. refl) (λ P. BackCauseOver P t p b) (λ P r x. x) (λ P. put-back-iff-over P t p b)
 
   by-number : (o : Extended) → 10 ≤ putBackNumber o → (putBackNumber ((putBackJob s t p b) .answer) ≡ putBackNumber o) ↔ BackCause o
-  by-number o l = (
-    λ e. put-back-iff o .0 (sym (number-back ((putBackJob s t p b) .answer) (rw e l)) ∙ ap numbered e ∙ number-back o l),
-    λ x. ap putBackNumber (put-back-iff o .1 x),
-  )
+  by-number = number-iff ((putBackJob s t p b) .answer) BackCause put-back-iff putBackNumber numbered (λ k. 10 ≤ k) number-back
 
   pub put-back-18 : (putBackNumber ((putBackJob s t p b) .answer) ≡ 18) ↔ BackCause (Refused refusal.PlanLength)
   put-back-18 = by-number (Refused refusal.PlanLength) (omega arith)

@@ -1,4 +1,4 @@
--- After the trace is checked, and over the table of a sheet. Assumes nothing.
+-- After the trace is checked. Assumes nothing.
 use mathlib.Core.Path.{_≡_, sym, ap, _∙_, subst}
 use mathlib.Core.Bool.{Bool, true, false}
 use mathlib.Core.List.{List}
@@ -8,18 +8,13 @@ use Rattle.bounded.specs.Table.{tab}
 use Rattle.problem.specs.Problem.{Problem, State, full}
 use Rattle.problem.specs.Reduce.{afterTrace}
 use Rattle.problem.specs.Extend.{undoTrace}
-use Rattle.problem.specs.Held.{held, tableOf, RowTable}
+use Rattle.problem.specs.Held.{held, RowTable}
 use Rattle.problem.specs.Masks.{stateOf, masksOf}
 use Rattle.problem.specs.declared.Masks.{Masks}
 use Rattle.problem.specs.declared.Record.{Record}
 use Rattle.problem.proofs.Reflect.{Fits, full-fits}
 use Rattle.problem.proofs.Sound.{Solution}
 use Rattle.problem.proofs.Trace.{trace-fits}
-use Rattle.problem.proofs.HeldTable.{held-same, table-rows}
-use Rattle.sheet.specs.Sheet.{layout, readSheet, variablesOf, Keeps}
-use Rattle.sheet.specs.Relation.{problemOf}
-use Rattle.sheet.specs.declared.SheetRead.the-variants as read
-use Rattle.sheet.proofs.Accepted.{keeps, problem-bounded}
 use Rattle.jobs.specs.PutBack.{Checked, Lawful as Records, planOf, planFits, checkTrace, PutBackResult, putBackRefused, putBackDone, afterCheck}
 use Rattle.jobs.specs.declared.Extended.the-variants.{Done}
 use Rattle.jobs.specs.declared.ExtendRefusal.the-variants.{Plan}
@@ -91,18 +86,3 @@ module _ {t : List ℕ} (R : RowTable t) (trace plan out : List ℕ) (last : Mas
               ∙ ap (λ (z : List ℕ). tab ((held t) .n) (undoTrace (held t) (full (held t)) records (planOf z))) ex
               ∙ ap (λ (r : PutBackResult). r .result) g,
         )
-
--- ---- over the table of a sheet
-
-pub sheet-table : (s t : List ℕ) → Keeps layout s → t ≡ tableOf (problemOf layout s) → RowTable t × (held t ≡ problemOf layout s)
-sheet-table s t y e =
-    let B = problem-bounded s y in
-    (subst RowTable (sym e) (table-rows (problemOf layout s) B), ap held e ∙ held-same (problemOf layout s) B)
-
-pub sheet-variables : (s t : List ℕ) → held t ≡ problemOf layout s → variablesOf s ≡ (held t) .n
-unfolding problemOf
-sheet-variables s t e = ap (λ (P : Problem). P .n) (sym e)
-
--- the variables that an accepted sheet answers are its own
-pub answered : (s : List ℕ) (n m : ℕ) → readSheet layout s ≡ read.Accepted n m → (Keeps layout s) × (n ≡ variablesOf s)
-answered s n m e = let k = keeps layout s n m e in (k, cc)

@@ -2,7 +2,7 @@
 ghost use mathlib.Core.Path.{_≡_};
 ghost use mathlib.Core.Bool.{_&&_, true, false};
 ghost use mathlib.Core.Logic.{_≢_};
-ghost use Prim.Native.Nat.{_-_, _<_, _≤_};
+ghost use Prim.Native.Nat.{_<_, _≤_};
 ghost use lib.Dec.{T};
 ghost use lib.ListN.{length};
 ghost use Rattle.bounded.specs.Bounded.{allBelow};
@@ -12,13 +12,13 @@ ghost use Rattle.problem.specs.Problem.{snakeSubstitution as slideAt, slideSpar
 ghost use Rattle.problem.specs.Reduce.{holds as holdsAt, lawful as lawfulAt, after};
 ghost use Rattle.problem.specs.Extend.{undo};
 ghost use Rattle.problem.specs.Held.{held, RowTable};
-ghost use Rattle.problem.specs.Masks.{stateOf, masksOf, Proper};
+ghost use Rattle.problem.specs.Masks.{stateOf, masksOf, Proper, sets};
 ghost use Rattle.problem.specs.declared.Record.the-variants.{Snake, Triangle};
 ghost use Rattle.sheet.specs.Bytes.{Is};
-ghost use Rattle.sheet.specs.Sheet.{Keeps, layout, variablesOf};
+ghost use Rattle.sheet.specs.Sheet.{Keeps, layout};
 ghost use Rattle.sheet.specs.Relation.{problemOf};
 ghost use Rattle.held.specs.Ready.{Ready, Value};
-ghost use Rattle.jobs.specs.PutBack.{planOf, planFits, checkTrace, afterCheck, putBackJob};
+ghost use Rattle.jobs.specs.PutBack.{planOf, planFits, checkTrace, afterCheck, putBackOver, putBackJob};
 ghost use Rattle.extend.specs.Walk.{checkedFrom, ended, faulty, lawfulEnd, goingOn, stoppedWith, checkedTurn};
 ghost use Rattle.extend.specs.Plan.{entryFits, Entries, pairFits, pairsOf};
 ghost use Rattle.extend.specs.Undone.{mended as mendedAt, Left, Undoable, UndoableFrom, undoneBy};
@@ -51,82 +51,82 @@ struct TraceEnd {
 
 // ---- one record, with any numbers in its fields
 
-fn holds_unsupported(t: &[u16], m: Masks, i: usize, b: usize, k: usize) -> bool
-    requires { ⌜ Ready (now t) m ⌝ }
-    ensures { λ r. ⌜ r ≡ unsupportedAt (held (now (t .entry))) (stateOf m) i b k ⌝ }
+fn holds_unsupported(t: &[u16], active: u32, on: &[u16; 32], i: usize, b: usize, k: usize) -> bool
+    requires { ⌜ Ready (now t) (sets active (now on)) ⌝ }
+    ensures { λ r. ⌜ r ≡ unsupportedAt (held (now (t .entry))) (stateOf (sets active (now (on .entry)))) i b k ⌝ }
 {
     if (i < 32) & ((b < 16) & (k < 32)) {
-        unsupported::unsupported(t, m, i, b, k)
+        unsupported::unsupported(t, active, on, i, b, k)
     } else {
         false
     }
 }
 
-fn holds_snake(t: &[u16], m: Masks, i: usize, v: usize) -> bool
-    requires { ⌜ Ready (now t) m ⌝ }
-    ensures { λ r. ⌜ r ≡ snakeAt (held (now (t .entry))) (stateOf m) i v ⌝ }
+fn holds_snake(t: &[u16], active: u32, on: &[u16; 32], i: usize, v: usize) -> bool
+    requires { ⌜ Ready (now t) (sets active (now on)) ⌝ }
+    ensures { λ r. ⌜ r ≡ snakeAt (held (now (t .entry))) (stateOf (sets active (now (on .entry)))) i v ⌝ }
 {
     if (i < 32) & (v < 16) {
-        snake::snake(t, m, i, v)
+        snake::snake(t, active, on, i, v)
     } else {
         false
     }
 }
 
-fn holds_triangle(t: &[u16], m: Masks, i: usize, j: usize) -> bool
-    requires { ⌜ Ready (now t) m ⌝ }
-    ensures { λ r. ⌜ r ≡ triangleAt (held (now (t .entry))) (stateOf m) i j ⌝ }
+fn holds_triangle(t: &[u16], active: u32, on: &[u16; 32], i: usize, j: usize) -> bool
+    requires { ⌜ Ready (now t) (sets active (now on)) ⌝ }
+    ensures { λ r. ⌜ r ≡ triangleAt (held (now (t .entry))) (stateOf (sets active (now (on .entry)))) i j ⌝ }
 {
     if (i < 32) & (j < 32) {
-        triangle::triangle(t, m, i, j)
+        triangle::triangle(t, active, on, i, j)
     } else {
         false
     }
 }
 
-fn holds_neighbourhood(t: &[u16], m: Masks, i: usize, b: usize, a: usize) -> bool
-    requires { ⌜ Ready (now t) m ⌝ }
-    ensures { λ r. ⌜ r ≡ neighbourhoodAt (held (now (t .entry))) (stateOf m) i b a ⌝ }
+fn holds_neighbourhood(t: &[u16], active: u32, on: &[u16; 32], i: usize, b: usize, a: usize) -> bool
+    requires { ⌜ Ready (now t) (sets active (now on)) ⌝ }
+    ensures { λ r. ⌜ r ≡ neighbourhoodAt (held (now (t .entry))) (stateOf (sets active (now (on .entry)))) i b a ⌝ }
 {
     if (i < 32) & ((b < 16) & (a < 16)) {
-        neighbourhood::neighbourhood(t, m, i, b, a)
+        neighbourhood::neighbourhood(t, active, on, i, b, a)
     } else {
         false
     }
 }
 
-fn holds_slide(t: &[u16], m: Masks, i: usize, b: usize, a: usize) -> bool
-    requires { ⌜ Ready (now t) m ⌝ }
-    ensures { λ r. ⌜ r ≡ slideAt (held (now (t .entry))) (stateOf m) slideSpares i b a ⌝ }
+fn holds_slide(t: &[u16], active: u32, on: &[u16; 32], i: usize, b: usize, a: usize) -> bool
+    requires { ⌜ Ready (now t) (sets active (now on)) ⌝ }
+    ensures { λ r. ⌜ r ≡ slideAt (held (now (t .entry))) (stateOf (sets active (now (on .entry)))) slideSpares i b a ⌝ }
 {
     if (i < 32) & ((b < 16) & (a < 16)) {
-        snake_substitution::snake_substitution(t, m, i, b, a)
+        snake_substitution::snake_substitution(t, active, on, i, b, a)
     } else {
         false
     }
 }
 
 // The rule of the record's kind holds for its fields.
-fn holds(t: &[u16], m: Masks, r: Record) -> bool
-    requires { ⌜ Ready (now t) m ⌝ }
-    ensures { λ b. ⌜ b ≡ holdsAt (held (now (t .entry))) (stateOf m) r ⌝ }
+fn holds(t: &[u16], active: u32, on: &[u16; 32], r: Record) -> bool
+    requires { ⌜ Ready (now t) (sets active (now on)) ⌝ }
+    ensures { λ b. ⌜ b ≡ holdsAt (held (now (t .entry))) (stateOf (sets active (now (on .entry)))) r ⌝ }
 {
     match r {
-        Record::Unsupported(i, b, k) => holds_unsupported(t, m, i, b, k),
-        Record::Snake(i, v) => holds_snake(t, m, i, v),
-        Record::Triangle(i, j) => holds_triangle(t, m, i, j),
-        Record::Neighbourhood(i, b, a) => holds_neighbourhood(t, m, i, b, a),
-        Record::SnakeSubstitution(i, b, a) => holds_slide(t, m, i, b, a),
+        Record::Unsupported(i, b, k) => holds_unsupported(t, active, on, i, b, k),
+        Record::Snake(i, v) => holds_snake(t, active, on, i, v),
+        Record::Triangle(i, j) => holds_triangle(t, active, on, i, j),
+        Record::Neighbourhood(i, b, a) => holds_neighbourhood(t, active, on, i, b, a),
+        Record::SnakeSubstitution(i, b, a) => holds_slide(t, active, on, i, b, a),
     }
 }
 
 // No record is lawful once an active variable has an empty domain.
-fn lawful(t: &[u16], m: Masks, r: Record) -> bool
-    requires { ⌜ Ready (now t) m ⌝ }
-    ensures { λ b. ⌜ b ≡ lawfulAt (held (now (t .entry))) (stateOf m) r ⌝ }
+fn lawful(t: &[u16], active: u32, on: &[u16; 32], r: Record) -> bool
+    requires { ⌜ Ready (now t) (sets active (now on)) ⌝ }
+    ensures { λ b. ⌜ b ≡ lawfulAt (held (now (t .entry))) (stateOf (sets active (now (on .entry)))) r ⌝ }
 {
-    if held::none_empty(t, m) {
-        holds(t, m, r)
+    if held::none_empty(t, active, on) {
+        holds(t, active, on, r)
     } else {
         false
     }
@@ -185,7 +185,7 @@ fn check_record(t: &[u16], c: Checking, x: RecordRead) -> Checking
     let m = end.state;
     match x {
         RecordRead::Read { record, next: _ } => {
-            if lawful(t, m, record) {
+            if lawful(t, m.active, &m.domains, record) {
                 going(apply(t, m, record))
             } else {
                 stopped(fault(ExtendRefusal::Unlawful))
@@ -227,36 +227,32 @@ fn check_trace(t: &[u16], trace: &[u8], first: Masks) -> TraceEnd
 // ---- the plan
 
 // Value v is in the domain of variable i.
-fn is_live(m: Masks, i: usize, v: usize) -> bool
-    requires { ⌜ Proper m × (i < 32) ⌝ }
-    ensures { λ r. ⌜ r ≡ (stateOf m) .live i v ⌝ }
+fn is_live(active: u32, on: &[u16; 32], i: usize, v: usize) -> bool
+    requires { ⌜ Proper (sets active (now on)) × (i < 32) ⌝ }
+    ensures { λ r. ⌜ r ≡ (stateOf (sets active (now (on .entry)))) .live i v ⌝ }
 {
-    if v < 16 {
-        has16(m.domains[i], v)
-    } else {
-        false
-    }
+    if v < 16 { has16(on[i], v) } else { false }
 }
 
 // An item in has a setting on, and an item out has 255.
-fn entry_fits(m: Masks, i: usize, v: usize) -> bool
-    requires { ⌜ Proper m × (i < 32) ⌝ }
-    ensures { λ r. ⌜ r ≡ entryFits (stateOf m) i v ⌝ }
+fn entry_fits(active: u32, on: &[u16; 32], i: usize, v: usize) -> bool
+    requires { ⌜ Proper (sets active (now on)) × (i < 32) ⌝ }
+    ensures { λ r. ⌜ r ≡ entryFits (stateOf (sets active (now (on .entry)))) i v ⌝ }
 {
-    if has32(m.active, i) {
-        is_live(m, i, v)
+    if has32(active, i) {
+        is_live(active, on, i, v)
     } else {
         v == 255
     }
 }
 
-fn entries_fit(m: Masks, plan: &[u8]) -> bool
-    requires { ⌜ Proper m × (length (now plan) ≤ 32) ⌝ }
-    ensures { λ r. ⌜ r ≡ allBelow (length (now (plan .entry))) (λ i. entryFits (stateOf m) i (planOf (now (plan .entry)) i)) ⌝ }
+fn entries_fit(active: u32, on: &[u16; 32], plan: &[u8]) -> bool
+    requires { ⌜ Proper (sets active (now on)) × (length (now plan) ≤ 32) ⌝ }
+    ensures { λ r. ⌜ r ≡ allBelow (length (now (plan .entry))) (λ i. entryFits (stateOf (sets active (now (on .entry)))) i (planOf (now (plan .entry)) i)) ⌝ }
 {
     let mut i: usize = 0;
     while i < plan.len() {
-        if !entry_fits(m, i, plan[i] as usize) {
+        if !entry_fits(active, on, i, plan[i] as usize) {
             return false;
         }
         i += 1;
@@ -265,24 +261,24 @@ fn entries_fit(m: Masks, plan: &[u8]) -> bool
 }
 
 // Two items in have an allowed pair.
-fn pair_fits(t: &[u16], m: Masks, plan: &[u8], i: usize, j: usize) -> bool
-    requires { ⌜ Ready (now t) m × (Entries m (now plan) × ((i < length (now plan)) × (j < length (now plan)))) ⌝ }
-    ensures { λ r. ⌜ r ≡ pairFits (held (now (t .entry))) (stateOf m) (planOf (now (plan .entry))) i j ⌝ }
+fn pair_fits(t: &[u16], active: u32, on: &[u16; 32], plan: &[u8], i: usize, j: usize) -> bool
+    requires { ⌜ Ready (now t) (sets active (now on)) × (Entries (sets active (now on)) (now plan) × ((i < length (now plan)) × (j < length (now plan)))) ⌝ }
+    ensures { λ r. ⌜ r ≡ pairFits (held (now (t .entry))) (stateOf (sets active (now (on .entry)))) (planOf (now (plan .entry))) i j ⌝ }
 {
-    if has32(m.active, i) & (has32(m.active, j) & (i != j)) {
+    if has32(active, i) & (has32(active, j) & (i != j)) {
         held::pair_allowed(t, i, plan[i] as usize, j, plan[j] as usize)
     } else {
         true
     }
 }
 
-fn pairs_of(t: &[u16], m: Masks, plan: &[u8], i: usize) -> bool
-    requires { ⌜ Ready (now t) m × (Entries m (now plan) × ((length (now plan) ≡ (held (now t)) .n) × (i < length (now plan)))) ⌝ }
-    ensures { λ r. ⌜ r ≡ pairsOf (held (now (t .entry))) (stateOf m) (planOf (now (plan .entry))) i ⌝ }
+fn pairs_of(t: &[u16], active: u32, on: &[u16; 32], plan: &[u8], i: usize) -> bool
+    requires { ⌜ Ready (now t) (sets active (now on)) × (Entries (sets active (now on)) (now plan) × ((length (now plan) ≡ (held (now t)) .n) × (i < length (now plan)))) ⌝ }
+    ensures { λ r. ⌜ r ≡ pairsOf (held (now (t .entry))) (stateOf (sets active (now (on .entry)))) (planOf (now (plan .entry))) i ⌝ }
 {
     let mut j: usize = 0;
     while j < plan.len() {
-        if !pair_fits(t, m, plan, i, j) {
+        if !pair_fits(t, active, on, plan, i, j) {
             return false;
         }
         j += 1;
@@ -290,13 +286,13 @@ fn pairs_of(t: &[u16], m: Masks, plan: &[u8], i: usize) -> bool
     true
 }
 
-fn pairs_fit(t: &[u16], m: Masks, plan: &[u8]) -> bool
-    requires { ⌜ Ready (now t) m × (Entries m (now plan) × (length (now plan) ≡ (held (now t)) .n)) ⌝ }
-    ensures { λ r. ⌜ r ≡ allBelow ((held (now (t .entry))) .n) (pairsOf (held (now (t .entry))) (stateOf m) (planOf (now (plan .entry)))) ⌝ }
+fn pairs_fit(t: &[u16], active: u32, on: &[u16; 32], plan: &[u8]) -> bool
+    requires { ⌜ Ready (now t) (sets active (now on)) × (Entries (sets active (now on)) (now plan) × (length (now plan) ≡ (held (now t)) .n)) ⌝ }
+    ensures { λ r. ⌜ r ≡ allBelow ((held (now (t .entry))) .n) (pairsOf (held (now (t .entry))) (stateOf (sets active (now (on .entry)))) (planOf (now (plan .entry)))) ⌝ }
 {
     let mut i: usize = 0;
     while i < plan.len() {
-        if !pairs_of(t, m, plan, i) {
+        if !pairs_of(t, active, on, plan, i) {
             return false;
         }
         i += 1;
@@ -309,8 +305,8 @@ fn plan_fits(t: &[u16], m: Masks, plan: &[u8]) -> bool
     requires { ⌜ Ready (now t) m × (length (now plan) ≡ (held (now t)) .n) ⌝ }
     ensures { λ r. ⌜ r ≡ planFits (held (now (t .entry))) (stateOf m) (now (plan .entry)) ⌝ }
 {
-    if entries_fit(m, plan) {
-        pairs_fit(t, m, plan)
+    if entries_fit(m.active, &m.domains, plan) {
+        pairs_fit(t, m.active, &m.domains, plan)
     } else {
         false
     }
@@ -318,26 +314,43 @@ fn plan_fits(t: &[u16], m: Masks, plan: &[u8]) -> bool
 
 // ---- undoing kind 2
 
-fn serves_snake(t: &[u16], m: Masks, i: usize, v: usize, j: usize, w: usize, c: usize) -> bool
-    requires { ⌜ Ready (now t) m × (Value (now t) i v × (Value (now t) j w × (c < 16))) ⌝ }
-    ensures { λ r. ⌜ r ≡ ((stateOf m) .live j c && snakeServes (held (now (t .entry))) (stateOf m) i v j w c) ⌝ }
+fn serves_snake(
+    t: &[u16],
+    active: u32,
+    on: &[u16; 32],
+    i: usize,
+    v: usize,
+    j: usize,
+    w: usize,
+    c: usize,
+) -> bool
+    requires { ⌜ Ready (now t) (sets active (now on)) × (Value (now t) i v × (Value (now t) j w × (c < 16))) ⌝ }
+    ensures { λ r. ⌜ r ≡ ((stateOf (sets active (now (on .entry)))) .live j c && snakeServes (held (now (t .entry))) (stateOf (sets active (now (on .entry)))) i v j w c) ⌝ }
 {
-    if is_live(m, j, c) {
-        snake::snake_serves(t, m, i, v, j, w, c)
+    if is_live(active, on, j, c) {
+        snake::snake_serves(t, active, on, i, v, j, w, c)
     } else {
         false
     }
 }
 
 // The lowest w' that may take the place of w at j where i has v.
-fn lowest_snake(t: &[u16], m: Masks, i: usize, v: usize, j: usize, w: usize) -> usize
-    requires { ⌜ Ready (now t) m × (Value (now t) i v × Value (now t) j w) ⌝ }
-    ensures { λ r. ⌜ Is (lowestLive (held (now (t .entry))) (stateOf m) j (λ c. snakeServes (held (now (t .entry))) (stateOf m) i v j w c)) 17 r ⌝ }
+fn lowest_snake(
+    t: &[u16],
+    active: u32,
+    on: &[u16; 32],
+    i: usize,
+    v: usize,
+    j: usize,
+    w: usize,
+) -> usize
+    requires { ⌜ Ready (now t) (sets active (now on)) × (Value (now t) i v × Value (now t) j w) ⌝ }
+    ensures { λ r. ⌜ Is (lowestLive (held (now (t .entry))) (stateOf (sets active (now (on .entry)))) j (λ c. snakeServes (held (now (t .entry))) (stateOf (sets active (now (on .entry)))) i v j w c)) 17 r ⌝ }
 {
     let size = t[j] as usize;
     let mut c: usize = 0;
     while c < size {
-        if serves_snake(t, m, i, v, j, w, c) {
+        if serves_snake(t, active, on, i, v, j, w, c) {
             return c;
         }
         c += 1;
@@ -346,71 +359,79 @@ fn lowest_snake(t: &[u16], m: Masks, i: usize, v: usize, j: usize, w: usize) -> 
 }
 
 // The value of another active variable j once i has v.
-fn mended_other(t: &[u16], m: Masks, i: usize, v: usize, j: usize, w: u8) -> u8
-    requires { ⌜ Ready (now t) m × (Value (now t) i v × (Value (now t) j w × (((stateOf m) .active j ≡ true) × (j ≢ i)))) ⌝ }
-    ensures { λ r. ⌜ r ≡ mendedAt (held (now (t .entry))) (stateOf m) i v j w ⌝ }
+fn mended_other(t: &[u16], active: u32, on: &[u16; 32], i: usize, v: usize, j: usize, w: u8) -> u8
+    requires { ⌜ Ready (now t) (sets active (now on)) × (Value (now t) i v × (Value (now t) j w × (((stateOf (sets active (now on))) .active j ≡ true) × (j ≢ i)))) ⌝ }
+    ensures { λ r. ⌜ r ≡ mendedAt (held (now (t .entry))) (stateOf (sets active (now (on .entry)))) i v j w ⌝ }
 {
     if held::pair_allowed(t, i, v, j, w as usize) {
         w
     } else {
-        lowest_snake(t, m, i, v, j, w as usize) as u8
+        lowest_snake(t, active, on, i, v, j, w as usize) as u8
     }
 }
 
 // The value of j once i has v. What stands at a variable that is not active is left, and i is set afterwards.
-fn mended(t: &[u16], m: Masks, i: usize, v: usize, j: usize, w: u8) -> u8
-    requires { ⌜ Ready (now t) m × (Value (now t) i v × ((j < 32) × (T ((stateOf m) .active j) → j ≢ i → T ((stateOf m) .live j w)))) ⌝ }
-    ensures { λ r. ⌜ r ≡ mendedAt (held (now (t .entry))) (stateOf m) i v j w ⌝ }
+fn mended(t: &[u16], active: u32, on: &[u16; 32], i: usize, v: usize, j: usize, w: u8) -> u8
+    requires { ⌜ Ready (now t) (sets active (now on)) × (Value (now t) i v × ((j < 32) × (T ((stateOf (sets active (now on))) .active j) → j ≢ i → T ((stateOf (sets active (now on))) .live j w)))) ⌝ }
+    ensures { λ r. ⌜ r ≡ mendedAt (held (now (t .entry))) (stateOf (sets active (now (on .entry)))) i v j w ⌝ }
 {
-    if has32(m.active, j) & (j != i) {
-        mended_other(t, m, i, v, j, w)
+    if has32(active, j) & (j != i) {
+        mended_other(t, active, on, i, v, j, w)
     } else {
         w
     }
 }
 
 // Each other item's setting that is barred with v changes.
-fn repair(t: &[u16], m: Masks, i: usize, v: usize, out: &mut [u8])
-    requires { ⌜ Ready (now t) m × (Value (now t) i v × Left (now t) m i (now out)) ⌝ }
-    ensures { λ _. ⌜ now (out .exit) ≡ tab ((held (now (t .entry))) .n) (λ j. mendedAt (held (now (t .entry))) (stateOf m) i v j (planOf (now (out .entry)) j)) ⌝ }
+fn repair(t: &[u16], active: u32, on: &[u16; 32], i: usize, v: usize, out: &mut [u8])
+    requires { ⌜ Ready (now t) (sets active (now on)) × (Value (now t) i v × Left (now t) (sets active (now on)) i (now out)) ⌝ }
+    ensures { λ _. ⌜ now (out .exit) ≡ tab ((held (now (t .entry))) .n) (λ j. mendedAt (held (now (t .entry))) (stateOf (sets active (now (on .entry)))) i v j (planOf (now (out .entry)) j)) ⌝ }
 {
     let mut j: usize = 0;
     while j < out.len() {
-        out[j] = mended(t, m, i, v, j, out[j]);
+        out[j] = mended(t, active, on, i, v, j, out[j]);
         j += 1;
     }
 }
 
-fn undo_snake(t: &[u16], m: Masks, i: usize, v: usize, out: &mut [u8])
-    requires { ⌜ Ready (now t) m × (Undoable (now t) m (Snake i v) (now out)) ⌝ }
-    ensures { λ _. ⌜ now (out .exit) ≡ tab ((held (now (t .entry))) .n) (undo (held (now (t .entry))) (stateOf m) (Snake i v) (planOf (now (out .entry)))) ⌝ }
+fn undo_snake(t: &[u16], active: u32, on: &[u16; 32], i: usize, v: usize, out: &mut [u8])
+    requires { ⌜ Ready (now t) (sets active (now on)) × (Undoable (now t) (sets active (now on)) (Snake i v) (now out)) ⌝ }
+    ensures { λ _. ⌜ now (out .exit) ≡ tab ((held (now (t .entry))) .n) (undo (held (now (t .entry))) (stateOf (sets active (now (on .entry)))) (Snake i v) (planOf (now (out .entry)))) ⌝ }
 {
-    repair(t, m, i, v, out);
+    repair(t, active, on, i, v, out);
     out[i] = v as u8;
 }
 
 // ---- undoing kind 3
 
-fn serves_triangle(t: &[u16], m: Masks, i: usize, j: usize, v: usize, c: usize) -> bool
-    requires { ⌜ Ready (now t) m × (Value (now t) j v × ((i < 32) × (c < 16))) ⌝ }
-    ensures { λ r. ⌜ r ≡ ((stateOf m) .live i c && triangleServes (held (now (t .entry))) (stateOf m) i j v c) ⌝ }
+fn serves_triangle(
+    t: &[u16],
+    active: u32,
+    on: &[u16; 32],
+    i: usize,
+    j: usize,
+    v: usize,
+    c: usize,
+) -> bool
+    requires { ⌜ Ready (now t) (sets active (now on)) × (Value (now t) j v × ((i < 32) × (c < 16))) ⌝ }
+    ensures { λ r. ⌜ r ≡ ((stateOf (sets active (now (on .entry)))) .live i c && triangleServes (held (now (t .entry))) (stateOf (sets active (now (on .entry)))) i j v c) ⌝ }
 {
-    if is_live(m, i, c) {
-        triangle::triangle_serves(t, m, i, j, v, c)
+    if is_live(active, on, i, c) {
+        triangle::triangle_serves(t, active, on, i, j, v, c)
     } else {
         false
     }
 }
 
 // The lowest u of i that serves for value v of j.
-fn lowest_triangle(t: &[u16], m: Masks, i: usize, j: usize, v: usize) -> usize
-    requires { ⌜ Ready (now t) m × (Value (now t) j v × (i < 32)) ⌝ }
-    ensures { λ r. ⌜ Is (lowestLive (held (now (t .entry))) (stateOf m) i (λ c. triangleServes (held (now (t .entry))) (stateOf m) i j v c)) 17 r ⌝ }
+fn lowest_triangle(t: &[u16], active: u32, on: &[u16; 32], i: usize, j: usize, v: usize) -> usize
+    requires { ⌜ Ready (now t) (sets active (now on)) × (Value (now t) j v × (i < 32)) ⌝ }
+    ensures { λ r. ⌜ Is (lowestLive (held (now (t .entry))) (stateOf (sets active (now (on .entry)))) i (λ c. triangleServes (held (now (t .entry))) (stateOf (sets active (now (on .entry)))) i j v c)) 17 r ⌝ }
 {
     let size = t[i] as usize;
     let mut u: usize = 0;
     while u < size {
-        if serves_triangle(t, m, i, j, v, u) {
+        if serves_triangle(t, active, on, i, j, v, u) {
             return u;
         }
         u += 1;
@@ -418,11 +439,11 @@ fn lowest_triangle(t: &[u16], m: Masks, i: usize, j: usize, v: usize) -> usize
     size
 }
 
-fn undo_triangle(t: &[u16], m: Masks, i: usize, j: usize, out: &mut [u8])
-    requires { ⌜ Ready (now t) m × (Undoable (now t) m (Triangle i j) (now out)) ⌝ }
-    ensures { λ _. ⌜ now (out .exit) ≡ tab ((held (now (t .entry))) .n) (undo (held (now (t .entry))) (stateOf m) (Triangle i j) (planOf (now (out .entry)))) ⌝ }
+fn undo_triangle(t: &[u16], active: u32, on: &[u16; 32], i: usize, j: usize, out: &mut [u8])
+    requires { ⌜ Ready (now t) (sets active (now on)) × (Undoable (now t) (sets active (now on)) (Triangle i j) (now out)) ⌝ }
+    ensures { λ _. ⌜ now (out .exit) ≡ tab ((held (now (t .entry))) .n) (undo (held (now (t .entry))) (stateOf (sets active (now (on .entry)))) (Triangle i j) (planOf (now (out .entry)))) ⌝ }
 {
-    out[i] = lowest_triangle(t, m, i, j, out[j] as usize) as u8;
+    out[i] = lowest_triangle(t, active, on, i, j, out[j] as usize) as u8;
 }
 
 // ---- undoing a trace
@@ -434,8 +455,8 @@ fn undo_record(t: &[u16], m: Masks, r: Record, out: &mut [u8])
 {
     match r {
         Record::Unsupported(_, _, _) => {}
-        Record::Snake(i, v) => undo_snake(t, m, i, v, out),
-        Record::Triangle(i, j) => undo_triangle(t, m, i, j, out),
+        Record::Snake(i, v) => undo_snake(t, m.active, &m.domains, i, v, out),
+        Record::Triangle(i, j) => undo_triangle(t, m.active, &m.domains, i, j, out),
         Record::Neighbourhood(_, _, _) => {}
         Record::SnakeSubstitution(_, _, _) => {}
     }
@@ -530,8 +551,8 @@ fn finish(
     Extended::Done
 }
 
-// The trace, then the plan, over the table of a sheet.
-fn put_back_over(t: &[u16], trace: &[u8], plan: &[u8], out: &mut [u8]) -> Extended
+// The trace, then the plan, over a filled table, with a plan and a result of a byte for each variable.
+fn put_back_sized(t: &[u16], trace: &[u8], plan: &[u8], out: &mut [u8]) -> Extended
     requires { ⌜ RowTable (now t) × ((length (now plan) ≡ (held (now t)) .n) × (length (now out) ≡ (held (now t)) .n)) ⌝ }
     ensures { λ r. ⌜ (r ≡ (afterCheck (held (now (t .entry))) (now (plan .entry)) (now (out .entry)) (checkTrace (held (now (t .entry))) (now (trace .entry)))) .answer) × (now (out .exit) ≡ (afterCheck (held (now (t .entry))) (now (plan .entry)) (now (out .entry)) (checkTrace (held (now (t .entry))) (now (trace .entry)))) .result) ⌝ }
 {
@@ -547,10 +568,26 @@ fn put_back_over(t: &[u16], trace: &[u8], plan: &[u8], out: &mut [u8]) -> Extend
     }
 }
 
-// The table of an accepted sheet, and the rest over it.
+// Putting back over a filled table: the lengths first, by its variables, then the trace and the plan. The plan of the whole problem from one
+// for the variables left. A refusal leaves the result as it was.
+pub fn put_back_over(t: &[u16], trace: &[u8], plan: &[u8], out: &mut [u8]) -> Extended
+    requires { ⌜ RowTable (now t) ⌝ }
+    ensures { λ r. ⌜ (r ≡ (putBackOver (held (now (t .entry))) (now (trace .entry)) (now (plan .entry)) (now (out .entry))) .answer) × (now (out .exit) ≡ (putBackOver (held (now (t .entry))) (now (trace .entry)) (now (plan .entry)) (now (out .entry))) .result) ⌝ }
+{
+    let n = held::variables(t);
+    if plan.len() != n {
+        return Extended::Refused(ExtendRefusal::PlanLength);
+    }
+    if out.len() != n {
+        return Extended::Refused(ExtendRefusal::ResultLength);
+    }
+    put_back_sized(t, trace, plan, out)
+}
+
+// Putting back over the table of a sheet that keeps the layout.
 fn put_back_sheet(s: &[u8], trace: &[u8], plan: &[u8], out: &mut [u8]) -> Extended
-    requires { ⌜ Keeps layout (now s) × ((length (now plan) ≡ variablesOf (now s)) × (length (now out) ≡ variablesOf (now s))) ⌝ }
-    ensures { λ r. ⌜ (r ≡ (afterCheck (problemOf layout (now (s .entry))) (now (plan .entry)) (now (out .entry)) (checkTrace (problemOf layout (now (s .entry))) (now (trace .entry)))) .answer) × (now (out .exit) ≡ (afterCheck (problemOf layout (now (s .entry))) (now (plan .entry)) (now (out .entry)) (checkTrace (problemOf layout (now (s .entry))) (now (trace .entry)))) .result) ⌝ }
+    requires { ⌜ Keeps layout (now s) ⌝ }
+    ensures { λ r. ⌜ (r ≡ (putBackOver (problemOf layout (now (s .entry))) (now (trace .entry)) (now (plan .entry)) (now (out .entry))) .answer) × (now (out .exit) ≡ (putBackOver (problemOf layout (now (s .entry))) (now (trace .entry)) (now (plan .entry)) (now (out .entry))) .result) ⌝ }
 {
     let mut t = [0u16; 16416];
     table::fill_table(s, &mut t);
@@ -561,20 +598,11 @@ fn put_back_sheet(s: &[u8], trace: &[u8], plan: &[u8], out: &mut [u8]) -> Extend
 pub fn put_back(s: &[u8], trace: &[u8], plan: &[u8], out: &mut [u8]) -> Extended
     ensures { λ r. ⌜ (r ≡ (putBackJob (now (s .entry)) (now (trace .entry)) (now (plan .entry)) (now (out .entry))) .answer) × (now (out .exit) ≡ (putBackJob (now (s .entry)) (now (trace .entry)) (now (plan .entry)) (now (out .entry))) .result) ⌝ }
 {
-    let read = read_sheet::read_sheet(s);
-    match read {
+    match read_sheet::read_sheet(s) {
         SheetRead::Refused(r) => Extended::Refused(ExtendRefusal::Sheet(r)),
         SheetRead::Accepted {
-            variables,
+            variables: _,
             blocks: _,
-        } => {
-            if plan.len() != variables {
-                return Extended::Refused(ExtendRefusal::PlanLength);
-            }
-            if out.len() != variables {
-                return Extended::Refused(ExtendRefusal::ResultLength);
-            }
-            put_back_sheet(s, trace, plan, out)
-        }
+        } => put_back_sheet(s, trace, plan, out),
     }
 }

@@ -6,7 +6,7 @@ ghost use Prim.Native.Nat.{_<_, _≤_, _+_, _*_};
 ghost use lib.ListN.{getD};
 ghost use Rattle.bounded.specs.Bounded.{imp};
 ghost use Rattle.bounded.specs.Mask.{bit, maskOf};
-ghost use Rattle.problem.specs.Problem.{noneEmpty, anyLive, full};
+ghost use Rattle.problem.specs.Problem.{noneEmpty, anyLive, full, sizeSum};
 ghost use Rattle.problem.specs.Held.{held, rowPlace, RowTable};
 ghost use Rattle.problem.specs.Masks.{stateOf, masksOf, sets};
 ghost use Rattle.held.specs.Ready.{Ready, Value};
@@ -110,4 +110,20 @@ pub fn full_masks(t: &[u16]) -> Masks
         i += 1;
     }
     m
+}
+
+// The sum of the sizes that a table holds.
+pub fn size_sum(t: &[u16]) -> usize
+    requires { ⌜ RowTable (now t) ⌝ }
+    ensures is { λ r. ⌜ r ≡ sizeSum (held (now (t .entry))) ⌝ }
+    ensures within { λ r. ⌜ r ≤ 512 ⌝ }
+{
+    let n = variables(t);
+    let mut sum: usize = 0;
+    let mut i: usize = 0;
+    while i < n {
+        sum += t[i] as usize;
+        i += 1;
+    }
+    sum
 }

@@ -1,4 +1,4 @@
--- Demands 1 and 2 of the run, over the definition that the run's contract cites. Assumes nothing.
+-- Demands 1 and 2 of the run, over the definitions that the run's contracts cite. Assumes nothing.
 use mathlib.Core.Path.{_≡_, refl, ap}
 use mathlib.Core.List.{List, [], _∷_, _++_}
 use mathlib.Core.Logic.{_↔_}
@@ -20,11 +20,10 @@ use Rattle.problem.proofs.Trace.{trace-fits, trace-undone, trace-solvable, lawf
 use Rattle.problem.proofs.Run.{run-lawful, run-complete, run-short, EndSays, end-says}
 use Rattle.sheet.specs.Sheet.{layout, Keeps}
 use Rattle.sheet.specs.Relation.{problemOf}
-use Rattle.sheet.specs.declared.SheetRead.the-variants as read
 use Rattle.jobs.specs.Trace.{recordBytes, recordsBytes, traceBytes, fronted}
-use Rattle.jobs.specs.Run.{RunResult, runDone, runJob}
+use Rattle.jobs.specs.Run.{RunResult, runDone, runOver, runJob}
 use Rattle.jobs.specs.declared.ReduceOutcome.the-variants.{Done}
-use Rattle.jobs.proofs.Opened.{run-accepted}
+use Rattle.jobs.proofs.Opened.{run-accepted-over, run-kept}
 
 -- ---- a trace's length
 
@@ -46,7 +45,7 @@ trace-length t = omega (arith, records-length t)
 
 -- ---- what an accepted run shows
 
--- P is the sheet's problem, t the run's records, and last the state that they lead to
+-- P is the problem, t the run's records, and last the state that they lead to
 pub record Worked (P : Problem) (t : List Record) (last : State) (b : List ℕ) (x : RunResult) : Type 0 where
   -- the answer: the end, the number of steps, the bytes written and the last state; and the buffer, the old bytes after the trace
   pub answer : x .answer ≡ record { outcome = Done (endOf P last) (length t) (length (traceBytes t)); state = masksOf last }
@@ -69,14 +68,12 @@ pub record Worked (P : Problem) (t : List Record) (last : State) (b : List ℕ) 
   -- "each plan of what is left is put back into a plan of the full sheet"
   pub back : (p : ℕ → ℕ) → Solution P last p → Solution P (full P) (undoTrace P (full P) t p)
 
--- every sheet that keeps the layout, with a buffer as long as the format asks, is worked to its end
-pub run-worked : (s b : List ℕ) → Keeps layout s → 1 + 5 * sizeSum (problemOf layout s) ≤ length b
-    → Worked (problemOf layout s) (run (problemOf layout s) (full (problemOf layout s))) (afterTrace (problemOf layout s) (full (problemOf layout s)) (run (problemOf layout s) (full (problemOf layout s)))) b (runJob s b)
+-- every problem, with a buffer as long as the format asks, is worked to its end
+pub run-worked-over : (P : Problem) (b : List ℕ) → 1 + 5 * sizeSum P ≤ length b → Worked P (run P (full P)) (afterTrace P (full P) (run P (full P))) b (runOver P b)
 unfolding runDone
-run-worked s b K l =
-    let P = problemOf layout s in
+run-worked-over P b l =
     let t = run P (full P) in
-    let e = run-accepted s b K l in
+    let e = run-accepted-over P b l in
     let h = run-lawful P (full P) in
     record {
       answer = ap (λ (x : RunResult). x .answer) e;
@@ -92,3 +89,8 @@ run-worked s b K l =
       plan = trace-solvable P (full-fits P) t h;
       back = λ p A. trace-undone P (full-fits P) t h p A;
     }
+
+-- every sheet that keeps the layout, with a buffer as long as the format asks, is worked to its end
+pub run-worked : (s b : List ℕ) → Keeps layout s → 1 + 5 * sizeSum (problemOf layout s) ≤ length b
+    → Worked (problemOf layout s) (run (problemOf layout s) (full (problemOf layout s))) (afterTrace (problemOf layout s) (full (problemOf layout s)) (run (problemOf layout s) (full (problemOf layout s)))) b (runJob s b)
+run-worked s b K l = rw (run-kept s b K) (run-worked-over (problemOf layout s) b l)

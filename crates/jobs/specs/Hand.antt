@@ -1,4 +1,4 @@
--- Taking out by hand as jobs: starting, one hand call, and lists of hand calls.
+-- Taking out by hand: starting, one hand call, and lists of hand calls, over a problem and as jobs.
 use mathlib.Core.Bool.{Bool}
 use mathlib.Core.List.{List, [], _∷_}
 use Prim.Native.Nat.{ℕ}
@@ -7,9 +7,8 @@ use Rattle.problem.specs.Manual.{start, call}
 use Rattle.problem.specs.Masks.{stateOf, masksOf, emptyMasks}
 use Rattle.problem.specs.declared.Call.{Call}
 use Rattle.problem.specs.declared.Call.the-variants as outcome
-use Rattle.sheet.specs.Sheet.{layout, readSheet}
-use Rattle.sheet.specs.Relation.{problemOf}
-use Rattle.sheet.specs.declared.SheetRead.the-variants as read
+use Rattle.sheet.specs.declared.SheetRefusal.{SheetRefusal}
+use Rattle.jobs.specs.WithSheet.{withSheet}
 use Rattle.jobs.specs.declared.ManualState.{ManualState}
 use Rattle.jobs.specs.declared.StartAnswer.{StartAnswer}
 use Rattle.jobs.specs.declared.StartOutcome.the-variants as started
@@ -29,14 +28,21 @@ handOf s = record { masks = masksOf s }
 abbrev pub handFits : Problem → ManualState → Bool
 handFits P st = stateFits P (handState st)
 
+-- ---- starting
+
 -- "Starting answers the state with all items in and the largest sets of settings in which each has a partner at every other item."
+-- "Starting has no rows of its own."
+abbrev pub startOver : Problem → StartAnswer
+startOver P = record { outcome = started.Started; state = handOf (start P) }
+
 -- "A refused start answers a state with no items in and no settings on."
+abbrev pub startRefused : SheetRefusal → StartAnswer
+startRefused r = record { outcome = started.Refused r; state = record { masks = emptyMasks } }
+
 unfoldable pub startJob : List ℕ → StartAnswer
-startJob s =
-    elim (readSheet layout s) [
-      | read.Refused r ↦ record { outcome = started.Refused r; state = record { masks = emptyMasks } }
-      | read.Accepted n m ↦ record { outcome = started.Started; state = handOf (start (problemOf layout s)) }
-    ]
+startJob s = withSheet s startRefused startOver
+
+-- ---- one hand call
 
 -- "a refused hand call answers the state it was given"
 abbrev pub callRefused : ManualRefusal → ManualState → CallAnswer
@@ -51,15 +57,19 @@ callAnswer P st i outcome.Emptied = callRefused refusal.Emptied st
 callAnswer P st i outcome.NoSnake = callRefused refusal.Rule st
 
 -- "A hand call names one item. It performs the snake step with the lowest fitting v and answers the new state and v."
-unfoldable pub callJob : List ℕ → ManualState → ℕ → CallAnswer
-callJob s st i =
-    elim (readSheet layout s) [
-      | read.Refused r ↦ callRefused (refusal.Sheet r) st
-      | read.Accepted n m ↦ callAnswer (problemOf layout s) st i (call (problemOf layout s) (handState st) i)
-    ]
+abbrev pub callOver : Problem → ManualState → ℕ → CallAnswer
+callOver P st i = callAnswer P st i (call P (handState st) i)
 
--- a list of hand calls: "The first is given the state the list starts from, each later one the state that the call before it answered, a
--- refused one's included"
+unfoldable pub callJob : List ℕ → ManualState → ℕ → CallAnswer
+callJob s st i = withSheet s (λ r. callRefused (refusal.Sheet r) st) (λ P. callOver P st i)
+
+-- ---- lists of hand calls
+
+-- "The first is given the state the list starts from, each later one the state that the call before it answered, a refused one's included"
+unfoldable pub callsOver : Problem → ManualState → List ℕ → ManualState
+callsOver P st [] = st
+callsOver P st (i ∷ l) = callsOver P ((callOver P st i) .state) l
+
 unfoldable pub callsJob : List ℕ → ManualState → List ℕ → ManualState
 callsJob s st [] = st
 callsJob s st (i ∷ l) = callsJob s ((callJob s st i) .state) l

@@ -1,5 +1,6 @@
 pub mod Numbers
 pub mod Trace
+pub mod WithSheet
 pub mod Run
 pub mod Hand
 pub mod PutBack

@@ -11,9 +11,8 @@ use Rattle.problem.specs.declared.Record.{Record}
 use Rattle.problem.specs.declared.Record.the-variants.{Unsupported, Snake, Triangle, Neighbourhood, SnakeSubstitution}
 use Rattle.problem.specs.declared.End.{End}
 use Rattle.problem.specs.declared.End.the-variants.{Impossible, Solved, Rest}
-use Rattle.sheet.specs.Sheet.{layout, readSheet, sheetNumber}
-use Rattle.sheet.specs.Relation.{problemOf}
-use Rattle.sheet.specs.declared.SheetRead.the-variants as read
+use Rattle.sheet.specs.Sheet.{sheetNumber}
+use Rattle.jobs.specs.WithSheet.{withSheet}
 
 -- a number in decimal digits, with no leading zero; one more turn than the number itself is enough
 unfoldable pub digitsFrom : ℕ → ℕ → List ℕ
@@ -73,7 +72,7 @@ abbrev pub inputLimit : ℕ
 inputLimit = 16905
 
 unfoldable pub sheetLines : List ℕ → List ℕ
-sheetLines s = elim (readSheet layout s) [ read.Refused r ↦ refusedLine (sheetNumber r) | read.Accepted n m ↦ runLines (problemOf layout s) ]
+sheetLines s = withSheet s (λ r. refusedLine (sheetNumber r)) runLines
 
 -- "The program hands the first 16,905 bytes of standard input to the run."
 unfoldable pub printed : List ℕ → List ℕ

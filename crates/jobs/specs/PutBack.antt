@@ -1,4 +1,4 @@
--- Putting back as a job: lent a sheet, a trace, a plan for the items left and a buffer for the result.
+-- Putting back: lent a problem, a trace, a plan for the items left and a buffer for the result; as a job, a sheet and these.
 use mathlib.Core.Bool.{Bool, true, false, _&&_, _||_}
 use mathlib.Core.List.{List, [], _∷_}
 use Prim.Native.Nat.{ℕ, zero, suc}
@@ -11,10 +11,8 @@ use Rattle.problem.specs.Reduce.{lawful, after, afterTrace}
 use Rattle.problem.specs.Extend.{solves, undoTrace}
 use Rattle.problem.specs.declared.Record.{Record}
 use Rattle.sheet.specs.Bytes.{byteAt}
-use Rattle.sheet.specs.Sheet.{layout, readSheet, variablesOf}
-use Rattle.sheet.specs.Relation.{problemOf}
-use Rattle.sheet.specs.declared.SheetRead.the-variants as read
 use Rattle.jobs.specs.Trace.{recordAt}
+use Rattle.jobs.specs.WithSheet.{withSheet}
 use Rattle.jobs.specs.declared.RecordRead.the-variants as record·
 use Rattle.jobs.specs.declared.Extended.{Extended}
 use Rattle.jobs.specs.declared.Extended.the-variants.{Done, Refused}
@@ -76,18 +74,15 @@ abbrev pub afterCheck : Problem → List ℕ → List ℕ → Checked → PutBac
 afterCheck P p b (Fault e) = putBackRefused e b
 afterCheck P p b (Lawful t) = elim (planFits P (afterTrace P (full P) t) p) [ true ↦ putBackDone P t p | false ↦ putBackRefused Plan b ]
 
--- in the order of the table: the sheet, 18, 20, 15, then 16 and 17 record by record, then 19
-unfoldable pub putBackJob : (s t p b : List ℕ) → PutBackResult
-putBackJob s t p b =
-    elim (readSheet layout s) [
-      | read.Refused r ↦ putBackRefused (Sheet r) b
-      | read.Accepted n m ↦
-          elim (eqb (length p) (variablesOf s)) [
-            | false ↦ putBackRefused PlanLength b
-            | true ↦
-                elim (eqb (length b) (variablesOf s)) [
-                  | false ↦ putBackRefused ResultLength b
-                  | true ↦ afterCheck (problemOf layout s) p b (checkTrace (problemOf layout s) t)
-                ]
-          ]
+-- over the problem P, in the order of the table: 18, "plan is not n bytes"; 20, "result buffer is not n bytes"; 15; then 16 and 17 record by
+-- record; then 19
+unfoldable pub putBackOver : Problem → (t p b : List ℕ) → PutBackResult
+putBackOver P t p b =
+    elim (eqb (length p) (P .n)) [
+      | false ↦ putBackRefused PlanLength b
+      | true ↦ elim (eqb (length b) (P .n)) [ false ↦ putBackRefused ResultLength b | true ↦ afterCheck P p b (checkTrace P t) ]
     ]
+
+-- putting back over the sheet s
+unfoldable pub putBackJob : (s t p b : List ℕ) → PutBackResult
+putBackJob s t p b = withSheet s (λ r. putBackRefused (Sheet r) b) (λ P. putBackOver P t p b)

@@ -1,4 +1,4 @@
--- The run as a job: lent a sheet and a trace buffer. Its answer, and the buffer afterwards.
+-- The run: lent a problem and a trace buffer; as a job, a sheet and a trace buffer. Its answer, and the buffer afterwards.
 use mathlib.Core.Bool.{Bool, true, false}
 use mathlib.Core.List.{List}
 use Prim.Native.Nat.{ℕ, _+_, _*_}
@@ -7,10 +7,8 @@ use lib.ListN.{length}
 use Rattle.problem.specs.Problem.{Problem, full, sizeSum}
 use Rattle.problem.specs.Reduce.{run, afterTrace, endOf}
 use Rattle.problem.specs.Masks.{masksOf, emptyMasks}
-use Rattle.sheet.specs.Sheet.{layout, readSheet}
-use Rattle.sheet.specs.Relation.{problemOf}
-use Rattle.sheet.specs.declared.SheetRead.the-variants as read
 use Rattle.jobs.specs.Trace.{traceBytes, fronted}
+use Rattle.jobs.specs.WithSheet.{withSheet}
 use Rattle.jobs.specs.declared.Reduced.{Reduced}
 use Rattle.jobs.specs.declared.ReduceRefusal.{ReduceRefusal}
 use Rattle.jobs.specs.declared.ReduceRefusal.the-variants.{Sheet, Buffer}
@@ -41,10 +39,10 @@ runDone P b =
 abbrev pub bufferShort : Problem → List ℕ → Bool
 bufferShort P b = ltb (length b) (1 + 5 * sizeSum P)
 
+-- the run over the problem P with the buffer b: 10, and otherwise P is worked
+unfoldable pub runOver : Problem → List ℕ → RunResult
+runOver P b = elim (bufferShort P b) [ true ↦ runRefused Buffer b | false ↦ runDone P b ]
+
 -- the run of the sheet s with the buffer b
 unfoldable pub runJob : List ℕ → List ℕ → RunResult
-runJob s b =
-    elim (readSheet layout s) [
-      | read.Refused r ↦ runRefused (Sheet r) b
-      | read.Accepted n m ↦ elim (bufferShort (problemOf layout s) b) [ true ↦ runRefused Buffer b | false ↦ runDone (problemOf layout s) b ]
-    ]
+runJob s b = withSheet s (λ r. runRefused (Sheet r) b) (λ P. runOver P b)

@@ -14,15 +14,15 @@ use Rattle.bounded.specs.Table.{tab}
 use Rattle.bounded.proofs.Truth.{T-ext, T-dec, and-iff, not-iff}
 use Rattle.bounded.proofs.Bounded.{all-iff}
 use Rattle.bounded.proofs.Loops.{all-each}
-use Rattle.problem.specs.Problem.{Problem, State, full, anyLive, unsupported, liveCount}
+use Rattle.problem.specs.Problem.{Problem, State, full, anyLive, unsupported, liveCount, sizeSum}
 use Rattle.problem.specs.Manual.{supported, prune, pruneTimes, startTurns, start}
-use Rattle.problem.specs.Held.{held, tableOf, Bounded, RowTable}
+use Rattle.problem.specs.Held.{held, RowTable}
 use Rattle.problem.specs.Masks.{stateOf, masksOf, Proper}
 use Rattle.problem.specs.declared.Masks.{Masks}
 use Rattle.problem.proofs.Reflect.{Active, Live, Allowed, Fits, anyLive-iff, supported-iff, unsupported-iff}
-use Rattle.problem.proofs.HeldTable.{held-same, table-rows}
+use Rattle.problem.proofs.HeldTable.{held-most}
 use Rattle.problem.proofs.Start.{prune-fits, start-fits, start-consistent}
-use Rattle.problem.proofs.Count.{full-count, sizes-most}
+use Rattle.problem.proofs.Count.{full-count}
 use Rattle.problem.proofs.Bridge.{masks-back, masks-proper}
 use Rattle.held.specs.Ready.{Ready}
 use Rattle.held.proofs.After.{state-held, ready-held}
@@ -104,22 +104,15 @@ module _ (P : Problem) where
             λ h. and-iff (start P .live i a) (supported P (start P) i a) .1 (h, supported-iff (start-fits P) i a .1 (start-consistent P i a h)),
           )
 
-  -- more sweeps than a sheet can have values are enough
-  pub start-enough : Bounded P → pruneTimes maxTurns P (full P) ≡ start P
+  -- more sweeps than a table can have values are enough
+  start-enough : sizeSum P ≤ 512 → pruneTimes maxTurns P (full P) ≡ start P
   unfolding start
-  start-enough B =
-      let c : liveCount P (full P) ≤ 512 = omega (arith, full-count P, sizes-most P B) in
+  start-enough most =
+      let c : liveCount P (full P) ≤ 512 = omega (arith, full-count P, most) in
       times-more (startTurns P) (maxTurns - startTurns P) maxTurns (full P) (omega arith) ∙ times-same (maxTurns - startTurns P) (start P) prune-start
 
-  -- the table of a sheet's problem holds it
-  pub table-good : Bounded P → (t : List ℕ) → t ≡ tableOf P → RowTable t
-  table-good B t e = subst RowTable (sym e) (table-rows P B)
-
-  pub table-holds : Bounded P → (t : List ℕ) → t ≡ tableOf P → held t ≡ P
-  table-holds B t e = ap held e ∙ held-same P B
-
-  pub table-start : Bounded P → (t : List ℕ) → t ≡ tableOf P → masksOf (pruneTimes maxTurns (held t) (full (held t))) ≡ masksOf (start P)
-  table-start B t e = ap (λ (Q : Problem). masksOf (pruneTimes maxTurns Q (full Q))) (table-holds B t e) ∙ ap masksOf (start-enough B)
+pub table-start : {t : List ℕ} → RowTable t → masksOf (pruneTimes maxTurns (held t) (full (held t))) ≡ masksOf (start (held t))
+table-start {t} R = ap masksOf (start-enough (held t) (held-most R))
 
 -- two proper states with one set of active variables and the same domains are one
 domains-same : (x y : Masks) → Proper x → Proper y → sameDomains x y ≡ true → x .domains ≡ y .domains

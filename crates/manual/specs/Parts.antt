@@ -6,16 +6,11 @@ use lib.ListN.{getD}
 use Rattle.bounded.specs.Bounded.{imp, allBelow}
 use Rattle.bounded.specs.Mask.{maskOf}
 use Rattle.problem.specs.Problem.{Problem, State, maxVariables, maxValues, unsupported, eliminate}
-use Rattle.problem.specs.Manual.{prune, call}
-use Rattle.problem.specs.Masks.{emptyMasks}
+use Rattle.problem.specs.Manual.{prune}
 use Rattle.problem.specs.declared.Masks.{Masks}
-use Rattle.sheet.specs.declared.SheetRefusal.{SheetRefusal}
-use Rattle.jobs.specs.Hand.{handState, handOf, callAnswer}
-use Rattle.jobs.specs.declared.ManualState.{ManualState}
+use Rattle.jobs.specs.Hand.{handOf}
 use Rattle.jobs.specs.declared.CallAnswer.{CallAnswer}
 use Rattle.jobs.specs.declared.CallOutcome.the-variants as called
-use Rattle.jobs.specs.declared.StartAnswer.{StartAnswer}
-use Rattle.jobs.specs.declared.StartOutcome.the-variants as started
 
 module _ (P : Problem) (s : State) where
   -- cause 11 does not speak against what the state says of variable i
@@ -38,20 +33,6 @@ sameDomains x y = allBelow maxVariables (λ i. eqb (getD (x .domains) i 0) (getD
 abbrev pub maxTurns : ℕ
 maxTurns = 513
 
--- ---- the answers of a start
-
-abbrev pub startRefused : SheetRefusal → StartAnswer
-startRefused r = record { outcome = started.Refused r; state = record { masks = emptyMasks } }
-
-abbrev pub startAnswer : State → StartAnswer
-startAnswer s = record { outcome = started.Started; state = handOf s }
-
--- ---- the answers of a hand call
-
--- the snake step for i with v
+-- what a call answers: the snake step for i with v
 abbrev pub callEliminated : Problem → State → (i v : ℕ) → CallAnswer
 callEliminated P s i v = record { outcome = called.Eliminated v; state = handOf (eliminate P s i) }
-
--- what a call of i comes to, as an answer
-abbrev pub callOn : Problem → ManualState → ℕ → CallAnswer
-callOn P st i = callAnswer P st i (call P (handState st) i)

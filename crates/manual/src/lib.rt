@@ -6,14 +6,14 @@ ghost use lib.Dec.{ltb};
 ghost use Rattle.bounded.specs.Bounded.{imp, allBelow, lowest};
 ghost use Rattle.bounded.specs.Mask.{bit};
 ghost use Rattle.problem.specs.Problem.{maxValues, full, stateFits, noneEmpty, snake as snakeHolds};
-ghost use Rattle.problem.specs.Manual.{prune, pruneTimes, start as startState};
+ghost use Rattle.problem.specs.Manual.{prune, pruneTimes};
 ghost use Rattle.problem.specs.Masks.{stateOf, masksOf, sets, Proper};
 ghost use Rattle.problem.specs.Held.{held, RowTable};
 ghost use Rattle.sheet.specs.Sheet.{layout, Keeps};
 ghost use Rattle.sheet.specs.Relation.{problemOf};
 ghost use Rattle.held.specs.Ready.{Ready};
-ghost use Rattle.jobs.specs.Hand.{startJob, callRefused, callJob};
-ghost use Rattle.manual.specs.Parts.{fitsAt, noneBare, domainLeft, sameDomains, maxTurns, startRefused, startAnswer, callEliminated, callOn};
+ghost use Rattle.jobs.specs.Hand.{startRefused, startOver, startJob, callRefused, callOver, callJob};
+ghost use Rattle.manual.specs.Parts.{fitsAt, noneBare, domainLeft, sameDomains, maxTurns, callEliminated};
 use bounded::has16;
 use bounded::has32;
 use jobs::CallAnswer;
@@ -135,18 +135,27 @@ fn start_masks(t: &[u16]) -> Masks
     settle(t, held::full_masks(t))
 }
 
-fn started(s: &[u8]) -> StartAnswer
-    requires { ⌜ Keeps layout (now s) ⌝ }
-    ensures { λ r. ⌜ r ≡ startAnswer (startState (problemOf layout (now (s .entry)))) ⌝ }
+// The start over a filled table: the state with all items in and the largest sets of settings in which each has a partner at every other
+// item.
+pub fn start_over(t: &[u16]) -> StartAnswer
+    requires { ⌜ RowTable (now t) ⌝ }
+    ensures { λ r. ⌜ r ≡ startOver (held (now (t .entry))) ⌝ }
 {
-    let mut t = [0u16; 16416];
-    table::fill_table(s, &mut t);
-    let masks = start_masks(&t);
+    let masks = start_masks(t);
     let state = ManualState { masks };
     StartAnswer {
         outcome: StartOutcome::Started,
         state,
     }
+}
+
+fn start_sheet(s: &[u8]) -> StartAnswer
+    requires { ⌜ Keeps layout (now s) ⌝ }
+    ensures { λ r. ⌜ r ≡ startOver (problemOf layout (now (s .entry))) ⌝ }
+{
+    let mut t = [0u16; 16416];
+    table::fill_table(s, &mut t);
+    start_over(&t)
 }
 
 // A state with no items in and no settings on.
@@ -161,14 +170,14 @@ fn refused_start(r: SheetRefusal) -> StartAnswer
     }
 }
 
-// The state with all items in and the largest sets of settings in which each has a partner at every other item.
+// The start of a sheet: over its table.
 pub fn start(s: &[u8]) -> StartAnswer
     ensures { λ r. ⌜ r ≡ startJob (now (s .entry)) ⌝ }
 {
     let read = read_sheet::read_sheet(s);
     match read {
         SheetRead::Refused(r) => refused_start(r),
-        SheetRead::Accepted { variables, blocks } => started(s),
+        SheetRead::Accepted { variables, blocks } => start_sheet(s),
     }
 }
 
@@ -265,7 +274,7 @@ fn eliminated(t: &[u16], m: Masks, i: usize, v: usize) -> CallAnswer
 // 14, or the step with the lowest fitting v.
 fn call_snake(t: &[u16], st: ManualState, i: usize) -> CallAnswer
     requires { ⌜ Ready (now t) (st .masks) × (i < 32) × (bit (st .masks .active) i ≡ true) × (noneEmpty (held (now t)) (stateOf (st .masks)) ≡ true) ⌝ }
-    ensures { λ a. ⌜ a ≡ callOn (held (now (t .entry))) st i ⌝ }
+    ensures { λ a. ⌜ a ≡ callOver (held (now (t .entry))) st i ⌝ }
 {
     let m = st.masks;
     let v = lowest_snake(t, m.active, &m.domains, i);
@@ -278,7 +287,7 @@ fn call_snake(t: &[u16], st: ManualState, i: usize) -> CallAnswer
 // A call with a state that fits: 12, then 13. `named` says that the item is in, `filled` that no item in is without a setting on.
 fn call_fitting(t: &[u16], st: ManualState, i: u64, named: bool, filled: bool) -> CallAnswer
     requires { ⌜ Ready (now t) (st .masks) × (named ≡ bit (st .masks .active) i) × (filled ≡ noneEmpty (held (now t)) (stateOf (st .masks))) ⌝ }
-    ensures { λ a. ⌜ a ≡ callOn (held (now (t .entry))) st i ⌝ }
+    ensures { λ a. ⌜ a ≡ callOver (held (now (t .entry))) st i ⌝ }
 {
     if !named {
         return refused_call(ManualRefusal::Item, st);
@@ -289,10 +298,11 @@ fn call_fitting(t: &[u16], st: ManualState, i: u64, named: bool, filled: bool) -
     call_snake(t, st, i as usize)
 }
 
-// A call over a table: 11, and then what a state that fits comes to.
-fn call_on(t: &[u16], st: ManualState, i: u64) -> CallAnswer
+// A hand call over a filled table: 11, and then what a state that fits comes to. The snake step for the named item with the lowest fitting
+// v, or the refusal and the state as it was given.
+pub fn call_over(t: &[u16], st: ManualState, i: u64) -> CallAnswer
     requires { ⌜ RowTable (now t) ⌝ }
-    ensures { λ a. ⌜ a ≡ callOn (held (now (t .entry))) st i ⌝ }
+    ensures { λ a. ⌜ a ≡ callOver (held (now (t .entry))) st i ⌝ }
 {
     let m = st.masks;
     if !fits(t, m.active, &m.domains) {
@@ -307,22 +317,22 @@ fn call_on(t: &[u16], st: ManualState, i: u64) -> CallAnswer
     )
 }
 
-fn called(s: &[u8], st: ManualState, i: u64) -> CallAnswer
+fn call_sheet(s: &[u8], st: ManualState, i: u64) -> CallAnswer
     requires { ⌜ Keeps layout (now s) ⌝ }
-    ensures { λ a. ⌜ a ≡ callOn (problemOf layout (now (s .entry))) st i ⌝ }
+    ensures { λ a. ⌜ a ≡ callOver (problemOf layout (now (s .entry))) st i ⌝ }
 {
     let mut t = [0u16; 16416];
     table::fill_table(s, &mut t);
-    call_on(&t, st, i)
+    call_over(&t, st, i)
 }
 
-// The snake step for the named item with the lowest fitting v, or the refusal and the state as it was given.
+// A hand call on a sheet: over its table.
 pub fn hand_call(s: &[u8], st: ManualState, i: u64) -> CallAnswer
     ensures { λ r. ⌜ r ≡ callJob (now (s .entry)) st i ⌝ }
 {
     let read = read_sheet::read_sheet(s);
     match read {
         SheetRead::Refused(r) => refused_call(ManualRefusal::Sheet(r), st),
-        SheetRead::Accepted { variables, blocks } => called(s, st, i),
+        SheetRead::Accepted { variables, blocks } => call_sheet(s, st, i),
     }
 }

@@ -28,7 +28,11 @@ unfolding sumTo
 sum-most zero f h = omega arith
 sum-most (suc n) f h = omega (arith, sum-most n f h, h n)
 
+-- at most 32 variables of at most 16 values list at most 512
+pub sizes-within : (P : Problem) → P .n ≤ 32 → ((i : ℕ) → P .size i ≤ 16) → sizeSum P ≤ 512
+unfolding sizeSum
+sizes-within P few narrow = omega (arith, sum-most (P .n) (P .size) narrow, few)
+
 -- a problem that the tables have room for lists at most 512 values
 pub sizes-most : (P : Problem) → Bounded P → sizeSum P ≤ 512
-unfolding sizeSum
-sizes-most P B = omega (arith, sum-most (P .n) (P .size) (B .narrow), B .few)
+sizes-most P B = sizes-within P (B .few) (B .narrow)

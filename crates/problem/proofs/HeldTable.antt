@@ -11,11 +11,12 @@ use borrow.Author.Tests.{lt-ltb, le-ltb}
 use Rattle.bounded.specs.Bounded.{lowest}
 use Rattle.bounded.specs.Mask.{bit, maskOf}
 use Rattle.bounded.proofs.Truth.{T-ext, and-iff, not-iff, eqb-iff, ltb-iff, lt-dec}
-use Rattle.bounded.proofs.Bounded.{lowest-unique, lowest-le}
+use Rattle.bounded.proofs.Bounded.{lowest-unique, lowest-le, lowest-least}
 use Rattle.bounded.proofs.Mask.{bit-mask}
 use Rattle.bounded.proofs.Table.{length-tab, getD-tab}
-use Rattle.problem.specs.Problem.{Problem}
+use Rattle.problem.specs.Problem.{Problem, sizeSum}
 use Rattle.problem.specs.Held.{tableLength, rowPlace, heldSize, heldVariables, heldValue, rowAllows, heldRow, held, RowTable, tableEntry, tableOf, Bounded}
+use Rattle.problem.proofs.Count.{sizes-within}
 use Rattle.problem.proofs.Same.{problem-same}
 
 pub heldValue-iff : (t : List ℕ) (i a : ℕ) → T (heldValue t i a) ↔ ((i < heldVariables t) × (a < heldSize t i))
@@ -52,6 +53,9 @@ pub held-narrow : {t : List ℕ} → RowTable t → (i : ℕ) → (held t) .size
 unfolding held
 held-narrow R i = R .narrow i
 
+pub held-most : {t : List ℕ} → RowTable t → sizeSum (held t) ≤ 512
+held-most {t} R = sizes-within (held t) (held-few t) (held-narrow R)
+
 -- an entry below 32 is a size
 pub held-entry : (t : List ℕ) (i : ℕ) → i < 32 → (held t) .size i ≡ getD t i 0
 unfolding held heldSize
@@ -61,6 +65,29 @@ held-entry t i l = rw (lt-ltb i 32 l)
 pub held-lowest : (t : List ℕ) → (held t) .n ≡ lowest 32 (λ i. eqb ((held t) .size i) 0)
 unfolding held heldVariables
 held-lowest t = refl
+
+before-zero : (t : List ℕ) (i : ℕ) → i < heldVariables t → heldSize t i ≢ 0
+unfolding heldVariables
+before-zero t i l e = lowest-least 32 (λ i. eqb (heldSize t i) 0) i l (eqb-iff (heldSize t i) 0 .1 e)
+
+pos : (k : ℕ) → k ≢ 0 → 1 ≤ k
+pos k d = elim (lt-dec 0 k) [ inl l ↦ omega arith | inr l ↦ absurd (d (omega arith)) ]
+
+-- a table whose sizes stay 0 after the first that is 0 holds a bounded problem
+pub held-bounded : {t : List ℕ} → RowTable t → ((i : ℕ) → (held t) .n ≤ i → (held t) .size i ≡ 0) → Bounded (held t)
+unfolding held
+held-bounded {t} R none =
+    record {
+      few = held-few t;
+      some = λ i l. pos (heldSize t i) (before-zero t i l);
+      narrow = R .narrow;
+      none = none;
+      listed = λ i a j b h.
+          let x = heldRow-iff t i a j b .0 ((simp and-iff at h) .0) .0 in
+          let y = heldValue-iff t i a .0 (x .0) in
+          let z = heldValue-iff t j b .0 (x .1 .0) in
+          (y .0, y .1, z .0, z .1, x .1 .1);
+    }
 
 module _ (P : Problem) (B : Bounded P) where
   size-entry : (k : ℕ) → k < 32 → tableEntry P k ≡ P .size k

@@ -1,5 +1,5 @@
 -- One hand call: what it answers, by its tests in their order, and the exact cause of each answer. Assumes nothing.
-use mathlib.Core.Path.{_≡_, sym, ap, _∙_, subst}
+use mathlib.Core.Path.{_≡_, ap, _∙_}
 use mathlib.Core.Bool.{true, false, _&&_}
 use mathlib.Core.Logic.{_⊎_, inl, inr, _↔_}
 use Prim.Native.Nat.{ℕ, _≤_, _<_}
@@ -7,6 +7,7 @@ use native.Mathlib.Omega.{arith}
 use lib.Dec.{T, ltb}
 use Rattle.bounded.specs.Bounded.{imp, allBelow}
 use Rattle.bounded.proofs.Truth.{T-true, T-false, T-dec, lt-dec, and-iff, imp-fails, ltb-iff}
+use Rattle.bounded.proofs.Causes.{cause-iff}
 use Rattle.bounded.proofs.Bounded.{all-or, lowest-least, lowest-unique}
 use Rattle.problem.specs.Problem.{Problem, State, maxVariables, maxValues, stateFits, noneEmpty, anyLive, lowestLive, snake}
 use Rattle.problem.specs.Manual.{call}
@@ -166,4 +167,4 @@ module _ (P : Problem) (s : State) (H : T (stateFits P s) → Fits P s) (i : ℕ
       by-fit (inl t) = by-item (H t) (lt-dec i (P .n)) (T-dec (s .active i))
 
   pub call-iff : (c : Call) → (call P s i ≡ c) ↔ CallCause P s i c
-  call-iff c = (λ e. subst (CallCause P s i) (sym (cause-tells (some-cause .0) (some-cause .1)) ∙ e) (some-cause .1), cause-tells c)
+  call-iff = cause-iff (call P s i) (CallCause P s i) cause-tells some-cause

@@ -9,9 +9,10 @@ ghost use Rattle.problem.specs.Held.{held, RowTable};
 ghost use Rattle.problem.specs.Masks.{stateOf};
 ghost use Rattle.sheet.specs.Sheet.{layout, Keeps};
 ghost use Rattle.sheet.specs.Relation.{problemOf};
-ghost use Rattle.jobs.specs.Run.{runRefused, runDone, runJob};
+ghost use Rattle.jobs.specs.Run.{runRefused, runDone, runOver, runJob};
 ghost use Rattle.held.specs.Ready.{Ready};
 use held::full_masks;
+use held::size_sum;
 use jobs::ReduceOutcome;
 use jobs::ReduceRefusal;
 use jobs::Reduced;
@@ -79,16 +80,6 @@ fn run_table(t: &[u16], b: &mut [u8]) -> Reduced
     }
 }
 
-// The run of a sheet that is read and a buffer that is long enough.
-fn run_sheet(s: &[u8], b: &mut [u8]) -> Reduced
-    requires { ⌜ Keeps layout (now s) × (1 + 5 * sizeSum (problemOf layout (now s)) ≤ length (now b)) ⌝ }
-    ensures { λ r. ⌜ (r ≡ (runDone (problemOf layout (now (s .entry))) (now (b .entry))) .answer) × (now (b .exit) ≡ (runDone (problemOf layout (now (s .entry))) (now (b .entry))) .buffer) ⌝ }
-{
-    let mut t = [0u16; 16416];
-    table::fill_table(s, &mut t);
-    run_table(&t, b)
-}
-
 // A refused run answers the reason only.
 fn refused(r: ReduceRefusal) -> Reduced
     ensures { λ x. ⌜ x ≡ (runRefused r []) .answer ⌝ }
@@ -100,15 +91,25 @@ fn refused(r: ReduceRefusal) -> Reduced
     }
 }
 
-// The run of a sheet that is read: the buffer is tested next.
-fn run_read(s: &[u8], b: &mut [u8]) -> Reduced
-    requires { ⌜ Keeps layout (now s) ⌝ }
-    ensures { λ r. ⌜ (r ≡ (runJob (now (s .entry)) (now (b .entry))) .answer) × (now (b .exit) ≡ (runJob (now (s .entry)) (now (b .entry))) .buffer) ⌝ }
+// The run over a filled table: the buffer is tested first, by the table's sizes. A refused run leaves the buffer as it was.
+pub fn run_over(t: &[u16], b: &mut [u8]) -> Reduced
+    requires { ⌜ RowTable (now t) ⌝ }
+    ensures { λ r. ⌜ (r ≡ (runOver (held (now (t .entry))) (now (b .entry))) .answer) × (now (b .exit) ≡ (runOver (held (now (t .entry))) (now (b .entry))) .buffer) ⌝ }
 {
-    if b.len() < 1 + 5 * table::size_sum(s) {
+    if b.len() < 1 + 5 * size_sum(t) {
         return refused(ReduceRefusal::Buffer);
     }
-    run_sheet(s, b)
+    run_table(t, b)
+}
+
+// The run of a sheet that keeps the layout: over its table.
+fn run_sheet(s: &[u8], b: &mut [u8]) -> Reduced
+    requires { ⌜ Keeps layout (now s) ⌝ }
+    ensures { λ r. ⌜ (r ≡ (runOver (problemOf layout (now (s .entry))) (now (b .entry))) .answer) × (now (b .exit) ≡ (runOver (problemOf layout (now (s .entry))) (now (b .entry))) .buffer) ⌝ }
+{
+    let mut t = [0u16; 16416];
+    table::fill_table(s, &mut t);
+    run_over(&t, b)
 }
 
 // The run: lent a sheet and a buffer for the trace. A refused run leaves the buffer as it was.
@@ -120,6 +121,6 @@ pub fn reduce(s: &[u8], b: &mut [u8]) -> Reduced
         SheetRead::Accepted {
             variables: _,
             blocks: _,
-        } => run_read(s, b),
+        } => run_sheet(s, b),
     }
 }

@@ -30,7 +30,8 @@ use Rattle.jobs.specs.declared.Reduced.{Reduced}
 use Rattle.jobs.specs.declared.ReduceRefusal.{ReduceRefusal}
 use Rattle.jobs.specs.declared.ReduceRefusal.the-variants.{Sheet}
 use Rattle.jobs.specs.declared.ReduceOutcome.the-variants.{Done, Refused}
-use Rattle.jobs.proofs.Opened.{run-sheet-refused, run-accepted}
+use Rattle.jobs.proofs.Ran.{ran-iff}
+use Rattle.jobs.proofs.Opened.{sheet-refused, sheet-kept, run-sheet-refused, run-accepted}
 use Rattle.trace.specs.Written.{written}
 use Rattle.trace.proofs.Written.{written-front}
 use Rattle.fields.proofs.Laws.{Puts, after}
@@ -78,11 +79,11 @@ module _ (P : Problem) (B : Bounded P) (w : List ℕ) (e : End) (steps : ℕ) (m
 -- the text of a refused sheet and of one that is read
 refused-lines : (s : List ℕ) → (r : _) → readSheet layout s ≡ read.Refused r → sheetLines s ≡ refusedLine (sheetNumber r)
 unfolding sheetLines
-refused-lines s r e = rw (e, sheetLines)
+refused-lines s r e = sheet-refused s _ _ r e
 
 pub read-lines : (s : List ℕ) → Keeps layout s → sheetLines s ≡ runLines (problemOf layout s)
 unfolding sheetLines
-read-lines s K = rw (K, sheetLines)
+read-lines s K = sheet-kept s _ _ K
 
 module _ (s b : List ℕ) (long : 2561 ≤ length b) where
   -- a sheet that is read is worked, in every buffer of 1 + 5 × 512 bytes
@@ -91,13 +92,7 @@ module _ (s b : List ℕ) (long : 2561 ≤ length b) where
 
   module _ (x : Reduced) (a : x ≡ (runJob s b) .answer) where
     pub done-keeps : (e : End) (k n : ℕ) → x .outcome ≡ Done e k n → Keeps layout s
-    done-keeps e k n o = go (readSheet layout s) refl
-      where
-        go : (y : SheetRead) → readSheet layout s ≡ y → Keeps layout s
-        go (read.Accepted i j) h = keeps layout s i j h
-        go (read.Refused r) h =
-            let q = ap (λ (y : RunResult). y .answer .outcome) (run-sheet-refused s b r h) in
-            let z : _≡_ {A = ℕ} 0 1 = cc (ap (λ (y : Reduced). y .outcome) a) in absurd (omega arith)
+    done-keeps e k n o = ran-iff s b (Done e k n) .0 (ap (λ (y : Reduced). y .outcome) (sym a) ∙ o) .0
 
     pub refused-text : (r : ReduceRefusal) → x .outcome ≡ Refused r → refusedLine (reduceNumber r) ≡ sheetLines s
     unfolding runDone

@@ -10,6 +10,7 @@ use lib.ListN.{length, take, drop, length-append, length-drop, take-append-drop}
 use lib.Seq.{length-take-le, drop-drop, drop-append-seam}
 use borrow.Author.Tests.{lt-ltb, le-ltb, ne-eqb}
 use Rattle.bounded.proofs.Truth.{T-true, T-false, T-dec, lt-dec, eq-dec, and-iff, eqb-iff}
+use Rattle.bounded.proofs.Causes.{cause-iff}
 use Rattle.problem.specs.Problem.{Problem, State, full}
 use Rattle.problem.specs.Reduce.{lawful, after, lawfulTrace, afterTrace}
 use Rattle.problem.specs.declared.Record.{Record}
@@ -195,7 +196,7 @@ module _ (P : Problem) where
 
     -- from a place on, with more turns than bytes are left, the check finds this for its cause and for no other
     pub records-iff : (f : ℕ) (s : State) (p : ℕ) → length t - p < f → (c : Checked) → (checkFrom f P t s p ≡ c) ↔ RecordsCause s (drop p t) c
-    records-iff f s p h c = (λ e. subst (RecordsCause s (drop p t)) e (check-cause f s p h), cause-check f s p h c)
+    records-iff f s p h = cause-iff (checkFrom f P t s p) (RecordsCause s (drop p t)) (cause-check f s p h) (checkFrom f P t s p, check-cause f s p h)
 
     -- more turns than bytes are left never run out, so that their number does not change what is found
     pub check-fuel : (f g : ℕ) (s : State) (p : ℕ) → length t - p < f → length t - p < g → checkFrom f P t s p ≡ checkFrom g P t s p
@@ -279,7 +280,7 @@ module _ (P : Problem) (t : List ℕ) where
 
   -- A trace is judged as it is for its cause and for no other.
   pub checked-iff : (c : Checked) → (checkTrace P t ≡ c) ↔ TraceCause c
-  checked-iff c = (λ e. subst TraceCause e trace-cause, cause-trace c)
+  checked-iff = cause-iff (checkTrace P t) TraceCause cause-trace (checkTrace P t, trace-cause)
 
 -- The bytes that are taken for a lawful trace are exactly the bytes of a lawful list of records.
 pub taken-iff : (P : Problem) (t : List ℕ) (u : List Record) → (checkTrace P t ≡ Lawful u) ↔ ((t ≡ traceBytes u) × T (lawfulTrace P (full P) u))

@@ -39,6 +39,7 @@ use Rattle.jobs.specs.declared.StartOutcome.the-variants as started
 use Rattle.jobs.specs.declared.CallOutcome.{CallOutcome}
 use Rattle.jobs.specs.declared.CallOutcome.the-variants as called
 use Rattle.jobs.specs.declared.Extended.the-variants as back
+use Rattle.jobs.proofs.Opened.{variables-of}
 use Rattle.jobs.proofs.HandOrder.{order-does-not-matter, start-meets}
 use Rattle.jobs.proofs.Ran.{ran-iff, started-iff}
 use Rattle.jobs.proofs.Worked.{Worked, run-worked}
@@ -316,5 +317,5 @@ module _ (s t p r : List ℕ) where
       → ((putBackCall s t p r) .answer ≡ 0) × T (solvesWhole (problemOf layout s) (planOf ((putBackCall s t p r) .result)))
   unfolding putBackCall
   lawful-put-back u K m n e l f =
-      let d : (putBackJob s t p r) .answer ≡ back.Done = put-back-iff s t p r back.Done .1 ((K, (m, n)), (u, e, l, f)) in
+      let d : (putBackJob s t p r) .answer ≡ back.Done = put-back-iff s t p r back.Done .1 (K, ((m ∙ sym (variables-of s), n ∙ sym (variables-of s)), (u, e, l, f))) in
       (put-back-zero s t p r d, put-back-plan (problemOf layout s) t p _ (put-back-accepted s t p r d .3))

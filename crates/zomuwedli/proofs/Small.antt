@@ -30,7 +30,7 @@ use Rattle.jobs.specs.declared.ReduceOutcome.the-variants.{Done}
 use Rattle.jobs.specs.declared.ManualState.{ManualState}
 use Rattle.jobs.specs.declared.CallAnswer.{CallAnswer}
 use Rattle.jobs.specs.declared.CallOutcome.the-variants as called
-use Rattle.jobs.proofs.Opened.{call-refused, call-accepted}
+use Rattle.jobs.proofs.Opened.{call-refused, call-kept}
 use Rattle.jobs.proofs.Ran.{ran-iff}
 use Rattle.jobs.proofs.Worked.{trace-length}
 
@@ -112,7 +112,7 @@ module _ (s : List ℕ) (st : ManualState) (i : ℕ) (x : CallAnswer) (a : x ≡
       by-call K outcome.NoSnake c q = let z : _≡_ {A = ℕ} 0 1 = cc in absurd (omega arith)
 
       go : (y : SheetRead) → readSheet layout s ≡ y → v < 16
-      go (read.Accepted n m) h = by-call (keeps layout s n m h) (call (problemOf layout s) (handState st) i) refl (ap (λ (y : CallAnswer). y .outcome) (a ∙ call-accepted s st i (keeps layout s n m h)))
+      go (read.Accepted n m) h = by-call (keeps layout s n m h) (call (problemOf layout s) (handState st) i) refl (ap (λ (y : CallAnswer). y .outcome) (a ∙ call-kept s st i (keeps layout s n m h)))
       go (read.Refused r) h =
           let q = ap (λ (y : CallAnswer). y .outcome) (a ∙ call-refused s st i r h) in
           let z : _≡_ {A = ℕ} 0 1 = cc in absurd (omega arith)

@@ -24,7 +24,7 @@ use Rattle.jobs.specs.declared.StartOutcome.the-variants as started
 use Rattle.jobs.specs.declared.CallAnswer.{CallAnswer}
 use Rattle.jobs.specs.declared.CallOutcome.{CallOutcome}
 use Rattle.jobs.specs.declared.CallOutcome.the-variants as called
-use Rattle.jobs.proofs.Opened.{sheet-or, call-refused, call-accepted}
+use Rattle.jobs.proofs.Opened.{sheet-or, call-refused, call-kept}
 use Rattle.jobs.proofs.Ran.{ran-iff, started-iff}
 use Rattle.jobs.proofs.Worked.{run-worked}
 use Rattle.jobs.proofs.HandOrder.{start-meets}
@@ -69,7 +69,7 @@ call-held s st i = by-sheet (sheet-or s)
 
     by-sheet : ((r : SheetRefusal) × (readSheet layout s ≡ read.Refused r)) ⊎ Keeps layout s → Held st ((callJob s st i) .outcome) ((callJob s st i) .state)
     by-sheet (inl x) = subst (λ (x : CallAnswer). Held st (x .outcome) (x .state)) (sym (call-refused s st i (x .0) (x .1))) refl
-    by-sheet (inr K) = subst (λ (x : CallAnswer). Held st (x .outcome) (x .state)) (sym (call-accepted s st i K)) (by-call (call (problemOf layout s) (handState st) i))
+    by-sheet (inr K) = subst (λ (x : CallAnswer). Held st (x .outcome) (x .state)) (sym (call-kept s st i K)) (by-call (call (problemOf layout s) (handState st) i))
 
 -- refused calls included
 pub call-state : (s b : List ℕ) (i : ℕ) → length b ≡ handStateLength → handIn ((handCall s b i) .state) ≡ (callJob s (handIn b) i) .state

@@ -17,7 +17,7 @@ lawful-requires : tie.Need-lawful-requires
 lawful-requires c κs = search needs
 
 apply-requires : tie.Need-apply-requires
-apply-requires c κs = (c .before .before .before .before .before .before .before .before .pre, T-of (sym (c .before .lawful .ensures) ∙ c .if1 .taken))
+apply-requires c κs = (c .before .before .before .before .before .before .before .before .before .before .pre, T-of (sym (c .before .lawful .ensures) ∙ c .if1 .taken))
 
 going-requires : tie.Need-going-requires
 going-requires c κs = search needs
@@ -44,10 +44,10 @@ stopped-requires-3 : tie.Need-stopped-requires-3
 stopped-requires-3 c κs = search needs
 
 returns : tie.Need-returns
-returns c = let a = c .before .before .before .before .before .before .before .before .before .before .args in let x = c .before .before .before .before .before .x .given in let P = held (a .t .now) in let w = a .c in c .going .ensures ∙ ap goingOn (c .before .apply .ensures) ∙ sym (ap (checkedTurn P w) (x .1) ∙ ap (λ (b : Bool). ruledTurn b (masksOf (after P (stateOf (w .end .state)) (x .0 .0)))) (sym (c .before .before .before .lawful .ensures) ∙ c .before .before .if1 .taken))
+returns c = let a = c .before .before .before .before .before .before .before .before .before .before .before .before .args in let x = c .before .before .before .before .before .before .before .x .given in let P = held (a .t .now) in let w = a .c in c .going .ensures ∙ ap goingOn (c .before .apply .ensures) ∙ sym (ap (checkedTurn P w) (x .1) ∙ ap (λ (b : Bool). ruledTurn b (masksOf (after P (stateOf (w .end .state)) (x .0 .0)))) (sym (c .before .before .before .lawful .ensures) ∙ c .before .before .if1 .taken))
 
 returns-2 : tie.Need-returns-2
-returns-2 c = let a = c .before .before .before .before .before .before .before .before .before .before .args in let x = c .before .before .before .before .before .x .given in let P = held (a .t .now) in let w = a .c in c .stopped .ensures ∙ ap stoppedWith (c .before .fault .ensures) ∙ sym (ap (checkedTurn P w) (x .1) ∙ ap (λ (b : Bool). ruledTurn b (masksOf (after P (stateOf (w .end .state)) (x .0 .0)))) (sym (c .before .before .before .lawful .ensures) ∙ c .before .before .if1 .left))
+returns-2 c = let a = c .before .before .before .before .before .before .before .before .before .before .before .before .args in let x = c .before .before .before .before .before .before .before .x .given in let P = held (a .t .now) in let w = a .c in c .stopped .ensures ∙ ap stoppedWith (c .before .fault .ensures) ∙ sym (ap (checkedTurn P w) (x .1) ∙ ap (λ (b : Bool). ruledTurn b (masksOf (after P (stateOf (w .end .state)) (x .0 .0)))) (sym (c .before .before .before .lawful .ensures) ∙ c .before .before .if1 .left))
 
 returns-3 : tie.Need-returns-3
 returns-3 c = let a = c .before .before .before .before .before .before .args in c .stopped2 .ensures ∙ sym (ap (checkedTurn (held (a .t .now)) (a .c)) (c .before .enum-told .given .1))

@@ -6,7 +6,7 @@ use lib.ListN.{length}
 use borrow.Author.Tests.{not-true, not-false}
 use Rattle.bounded.specs.Bounded.{allBelow}
 use Rattle.bounded.proofs.Loops.{all-none, all-more, all-fail, all-end}
-use Rattle.problem.specs.Masks.{stateOf}
+use Rattle.problem.specs.Masks.{stateOf, sets}
 use Rattle.jobs.specs.PutBack.{planOf}
 use Rattle.extend.specs.Plan.{entryFits}
 use borrow.Author.Needs.{needs}
@@ -15,10 +15,10 @@ use Rattle.extend.proofs.entries_fit.Statement.{statement}
 use Rattle.extend.proofs.entries_fit.Tie as tie
 
 abbrev Inv-loop : tie.InvT-loop
-Inv-loop m plan i₀ i = (i ≤ length plan) × (allBelow i (λ k. entryFits (stateOf m) k (planOf plan k)) ≡ true)
+Inv-loop active on plan i₀ i = (i ≤ length plan) × (allBelow i (λ k. entryFits (stateOf (sets active on)) k (planOf plan k)) ≡ true)
 
 abbrev μ-loop : tie.MeasureT-loop
-μ-loop m plan i₀ i = length plan - i
+μ-loop active on plan i₀ i = length plan - i
 
 loop-holds : tie.Need-loop-holds Inv-loop μ-loop
 loop-holds c = (omega arith, all-none _)

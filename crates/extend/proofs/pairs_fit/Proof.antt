@@ -7,7 +7,7 @@ use borrow.Author.Tests.{not-true, not-false}
 use Rattle.bounded.specs.Bounded.{allBelow}
 use Rattle.bounded.proofs.Loops.{all-none, all-more, all-fail, all-end}
 use Rattle.problem.specs.Held.{held}
-use Rattle.problem.specs.Masks.{stateOf}
+use Rattle.problem.specs.Masks.{stateOf, sets}
 use Rattle.jobs.specs.PutBack.{planOf}
 use Rattle.extend.specs.Plan.{pairsOf}
 use borrow.Author.Needs.{needs}
@@ -16,10 +16,10 @@ use Rattle.extend.proofs.pairs_fit.Statement.{statement}
 use Rattle.extend.proofs.pairs_fit.Tie as tie
 
 abbrev Inv-loop : tie.InvT-loop
-Inv-loop t m plan i₀ i = (i ≤ length plan) × (allBelow i (pairsOf (held t) (stateOf m) (planOf plan)) ≡ true)
+Inv-loop t active on plan i₀ i = (i ≤ length plan) × (allBelow i (pairsOf (held t) (stateOf (sets active on)) (planOf plan)) ≡ true)
 
 abbrev μ-loop : tie.MeasureT-loop
-μ-loop t m plan i₀ i = length plan - i
+μ-loop t active on plan i₀ i = length plan - i
 
 loop-holds : tie.Need-loop-holds Inv-loop μ-loop
 loop-holds c = (omega arith, all-none _)

@@ -1,46 +1,49 @@
--- `extend::put_back_over`: the trace, then the plan. Assumes nothing.
+-- `extend::put_back_over`: the lengths, then the trace and the plan. Assumes nothing.
 use mathlib.Core.Path.{sym, ap, _∙_}
-use Rattle.jobs.specs.PutBack.{Checked, afterCheck, checkTrace}
-use Rattle.problem.specs.Problem.{full}
 use Rattle.problem.specs.Held.{held}
-use Rattle.extend.proofs.Walk.{ended-fault}
+use Rattle.jobs.specs.PutBack.{PutBackResult}
+use Rattle.jobs.proofs.Opened.{put-back-plan-length-over, put-back-result-length-over, put-back-checked-over}
 use borrow.Author.Needs.{needs}
 use Rattle.extend.proofs.put_back_over.Statement.{statement}
 use Rattle.extend.proofs.put_back_over.Tie as tie
 
-full-masks-requires : tie.Need-full-masks-requires
-full-masks-requires c κs = search needs
-
-check-trace-requires : tie.Need-check-trace-requires
-check-trace-requires c κs = (c .before .before .before .before .before .pre .0, c .full-masks .ensures)
-
-enum-known-check : tie.Need-enum-known-check
-enum-known-check c = search needs
-
-enum-told : tie.Need-enum-told
-enum-told c = search needs
-
-finish-requires : tie.Need-finish-requires
-finish-requires c κs = let p = c .before .before .before .before .before .before .before .before .before .before .pre in (p .0, (c .before .before .before .before .before .full-masks .ensures, (sym (c .before .before .before .before .check-trace .ensures) ∙ (λ k. record { check = c .before .before .enum-told .given .1 k; state = c .before .before .before .before .check-trace .result .state }), (p .1 .0, p .1 .1))))
+variables-requires : tie.Need-variables-requires
+variables-requires c κs = search needs
 
 returns : tie.Need-returns
-returns c = let a = c .before .before .before .before .before .before .before .before .before .args in let g = sym (ended-fault (held (a .t .now)) (full (held (a .t .now))) (checkTrace (held (a .t .now)) (a .trace .now)) (c .before .before .before .check-trace .result) (c .before .check .given .0 .0) (c .before .before .before .check-trace .ensures) (c .before .check .given .1)) in (ap (λ (x : Checked). (afterCheck (held (a .t .now)) (a .plan .now) (a .out .now) x) .answer) g, ap (λ (x : Checked). (afterCheck (held (a .t .now)) (a .plan .now) (a .out .now) x) .result) g)
+returns c =
+    let a = c .before .before .before .before .before .before .args in
+    let g = sym (put-back-plan-length-over (held (a .t .now)) (a .trace .now) (a .plan .now) (a .out .now) (λ q. c .if1 .taken (q ∙ sym (c .before .variables .ensures)))) in
+    (ap (λ (r : PutBackResult). r .answer) g, ap (λ (r : PutBackResult). r .result) g)
+
+returns-2 : tie.Need-returns-2
+returns-2 c =
+    let a = c .before .before .before .before .before .before .before .args in
+    let e = c .before .before .variables .ensures in
+    let g = sym (put-back-result-length-over (held (a .t .now)) (a .trace .now) (a .plan .now) (a .out .now) (c .before .if1 .left ∙ e) (λ q. c .if2 .taken (q ∙ sym e))) in
+    (ap (λ (r : PutBackResult). r .answer) g, ap (λ (r : PutBackResult). r .result) g)
+
+put-back-sized-requires : tie.Need-put-back-sized-requires
+put-back-sized-requires c κs = let e = c .before .before .before .variables .ensures in (c .before .before .before .before .before .before .before .before .pre, (c .before .before .if1 .left ∙ e, c .before .if2 .left ∙ e))
 
 same-length : tie.Need-same-length
 same-length c = search needs
 
-returns-2 : tie.Need-returns-2
-returns-2 c = c .before .before .finish .ensures
+returns-3 : tie.Need-returns-3
+returns-3 c =
+    let a = c .before .before .before .before .before .before .before .before .before .before .before .args in
+    let e = c .before .before .before .before .before .before .variables .ensures in
+    let g = sym (put-back-checked-over (held (a .t .now)) (a .trace .now) (a .plan .now) (a .out .now) (c .before .before .before .before .before .if1 .left ∙ e) (c .before .before .before .before .if2 .left ∙ e)) in
+    let r = c .before .before .put-back-sized .ensures in
+    (r .0 ∙ ap (λ (r : PutBackResult). r .answer) g, r .1 ∙ ap (λ (r : PutBackResult). r .result) g)
 
 pub put-back-over-spec : {M : Type 1} → statement M
 put-back-over-spec =
     tie.close
     (tie.spec
-    full-masks-requires
-    check-trace-requires
-    enum-known-check
-    enum-told
-    finish-requires
+    variables-requires
     returns
+    returns-2
+    put-back-sized-requires
     same-length
-    returns-2)
+    returns-3)

@@ -1,8 +1,8 @@
 -- `extend::put_back_sheet`: the table holds the sheet's problem. Assumes nothing.
 use mathlib.Core.Path.{ap, _∙_}
 use Rattle.problem.specs.Problem.{Problem}
-use Rattle.jobs.specs.PutBack.{afterCheck, checkTrace}
-use Rattle.extend.proofs.Job.{sheet-table, sheet-variables}
+use Rattle.jobs.specs.PutBack.{putBackOver}
+use Rattle.jobs.proofs.Opened.{sheet-table}
 use borrow.Author.Needs.{needs}
 use Rattle.extend.proofs.put_back_sheet.Statement.{statement}
 use Rattle.extend.proofs.put_back_sheet.Tie as tie
@@ -11,19 +11,25 @@ slice-aggregate-fill-table : tie.Need-slice-aggregate-fill-table
 slice-aggregate-fill-table c = search needs
 
 fill-table-requires : tie.Need-fill-table-requires
-fill-table-requires c κs = (c .before .before .before .before .before .pre .0, search needs)
+fill-table-requires c κs = search needs
 
 slice-aggregate-put-back-over : tie.Need-slice-aggregate-put-back-over
 slice-aggregate-put-back-over c = search needs
 
 put-back-over-requires : tie.Need-put-back-over-requires
-put-back-over-requires c κs = let p = c .before .before .before .before .before .before .before .before .before .pre in let y = sheet-table _ _ (p .0) (c .before .before .before .fill-table .ensures) in let n = sheet-variables _ _ (y .1) in (y .0, (p .1 .0 ∙ n, p .1 .1 ∙ n))
+put-back-over-requires c κs = sheet-table _ _ (c .before .before .before .before .before .before .before .before .before .pre) (c .before .before .before .fill-table .ensures) .0
 
 same-length : tie.Need-same-length
 same-length c = search needs
 
 returns : tie.Need-returns
-returns c = let a = c .before .before .before .before .before .before .before .before .before .before .before .before .args in let y = sheet-table _ _ (c .before .before .before .before .before .before .before .before .before .before .before .before .pre .0) (c .before .before .before .before .before .before .fill-table .ensures) in let r = c .before .before .put-back-over .ensures in (r .0 ∙ ap (λ (P : Problem). (afterCheck P (a .plan .now) (a .out .now) (checkTrace P (a .trace .now))) .answer) (y .1), r .1 ∙ ap (λ (P : Problem). (afterCheck P (a .plan .now) (a .out .now) (checkTrace P (a .trace .now))) .result) (y .1))
+returns c =
+    let a = c .before .before .before .before .before .before .before .before .before .before .before .before in
+    let e = sheet-table _ _ (a .pre) (c .before .before .before .before .before .before .fill-table .ensures) .1 in
+    let r = c .before .before .put-back-over .ensures in (
+      r .0 ∙ ap (λ (P : Problem). (putBackOver P (a .args .trace .now) (a .args .plan .now) (a .args .out .now)) .answer) e,
+      r .1 ∙ ap (λ (P : Problem). (putBackOver P (a .args .trace .now) (a .args .plan .now) (a .args .out .now)) .result) e,
+    )
 
 pub put-back-sheet-spec : {M : Type 1} → statement M
 put-back-sheet-spec =

@@ -15,13 +15,13 @@ enum-known-r : tie.Need-enum-known-r
 enum-known-r c = search needs
 
 undo-snake-requires : tie.Need-undo-snake-requires
-undo-snake-requires c κs = let p = c .before .before .before .before .before .before .pre in let a = c .before .before .before .before .before .before .args in (p .0, subst (λ (x : Record). Undoable (a .t .now) (a .m) x (a .out .now)) (c .before .before .r .given .1) (p .1))
+undo-snake-requires c κs = let p = c .before .before .before .before .before .before .before .before .pre in let a = c .before .before .before .before .before .before .before .before .args in (p .0, subst (λ (x : Record). Undoable (a .t .now) (a .t2) x (a .out .now)) (c .before .before .before .before .r .given .1) (p .1))
 
 enum-known-r-2 : tie.Need-enum-known-r-2
 enum-known-r-2 c = search needs
 
 undo-triangle-requires : tie.Need-undo-triangle-requires
-undo-triangle-requires c κs = let p = c .before .before .before .before .before .before .pre in let a = c .before .before .before .before .before .before .args in (p .0, subst (λ (x : Record). Undoable (a .t .now) (a .m) x (a .out .now)) (c .before .before .r2 .given .1) (p .1))
+undo-triangle-requires c κs = let p = c .before .before .before .before .before .before .before .before .pre in let a = c .before .before .before .before .before .before .before .before .args in (p .0, subst (λ (x : Record). Undoable (a .t .now) (a .t2) x (a .out .now)) (c .before .before .before .before .r2 .given .1) (p .1))
 
 enum-told-2 : tie.Need-enum-told-2
 enum-told-2 c = search needs
@@ -37,13 +37,13 @@ same-length : tie.Need-same-length
 same-length c = search needs
 
 returns-2 : tie.Need-returns-2
-returns-2 c = rw (c .before .before .before .before .before .r .given .1) (c .before .before .undo-snake .ensures)
+returns-2 c = rw (c .before .before .before .before .before .before .before .r .given .1) (c .before .before .undo-snake .ensures)
 
 same-length-2 : tie.Need-same-length-2
 same-length-2 c = search needs
 
 returns-3 : tie.Need-returns-3
-returns-3 c = rw (c .before .before .before .before .before .r2 .given .1) (c .before .before .undo-triangle .ensures)
+returns-3 c = rw (c .before .before .before .before .before .before .before .r2 .given .1) (c .before .before .undo-triangle .ensures)
 
 returns-4 : tie.Need-returns-4
 unfolding undo

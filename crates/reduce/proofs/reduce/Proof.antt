@@ -3,7 +3,7 @@ use mathlib.Core.Path.{ap, sym, _∙_}
 use Rattle.sheet.specs.Sheet.{layout}
 use Rattle.sheet.proofs.Accepted.{keeps}
 use Rattle.jobs.specs.Run.{RunResult}
-use Rattle.jobs.proofs.Opened.{run-sheet-refused}
+use Rattle.jobs.proofs.Opened.{run-sheet-refused, run-kept}
 use borrow.Author.Needs.{needs}
 use Rattle.reduce.proofs.reduce.Statement.{statement}
 use Rattle.reduce.proofs.reduce.Tie as tie
@@ -20,8 +20,8 @@ refused-requires c κs = search needs
 enum-told : tie.Need-enum-told
 enum-told c = search needs
 
-run-read-requires : tie.Need-run-read-requires
-run-read-requires c κs = keeps layout (c .before .before .before .before .before .before .args .s .now) _ _ (sym (c .before .before .before .read-sheet .ensures) ∙ c .before .enum-told .given .1)
+run-sheet-requires : tie.Need-run-sheet-requires
+run-sheet-requires c κs = keeps layout (c .before .before .before .before .before .before .args .s .now) _ _ (sym (c .before .before .before .read-sheet .ensures) ∙ c .before .enum-told .given .1)
 
 returns : tie.Need-returns
 returns c =
@@ -33,7 +33,12 @@ same-length : tie.Need-same-length
 same-length c = search needs
 
 returns-2 : tie.Need-returns-2
-returns-2 c = search needs
+returns-2 c =
+    let a = c .before .before .before .before .before .before .before .before .before .args in
+    let K = keeps layout (a .s .now) _ _ (sym (c .before .before .before .before .before .before .read-sheet .ensures) ∙ c .before .before .before .before .enum-told .given .1) in
+    let q = run-kept (a .s .now) (a .b .now) K in
+    let p = c .before .before .run-sheet .ensures in
+    (p .0 ∙ ap (λ (x : RunResult). x .answer) (sym q), p .1 ∙ ap (λ (x : RunResult). x .buffer) (sym q))
 
 pub reduce-spec : {M : Type 1} → statement M
 reduce-spec =
@@ -43,7 +48,7 @@ reduce-spec =
     enum-known-r
     refused-requires
     enum-told
-    run-read-requires
+    run-sheet-requires
     returns
     same-length
     returns-2)

@@ -1,4 +1,4 @@
--- `manual::call_on`: a struct's numbers are those that it can hold, so that a state which passes the test of 11 fits. Assumes nothing.
+-- `manual::call_over`: a struct's numbers are those that it can hold, so that a state which passes the test of 11 fits. Assumes nothing.
 use mathlib.Core.Path.{sym, ap, _∙_}
 use lib.ListN.{getD}
 use mir.Val.{Fits}
@@ -13,8 +13,8 @@ use Rattle.held.specs.Ready.{Ready}
 use Rattle.jobs.specs.Hand.{callAnswer}
 use Rattle.problem.proofs.OneCall.{call-misfit}
 use borrow.Author.Needs.{needs}
-use Rattle.manual.proofs.call_on.Statement.{statement}
-use Rattle.manual.proofs.call_on.Tie as tie
+use Rattle.manual.proofs.call_over.Statement.{statement}
+use Rattle.manual.proofs.call_over.Tie as tie
 
 -- what the struct's own types say
 proper : (c : tie.Start) → Proper (c .args .st .masks)
@@ -57,8 +57,8 @@ call-fitting-requires c κs = (ready (c .before .before .before .before), c .bef
 returns-2 : tie.Need-returns-2
 returns-2 c = search needs
 
-pub call-on-spec : {M : Type 1} → statement M
-call-on-spec =
+pub call-over-spec : {M : Type 1} → statement M
+call-over-spec =
     tie.close
     (tie.spec
     fits-requires

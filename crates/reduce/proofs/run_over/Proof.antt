@@ -1,0 +1,53 @@
+-- `reduce::run_over`: the buffer first, by the sum of the sizes. Assumes nothing.
+use mathlib.Core.Path.{ap, sym, _∙_}
+use native.Mathlib.Omega.{arith}
+use Rattle.problem.specs.Held.{held}
+use Rattle.jobs.specs.Run.{RunResult}
+use Rattle.jobs.proofs.Opened.{run-buffer-refused-over, run-accepted-over}
+use borrow.Author.Needs.{needs}
+use Rattle.reduce.proofs.run_over.Statement.{statement}
+use Rattle.reduce.proofs.run_over.Tie as tie
+
+size-sum-requires : tie.Need-size-sum-requires
+size-sum-requires c κs = search needs
+
+mul-if1 : tie.Need-mul-if1
+mul-if1 c = search needs
+
+add-if1 : tie.Need-add-if1
+add-if1 c = search needs
+
+refused-requires : tie.Need-refused-requires
+refused-requires c κs = search needs
+
+returns : tie.Need-returns
+returns c =
+    let a = c .before .before .before .before .before .args in
+    let q = run-buffer-refused-over (held (a .t .now)) (a .b .now) (omega (arith, c .before .if1 .taken, c .before .before .size-sum .ensures .0)) in
+    (c .refused .ensures ∙ ap (λ (x : RunResult). x .answer) (sym q), ap (λ (x : RunResult). x .buffer) (sym q))
+
+run-table-requires : tie.Need-run-table-requires
+run-table-requires c κs = search needs
+
+same-length : tie.Need-same-length
+same-length c = search needs
+
+returns-2 : tie.Need-returns-2
+returns-2 c =
+    let a = c .before .before .before .before .before .before .before .before .args in
+    let q = run-accepted-over (held (a .t .now)) (a .b .now) (omega (arith, c .before .before .before .before .if1 .left, c .before .before .before .before .before .size-sum .ensures .0)) in
+    let p = c .before .before .run-table .ensures in
+    (p .0 ∙ ap (λ (x : RunResult). x .answer) (sym q), p .1 ∙ ap (λ (x : RunResult). x .buffer) (sym q))
+
+pub run-over-spec : {M : Type 1} → statement M
+run-over-spec =
+    tie.close
+    (tie.spec
+    size-sum-requires
+    mul-if1
+    add-if1
+    refused-requires
+    returns
+    run-table-requires
+    same-length
+    returns-2)
