@@ -1,5 +1,5 @@
 -- Demands 1 and 2 of the run, over the definitions that the run's contracts cite. Assumes nothing.
-use mathlib.Core.Path.{_≡_, refl, ap}
+use mathlib.Core.Path.{_≡_, refl, ap, _∙_}
 use mathlib.Core.List.{List, [], _∷_, _++_}
 use mathlib.Core.Logic.{_↔_}
 use Prim.Native.Nat.{ℕ, _+_, _*_, _≤_}
@@ -8,7 +8,8 @@ use lib.Dec.{T}
 use lib.ListN.{length, length-append}
 use Rattle.problem.specs.Problem.{Problem, State, full, sizeSum, noneEmpty}
 use Rattle.problem.specs.Reduce.{holds, lawfulTrace, afterTrace, run, endOf}
-use Rattle.problem.specs.Masks.{masksOf}
+use Rattle.problem.specs.Held.{Bounded}
+use Rattle.problem.specs.Masks.{stateOf, masksOf}
 use Rattle.problem.specs.Extend.{undoTrace}
 use Rattle.problem.specs.declared.Record.{Record}
 use Rattle.problem.specs.declared.Record.the-variants.{Unsupported, Snake, Triangle, Neighbourhood, SnakeSubstitution}
@@ -17,11 +18,14 @@ use Rattle.problem.proofs.Published.{Published, run-published}
 use Rattle.problem.proofs.Least.{FirstLawful, run-least}
 use Rattle.problem.proofs.Sound.{Solution, Solvable}
 use Rattle.problem.proofs.Trace.{trace-fits, trace-undone, trace-solvable, lawful-iff}
+use Rattle.problem.proofs.Bridge.{state-back}
 use Rattle.problem.proofs.Run.{run-lawful, run-complete, run-short, EndSays, end-says}
 use Rattle.sheet.specs.Sheet.{layout, Keeps}
 use Rattle.sheet.specs.Relation.{problemOf}
+use Rattle.sheet.proofs.Accepted.{problem-bounded}
 use Rattle.jobs.specs.Trace.{recordBytes, recordsBytes, traceBytes, fronted}
 use Rattle.jobs.specs.Run.{RunResult, runDone, runOver, runJob}
+use Rattle.jobs.specs.declared.Reduced.{Reduced}
 use Rattle.jobs.specs.declared.ReduceOutcome.the-variants.{Done}
 use Rattle.jobs.proofs.Opened.{run-accepted-over, run-kept}
 
@@ -94,3 +98,13 @@ run-worked-over P b l =
 pub run-worked : (s b : List ℕ) → Keeps layout s → 1 + 5 * sizeSum (problemOf layout s) ≤ length b
     → Worked (problemOf layout s) (run (problemOf layout s) (full (problemOf layout s))) (afterTrace (problemOf layout s) (full (problemOf layout s)) (run (problemOf layout s) (full (problemOf layout s)))) b (runJob s b)
 run-worked s b K l = rw (run-kept s b K) (run-worked-over (problemOf layout s) b l)
+
+-- ---- the state left
+
+-- where a table can hold the problem, the masks that an accepted run answers are the state that its records lead to
+pub run-left-over : (P : Problem) → Bounded P → (b : List ℕ) → 1 + 5 * sizeSum P ≤ length b → stateOf ((runOver P b) .answer .state) ≡ afterTrace P (full P) (run P (full P))
+run-left-over P B b l = ap (λ (x : Reduced). stateOf (x .state)) (run-worked-over P b l .answer) ∙ state-back P B (trace-fits P (full-fits P) (run P (full P)))
+
+pub run-left : (s b : List ℕ) → Keeps layout s → 1 + 5 * sizeSum (problemOf layout s) ≤ length b
+    → stateOf ((runJob s b) .answer .state) ≡ afterTrace (problemOf layout s) (full (problemOf layout s)) (run (problemOf layout s) (full (problemOf layout s)))
+run-left s b K l = rw (run-kept s b K) (run-left-over (problemOf layout s) (problem-bounded s K) b l)

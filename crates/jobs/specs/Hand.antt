@@ -39,6 +39,7 @@ startOver P = record { outcome = started.Started; state = handOf (start P) }
 abbrev pub startRefused : SheetRefusal → StartAnswer
 startRefused r = record { outcome = started.Refused r; state = record { masks = emptyMasks } }
 
+-- starting on the sheet s
 unfoldable pub startJob : List ℕ → StartAnswer
 startJob s = withSheet s startRefused startOver
 
@@ -60,6 +61,7 @@ callAnswer P st i outcome.NoSnake = callRefused refusal.Rule st
 abbrev pub callOver : Problem → ManualState → ℕ → CallAnswer
 callOver P st i = callAnswer P st i (call P (handState st) i)
 
+-- a hand call on the sheet s
 unfoldable pub callJob : List ℕ → ManualState → ℕ → CallAnswer
 callJob s st i = withSheet s (λ r. callRefused (refusal.Sheet r) st) (λ P. callOver P st i)
 
@@ -70,6 +72,7 @@ unfoldable pub callsOver : Problem → ManualState → List ℕ → ManualState
 callsOver P st [] = st
 callsOver P st (i ∷ l) = callsOver P ((callOver P st i) .state) l
 
+-- the same on the sheet s
 unfoldable pub callsJob : List ℕ → ManualState → List ℕ → ManualState
 callsJob s st [] = st
 callsJob s st (i ∷ l) = callsJob s ((callJob s st i) .state) l

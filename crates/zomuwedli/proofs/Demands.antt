@@ -18,15 +18,13 @@ use Rattle.problem.specs.declared.End.{End}
 use Rattle.problem.specs.declared.End.the-variants as end·
 use Rattle.problem.specs.declared.Masks.{Masks}
 use Rattle.problem.specs.declared.Record.{Record}
-use Rattle.problem.proofs.Reflect.{Active, full-fits}
-use Rattle.problem.proofs.Bridge.{masks-back, state-back}
+use Rattle.problem.proofs.Reflect.{Active}
+use Rattle.problem.proofs.Bridge.{masks-back}
 use Rattle.problem.proofs.Order.{Alike}
 use Rattle.problem.proofs.Sound.{Solvable}
-use Rattle.problem.proofs.Trace.{trace-fits}
 use Rattle.sheet.specs.Bytes.{numberAt}
 use Rattle.sheet.specs.Sheet.{layout, variablesOf, Keeps}
 use Rattle.sheet.specs.Relation.{problemOf}
-use Rattle.sheet.proofs.Accepted.{problem-bounded}
 use Rattle.jobs.specs.Numbers.{endNumber}
 use Rattle.jobs.specs.Run.{runJob}
 use Rattle.jobs.specs.Hand.{handState, handFits, startJob, callJob, callsJob}
@@ -42,7 +40,7 @@ use Rattle.jobs.specs.declared.Extended.the-variants as back
 use Rattle.jobs.proofs.Opened.{variables-of}
 use Rattle.jobs.proofs.HandOrder.{order-does-not-matter, start-meets}
 use Rattle.jobs.proofs.Ran.{ran-iff, started-iff}
-use Rattle.jobs.proofs.Worked.{Worked, run-worked}
+use Rattle.jobs.proofs.Worked.{Worked, run-worked, run-left}
 use Rattle.extend.proofs.Causes.{BackCause, put-back-iff}
 use Rattle.extend.proofs.Demands.{put-back-accepted, put-back-plan, run-put-back}
 use Rattle.extend.proofs.Ends.{impossible-none, solved-fits}
@@ -245,9 +243,7 @@ module _ (s t b : List ℕ) where
         (λ j. take (n j) (q j)) ∙ take-append-seam (traceBytes records) _
 
     sheet-left : sheetLeft (runCall s t b) ≡ last
-    sheet-left =
-        ap stateOf (run-state s t b (A .2) _ _ _ done ∙ ap (λ (y : Reduced). y .state) (worked .answer))
-        ∙ state-back problem (problem-bounded s (A .0)) (trace-fits problem (full-fits problem) records)
+    sheet-left = ap stateOf (run-state s t b (A .2) _ _ _ done) ∙ run-left s t (A .0) (A .1)
 
     -- "each plan of what is left is put back into a plan of the full sheet": the trace and the state that a run left, whatever bytes were
     -- in its buffers
