@@ -251,7 +251,7 @@ fn do_start(text: &[u8], from: usize)
 {
     let mut sheet = [0u8; 20000];
     let n = field(text, from, &mut sheet);
-    show_start(manual::start(&sheet[..n]));
+    show_start(start::start(&sheet[..n]));
 }
 
 // The number of two bytes.
@@ -314,7 +314,7 @@ fn do_hand(text: &[u8], from: usize)
     let mut sheet = [0u8; 20000];
     let n = field(text, p, &mut sheet);
     let masks = masks_of(state);
-    show_call(manual::hand_call(&sheet[..n], ManualState { masks }, item_of(item)));
+    show_call(hand::hand_call(&sheet[..n], ManualState { masks }, item_of(item)));
 }
 
 fn show_back(a: Extended, out: &[u8]) {

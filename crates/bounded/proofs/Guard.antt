@@ -1,9 +1,10 @@
--- Three tests joined, and a fourth behind them. Assumes nothing.
-use mathlib.Core.Path.{_≡_, refl, sym, _∙_}
+-- Tests joined, and one more behind them. Assumes nothing.
+use mathlib.Core.Path.{_≡_, refl, sym, ap, _∙_}
 use mathlib.Core.Bool.{Bool, true, false, not, _&&_}
 use mathlib.Core.Logic.{_≢_}
 use Prim.Native.Nat.{ℕ}
 use lib.Dec.{eqb}
+use Rattle.bounded.specs.Bounded.{imp}
 use Rattle.bounded.proofs.Truth.{T-of, clash, both, not-iff, eqb-iff}
 
 pub guard : (a b : Bool) (k i : ℕ) → (a && (b && not (eqb k i))) ≡ true → (a ≡ true) × (b ≡ true) × (k ≢ i)
@@ -26,3 +27,18 @@ guard-left {a} {b} {p} {q} c x e f h = rw (← e, ← f) (go a b c h)
     go true true false h = refl
     go true false c h = refl
     go false b c h = refl
+
+-- ---- two tests and a third behind which a fourth stands
+
+pub met : {a b p q : Bool} (c x : Bool) → a ≡ p → b ≡ q → (a && (b && c)) ≡ true → x ≡ imp (p && (q && c)) x
+met {a} {b} {p} {q} c x e f h = ap (λ (z : Bool). imp z x) (sym h ∙ (λ i. e i && (f i && c)))
+
+pub unmet : {a b p q : Bool} (c x : Bool) → a ≡ p → b ≡ q → (a && (b && c)) ≡ false → true ≡ imp (p && (q && c)) x
+unmet {a} {b} {p} {q} c x e f h = ap (λ (z : Bool). imp z x) (sym h ∙ (λ i. e i && (f i && c)))
+
+-- one test in front of another
+pub behind : {a p : Bool} (x : Bool) → a ≡ p → a ≡ true → x ≡ (p && x)
+behind {a} {p} x e h = ap (λ (z : Bool). z && x) (sym h ∙ e)
+
+pub before : {a p : Bool} (x : Bool) → a ≡ p → a ≡ false → false ≡ (p && x)
+before {a} {p} x e h = ap (λ (z : Bool). z && x) (sym h ∙ e)

@@ -20,10 +20,10 @@ use Rattle.jobs.specs.declared.Extended.the-variants.{Done}
 use Rattle.jobs.specs.declared.ExtendRefusal.the-variants.{Plan}
 use Rattle.held.specs.Ready.{Ready}
 use Rattle.held.proofs.After.{state-held, ready-held}
-use Rattle.extend.specs.Walk.{checkedFrom, ended, lawfulEnd}
-use Rattle.extend.specs.Undone.{UndoableFrom, undoneBy}
-use Rattle.extend.proofs.First.{ready-full}
-use Rattle.extend.proofs.Walk.{ended-lawful, front-lawful}
+use Rattle.replay.specs.Walk.{checkedFrom, ended, lawfulEnd}
+use Rattle.undo.specs.Undone.{UndoableFrom, undoneBy}
+use Rattle.held.proofs.First.{ready-full}
+use Rattle.replay.proofs.Walk.{ended-lawful, front-lawful}
 use Rattle.extend.proofs.Plan.{plan-solves}
 
 -- ---- after the trace

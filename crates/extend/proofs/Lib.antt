@@ -1,12 +1,4 @@
-pub mod Range
-pub mod First
-pub mod Walk
-pub mod Turn
 pub mod Plan
-pub mod Undo
-pub mod Back
-pub mod Found
-pub mod Again
 pub mod Job
 pub mod Demands
 pub mod Ends

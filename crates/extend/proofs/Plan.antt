@@ -98,18 +98,3 @@ module _ {P : Problem} {s : State} (F : Fits P s) (p : List ℕ) where
   -- a plan that passes solves the state
   pub plan-solves : planFits P s p ≡ true → Solution P s (planOf p)
   plan-solves e = solves-iff F (planOf p) .0 (plan-iff .0 (subst T (sym e) tt) .1)
-
--- ---- two tests and a third behind which a fourth stands
-
-pub met : {a b p q : Bool} (c x : Bool) → a ≡ p → b ≡ q → (a && (b && c)) ≡ true → x ≡ imp (p && (q && c)) x
-met {a} {b} {p} {q} c x e f h = ap (λ (z : Bool). imp z x) (sym h ∙ (λ i. e i && (f i && c)))
-
-pub unmet : {a b p q : Bool} (c x : Bool) → a ≡ p → b ≡ q → (a && (b && c)) ≡ false → true ≡ imp (p && (q && c)) x
-unmet {a} {b} {p} {q} c x e f h = ap (λ (z : Bool). imp z x) (sym h ∙ (λ i. e i && (f i && c)))
-
--- one test in front of another
-pub behind : {a p : Bool} (x : Bool) → a ≡ p → a ≡ true → x ≡ (p && x)
-behind {a} {p} x e h = ap (λ (z : Bool). z && x) (sym h ∙ e)
-
-pub before : {a p : Bool} (x : Bool) → a ≡ p → a ≡ false → false ≡ (p && x)
-before {a} {p} x e h = ap (λ (z : Bool). z && x) (sym h ∙ e)

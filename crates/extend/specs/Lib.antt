@@ -1,4 +1,1 @@
-pub mod Walk
 pub mod Plan
-pub mod Undone
-pub mod Found

@@ -2,3 +2,4 @@ pub mod After
 pub mod Bounds
 pub mod Full
 pub mod Laws
+pub mod First

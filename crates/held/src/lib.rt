@@ -8,7 +8,7 @@ ghost use Rattle.bounded.specs.Bounded.{imp};
 ghost use Rattle.bounded.specs.Mask.{bit, maskOf};
 ghost use Rattle.problem.specs.Problem.{noneEmpty, anyLive, full, sizeSum};
 ghost use Rattle.problem.specs.Held.{held, rowPlace, RowTable};
-ghost use Rattle.problem.specs.Masks.{stateOf, masksOf, sets};
+ghost use Rattle.problem.specs.Masks.{stateOf, masksOf, sets, Proper};
 ghost use Rattle.held.specs.Ready.{Ready, Value};
 ghost use lib.Dec.{ltb};
 use bounded::has16;
@@ -126,4 +126,20 @@ pub fn size_sum(t: &[u16]) -> usize
         i += 1;
     }
     sum
+}
+
+// How many values variable i has.
+pub fn size(t: &[u16], i: usize) -> usize
+    requires { ⌜ RowTable (now t) × (i < 32) ⌝ }
+    ensures { λ r. ⌜ r ≡ (held (now (t .entry))) .size i ⌝ }
+{
+    t[i] as usize
+}
+
+// Value v is in the domain of variable i.
+pub fn is_live(active: u32, on: &[u16; 32], i: usize, v: usize) -> bool
+    requires { ⌜ Proper (sets active (now on)) × (i < 32) ⌝ }
+    ensures { λ r. ⌜ r ≡ (stateOf (sets active (now (on .entry)))) .live i v ⌝ }
+{
+    if v < 16 { has16(on[i], v) } else { false }
 }

@@ -1,17 +1,15 @@
 // What C and Rust call: every job over numbers and byte slices. Each function is thin over the proved job and answers one number.
 ghost use mathlib.Core.Path.{_≡_};
-ghost use Prim.Native.Nat.{_+_, _*_, _≤_};
-ghost use lib.ListN.{length};
-ghost use Rattle.sheet.specs.Bytes.{numberAt};
+ghost use Prim.Native.Nat.{_+_, _*_};
 ghost use Rattle.trace.specs.Written.{written};
-ghost use Rattle.zomuwedli.specs.State.{stateLength, numberBytes, masksBytes, masksIn};
-ghost use Rattle.zomuwedli.specs.Calls.{readCall, runCall, startCall, handCall, putBackCall};
+ghost use Rattle.boundary.specs.Calls.{readCall, runCall, startCall, handCall, putBackCall};
+use boundary::put_state;
+use boundary::read_state;
 use jobs::CallOutcome;
 use jobs::Extended;
 use jobs::ManualState;
 use jobs::ReduceOutcome;
 use jobs::StartOutcome;
-use problem::Masks;
 use sheet::SheetRead;
 
 // The bytes of a run's state: the active variables in 4, then 32 domains in 2 each, big-endian.
@@ -24,68 +22,6 @@ const HAND_STATE_LENGTH: usize = 68;
 const BAD_STATE: u64 = 200;
 
 const BAD_HAND_STATE: u64 = 201;
-
-// ---- the state's bytes
-
-// The number of two bytes.
-fn word(hi: u8, lo: u8) -> u16
-    ensures { λ r. ⌜ r ≡ hi * 256 + lo ⌝ }
-{
-    hi as u16 * 256 + lo as u16
-}
-
-// The number of two words.
-fn long(hi: u16, lo: u16) -> u32
-    ensures { λ r. ⌜ r ≡ hi * 65536 + lo ⌝ }
-{
-    hi as u32 * 65536 + lo as u32
-}
-
-// The word at a place.
-fn word_at(b: &[u8], at: usize) -> u16
-    requires { ⌜ at + 2 ≤ length (now b) ⌝ }
-    ensures { λ r. ⌜ r ≡ numberAt (now (b .entry)) 2 at ⌝ }
-{
-    word(b[at], b[at + 1])
-}
-
-// A word written at a place.
-fn put_word(b: &mut [u8], at: usize, x: u16)
-    requires { ⌜ at + 2 ≤ length (now b) ⌝ }
-    ensures { λ _. ⌜ now (b .exit) ≡ written (now (b .entry)) at (numberBytes 2 x) ⌝ }
-{
-    b[at] = (x / 256) as u8;
-    b[at + 1] = (x % 256) as u8;
-}
-
-// The state that 68 bytes say.
-fn read_state(b: &[u8]) -> Masks
-    requires { ⌜ length (now b) ≡ stateLength ⌝ }
-    ensures { λ r. ⌜ r ≡ masksIn (now (b .entry)) ⌝ }
-{
-    let mut m = problem::empty_masks();
-    m.active = long(word_at(b, 0), word_at(b, 2));
-    let mut i: usize = 0;
-    while i < 32 {
-        m.domains[i] = word_at(b, 4 + 2 * i);
-        i += 1;
-    }
-    m
-}
-
-// A state written as 68 bytes.
-fn put_state(b: &mut [u8], m: Masks)
-    requires { ⌜ length (now b) ≡ stateLength ⌝ }
-    ensures { λ _. ⌜ now (b .exit) ≡ masksBytes m ⌝ }
-{
-    put_word(b, 0, (m.active / 65536) as u16);
-    put_word(b, 2, (m.active % 65536) as u16);
-    let mut i: usize = 0;
-    while i < 32 {
-        put_word(b, 4 + 2 * i, m.domains[i]);
-        i += 1;
-    }
-}
 
 // ---- the jobs
 
@@ -136,7 +72,7 @@ pub extern "C" fn zomuwedli_start(sheet: &[u8], state: &mut [u8]) -> u64
     if state.len() != HAND_STATE_LENGTH {
         return BAD_HAND_STATE;
     }
-    let first = manual::start(sheet);
+    let first = start::start(sheet);
     let outcome = first.outcome;
     match outcome {
         StartOutcome::Refused(r) => sheet::sheet_number(r) as u64,
@@ -159,7 +95,7 @@ pub extern "C" fn zomuwedli_hand_call(sheet: &[u8], state: &mut [u8], item: u64)
         return BAD_HAND_STATE;
     }
     let masks = read_state(state);
-    let called = manual::hand_call(sheet, ManualState { masks }, item);
+    let called = hand::hand_call(sheet, ManualState { masks }, item);
     let outcome = called.outcome;
     match outcome {
         CallOutcome::Refused(r) => jobs::manual_number(r) as u64,

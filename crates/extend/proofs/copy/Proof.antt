@@ -5,7 +5,7 @@ use lib.ListN.{length, length-set}
 use Rattle.bounded.specs.Table.{filled}
 use Rattle.bounded.proofs.Table.{filled-none, filled-more, filled-end}
 use Rattle.jobs.specs.PutBack.{planOf}
-use Rattle.extend.proofs.Undo.{tab-back}
+use Rattle.undo.proofs.Undo.{tab-back}
 use borrow.Author.Needs.{needs}
 use native.Mathlib.Omega.{arith}
 use Rattle.extend.proofs.copy.Statement.{statement}

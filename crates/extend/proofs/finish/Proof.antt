@@ -2,7 +2,7 @@
 use mathlib.Core.Path.{sym, ap, _∙_}
 use borrow.Author.Tests.{not-true, not-false}
 use Rattle.jobs.specs.PutBack.{PutBackResult}
-use Rattle.extend.proofs.First.{ready-full}
+use Rattle.held.proofs.First.{ready-full}
 use Rattle.extend.proofs.Job.{ready-last, plan-refused, undoable-all, put-done}
 use borrow.Author.Needs.{needs}
 use Rattle.extend.proofs.finish.Statement.{statement}

@@ -4,7 +4,8 @@ use Rattle.bounded.proofs.Truth.{T-of}
 use Rattle.problem.specs.Masks.{stateOf}
 use Rattle.held.proofs.Laws.{live-value}
 use Rattle.bounded.proofs.Guard.{guard}
-use Rattle.extend.proofs.Plan.{entry-iff, met, unmet}
+use Rattle.bounded.proofs.Guard.{met, unmet}
+use Rattle.extend.proofs.Plan.{entry-iff}
 use native.Mathlib.Omega.{arith}
 use borrow.Author.Needs.{needs}
 use Rattle.extend.proofs.pair_fits.Statement.{statement}

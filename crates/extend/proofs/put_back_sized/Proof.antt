@@ -3,7 +3,7 @@ use mathlib.Core.Path.{sym, ap, _∙_}
 use Rattle.jobs.specs.PutBack.{Checked, afterCheck, checkTrace}
 use Rattle.problem.specs.Problem.{full}
 use Rattle.problem.specs.Held.{held}
-use Rattle.extend.proofs.Walk.{ended-fault}
+use Rattle.replay.proofs.Walk.{ended-fault}
 use borrow.Author.Needs.{needs}
 use Rattle.extend.proofs.put_back_sized.Statement.{statement}
 use Rattle.extend.proofs.put_back_sized.Tie as tie

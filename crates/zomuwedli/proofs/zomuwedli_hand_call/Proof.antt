@@ -1,9 +1,9 @@
 -- `zomuwedli::zomuwedli_hand_call`: the length of the buffer, then what the job answers; its number fits. Assumes nothing.
 use mathlib.Core.Path.{sym, ap, _∙_}
 use native.Mathlib.Omega.{arith}
-use Rattle.zomuwedli.specs.Calls.{HandCall}
-use Rattle.zomuwedli.proofs.Small.{call-small}
-use Rattle.zomuwedli.proofs.Calls.{hand-bad, hand-reads, hand-says}
+use Rattle.boundary.specs.Calls.{HandCall}
+use Rattle.boundary.proofs.Small.{call-small}
+use Rattle.boundary.proofs.Calls.{hand-bad, hand-reads, hand-says}
 use borrow.Author.Needs.{needs}
 use Rattle.zomuwedli.proofs.zomuwedli_hand_call.Statement.{statement}
 use Rattle.zomuwedli.proofs.zomuwedli_hand_call.Tie as tie

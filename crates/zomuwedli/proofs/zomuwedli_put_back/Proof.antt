@@ -1,7 +1,7 @@
 -- `zomuwedli::zomuwedli_put_back`: what the job answers. Assumes nothing.
 use mathlib.Core.Path.{ap, _∙_}
-use Rattle.zomuwedli.specs.Calls.{PutBackCall}
-use Rattle.zomuwedli.proofs.Calls.{back-says}
+use Rattle.boundary.specs.Calls.{PutBackCall}
+use Rattle.boundary.proofs.Calls.{back-says}
 use borrow.Author.Needs.{needs}
 use Rattle.zomuwedli.proofs.zomuwedli_put_back.Statement.{statement}
 use Rattle.zomuwedli.proofs.zomuwedli_put_back.Tie as tie

@@ -2,8 +2,8 @@
 use mathlib.Core.Path.{sym, ap, _∙_}
 use Prim.Native.Nat.{_≤_}
 use native.Mathlib.Omega.{arith}
-use Rattle.zomuwedli.specs.Calls.{readNumber}
-use Rattle.zomuwedli.proofs.Small.{read-small}
+use Rattle.boundary.specs.Calls.{readNumber}
+use Rattle.boundary.proofs.Small.{read-small}
 use borrow.Author.Needs.{needs}
 use Rattle.zomuwedli.proofs.zomuwedli_read.Statement.{statement}
 use Rattle.zomuwedli.proofs.zomuwedli_read.Tie as tie

@@ -2,9 +2,9 @@
 use mathlib.Core.Path.{sym, ap, _∙_}
 use Prim.Native.Nat.{ℕ, _+_, _*_, _≤_}
 use native.Mathlib.Omega.{arith}
-use Rattle.zomuwedli.specs.Calls.{RunCall}
-use Rattle.zomuwedli.proofs.Small.{run-small}
-use Rattle.zomuwedli.proofs.Calls.{run-bad, run-says}
+use Rattle.boundary.specs.Calls.{RunCall}
+use Rattle.boundary.proofs.Small.{run-small}
+use Rattle.boundary.proofs.Calls.{run-bad, run-says}
 use borrow.Author.Needs.{needs}
 use Rattle.zomuwedli.proofs.zomuwedli_run.Statement.{statement}
 use Rattle.zomuwedli.proofs.zomuwedli_run.Tie as tie

@@ -1,8 +1,8 @@
 -- `zomuwedli::zomuwedli_start`: the length of the buffer, then what the job answers. Assumes nothing.
 use mathlib.Core.Path.{sym, ap, _∙_}
 use native.Mathlib.Omega.{arith}
-use Rattle.zomuwedli.specs.Calls.{HandCall}
-use Rattle.zomuwedli.proofs.Calls.{start-bad, start-says}
+use Rattle.boundary.specs.Calls.{HandCall}
+use Rattle.boundary.proofs.Calls.{start-bad, start-says}
 use borrow.Author.Needs.{needs}
 use Rattle.zomuwedli.proofs.zomuwedli_start.Statement.{statement}
 use Rattle.zomuwedli.proofs.zomuwedli_start.Tie as tie

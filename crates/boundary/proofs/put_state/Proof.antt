@@ -1,0 +1,107 @@
+-- `boundary::put_state`: a loop that writes the domains. Assumes nothing.
+use Prim.Native.Nat.{ℕ, _+_, _*_, _%_, _≤_, _-_}
+use mathlib.Core.Path.{_≡_, sym, ap, _∙_}
+use mathlib.Core.List.{List}
+use native.Mathlib.Omega.{arith}
+use lib.ListN.{length, getD, take}
+use mir.Val.{Fits}
+use mir.Syntax.{w32}
+use Rattle.trace.specs.Written.{written}
+use Rattle.boundary.specs.State.{numberBytes, wordsBytes}
+use Rattle.boundary.proofs.Bytes.{words-none, words-put, state-put}
+use borrow.Author.Needs.{needs}
+use Rattle.boundary.proofs.put_state.Statement.{statement}
+use Rattle.boundary.proofs.put_state.Tie as tie
+
+abbrev Inv-loop : tie.InvT-loop
+Inv-loop b₀ m i₀ b i = (i ≤ 32) × (length b ≡ 68) × (b ≡ written b₀ 4 (wordsBytes (take i (m .domains))))
+
+abbrev μ-loop : tie.MeasureT-loop
+μ-loop b₀ m i₀ b i = 32 - i
+
+cast-put-word : tie.Need-cast-put-word Inv-loop μ-loop
+cast-put-word c = search needs
+
+put-word-requires : tie.Need-put-word-requires Inv-loop μ-loop
+put-word-requires c κs = search needs
+
+cast-put-word-2 : tie.Need-cast-put-word-2 Inv-loop μ-loop
+cast-put-word-2 c = search needs
+
+put-word-requires-2 : tie.Need-put-word-requires-2 Inv-loop μ-loop
+put-word-requires-2 c κs = search needs
+
+loop-holds : tie.Need-loop-holds Inv-loop μ-loop
+loop-holds c = (search needs, search needs, sym (words-none _))
+
+mul-put-word : tie.Need-mul-put-word Inv-loop μ-loop
+mul-put-word c = search needs
+
+add-put-word : tie.Need-add-put-word Inv-loop μ-loop
+add-put-word c = search needs
+
+mul-put-word-2 : tie.Need-mul-put-word-2 Inv-loop μ-loop
+mul-put-word-2 c = search needs
+
+element-copy-out-put-word : tie.Need-element-copy-out-put-word Inv-loop μ-loop
+element-copy-out-put-word c = search needs
+
+put-word-requires-3 : tie.Need-put-word-requires-3 Inv-loop μ-loop
+put-word-requires-3 c κs = search needs
+
+add-i : tie.Need-add-i Inv-loop μ-loop
+add-i c = search needs
+
+loop-less : tie.Need-loop-less Inv-loop μ-loop
+loop-less c = search needs
+
+loop-again : tie.Need-loop-again Inv-loop μ-loop
+loop-again c =
+    let w = c .before .before .before .before .before .before .loop in
+    let m = c .before .before .before .before .before .before .before .before .before .before .before .before .before .before .before .before .args .t2 in
+    let b = c .before .before .before .before .before .before .before .before .before .put-word2 .last .0 in
+    let k : length (m .domains) ≡ 32 = search needs in
+    let l : length b ≡ 68 = search needs in
+    let e = c .before .before .put-word3 .ensures ∙ ap (λ (d : List ℕ). written d (4 + 2 * w .i) (numberBytes 2 (getD (m .domains) (w .i) 0))) (w .inv .2) in
+    (omega arith, search needs, e ∙ words-put b (m .domains) (w .i) (omega arith) (omega arith))
+
+same-length : tie.Need-same-length Inv-loop μ-loop
+same-length c = search needs
+
+returns : tie.Need-returns Inv-loop μ-loop
+returns c =
+    let w = c .before .loop in
+    let m = c .before .before .before .before .before .before .before .before .before .before .before .args .t2 in
+    let b = c .before .before .before .before .before .before .before .before .before .before .before .args .b .now in
+    let b₁ = c .before .before .before .before .before .before .before .before .put-word .ensures in
+    let b₂ = c .before .before .before .before .put-word2 .ensures in
+    let k : length (m .domains) ≡ 32 = search needs in
+    let h : Fits w32 (m .active) = search needs in
+    let i : w .i ≡ 32 = omega arith in
+    let b₃ = b₂ ∙ ap (λ (d : List ℕ). written d 2 (numberBytes 2 (m .active % 65536))) b₁ in
+    w .inv .2
+    ∙ ap (λ (n : ℕ). written (c .before .before .before .before .put-word2 .last .0) 4 (wordsBytes (take n (m .domains)))) i
+    ∙ ap (λ (d : List ℕ). written d 4 (wordsBytes (take 32 (m .domains)))) b₃
+    ∙ state-put b m (c .before .before .before .before .before .before .before .before .before .before .before .pre) (h .fits) k
+
+pub put-state-spec : {M : Type 1} → statement M
+put-state-spec =
+    tie.close
+    (tie.spec
+    Inv-loop
+    μ-loop
+    cast-put-word
+    put-word-requires
+    cast-put-word-2
+    put-word-requires-2
+    loop-holds
+    mul-put-word
+    add-put-word
+    mul-put-word-2
+    element-copy-out-put-word
+    put-word-requires-3
+    add-i
+    loop-less
+    loop-again
+    same-length
+    returns)

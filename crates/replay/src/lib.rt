@@ -1,0 +1,204 @@
+// A trace gone through from the first state: whether each record is lawful in the state reached, and where they lead.
+ghost use mathlib.Core.Path.{_≡_};
+ghost use mathlib.Core.Bool.{true, false};
+ghost use Prim.Native.Nat.{_<_};
+ghost use lib.Dec.{T};
+ghost use Rattle.problem.specs.Problem.{full, unsupported as unsupportedAt, snake as snakeAt, triangle as triangleAt, neighbourhood as neighbourhoodAt, snakeSubstitution as slideAt, slideSpares};
+ghost use Rattle.problem.specs.Reduce.{holds as holdsAt, lawful as lawfulAt, after};
+ghost use Rattle.problem.specs.Held.{held, RowTable};
+ghost use Rattle.problem.specs.Masks.{stateOf, masksOf, sets};
+ghost use Rattle.problem.specs.declared.Record.the-variants.{Snake, Triangle};
+ghost use Rattle.held.specs.Ready.{Ready};
+ghost use Rattle.jobs.specs.PutBack.{checkTrace};
+ghost use Rattle.replay.specs.Walk.{checkedFrom, ended, faulty, goingOn, stoppedWith, checkedTurn};
+use jobs::ExtendRefusal;
+use jobs::RecordRead;
+use problem::Masks;
+use problem::Record;
+use problem::empty_masks;
+use trace::moved;
+use trace::peek;
+use trace::placed;
+
+// What checking a trace finds.
+pub enum TraceCheck {
+    Lawful,
+    Fault(ExtendRefusal),
+}
+
+// The check's answer. An enum holds no array, so the state that the records lead to stands beside it.
+pub struct TraceEnd {
+    pub check: TraceCheck,
+    pub state: Masks,
+}
+
+fn holds_unsupported(t: &[u16], active: u32, on: &[u16; 32], i: usize, b: usize, k: usize) -> bool
+    requires { ⌜ Ready (now t) (sets active (now on)) ⌝ }
+    ensures { λ r. ⌜ r ≡ unsupportedAt (held (now (t .entry))) (stateOf (sets active (now (on .entry)))) i b k ⌝ }
+{
+    if (i < 32) & ((b < 16) & (k < 32)) {
+        unsupported::unsupported(t, active, on, i, b, k)
+    } else {
+        false
+    }
+}
+
+fn holds_snake(t: &[u16], active: u32, on: &[u16; 32], i: usize, v: usize) -> bool
+    requires { ⌜ Ready (now t) (sets active (now on)) ⌝ }
+    ensures { λ r. ⌜ r ≡ snakeAt (held (now (t .entry))) (stateOf (sets active (now (on .entry)))) i v ⌝ }
+{
+    if (i < 32) & (v < 16) {
+        snake::snake(t, active, on, i, v)
+    } else {
+        false
+    }
+}
+
+fn holds_triangle(t: &[u16], active: u32, on: &[u16; 32], i: usize, j: usize) -> bool
+    requires { ⌜ Ready (now t) (sets active (now on)) ⌝ }
+    ensures { λ r. ⌜ r ≡ triangleAt (held (now (t .entry))) (stateOf (sets active (now (on .entry)))) i j ⌝ }
+{
+    if (i < 32) & (j < 32) {
+        triangle::triangle(t, active, on, i, j)
+    } else {
+        false
+    }
+}
+
+fn holds_neighbourhood(t: &[u16], active: u32, on: &[u16; 32], i: usize, b: usize, a: usize) -> bool
+    requires { ⌜ Ready (now t) (sets active (now on)) ⌝ }
+    ensures { λ r. ⌜ r ≡ neighbourhoodAt (held (now (t .entry))) (stateOf (sets active (now (on .entry)))) i b a ⌝ }
+{
+    if (i < 32) & ((b < 16) & (a < 16)) {
+        neighbourhood::neighbourhood(t, active, on, i, b, a)
+    } else {
+        false
+    }
+}
+
+fn holds_slide(t: &[u16], active: u32, on: &[u16; 32], i: usize, b: usize, a: usize) -> bool
+    requires { ⌜ Ready (now t) (sets active (now on)) ⌝ }
+    ensures { λ r. ⌜ r ≡ slideAt (held (now (t .entry))) (stateOf (sets active (now (on .entry)))) slideSpares i b a ⌝ }
+{
+    if (i < 32) & ((b < 16) & (a < 16)) {
+        snake_substitution::snake_substitution(t, active, on, i, b, a)
+    } else {
+        false
+    }
+}
+
+// The rule of the record's kind holds for its fields.
+fn holds(t: &[u16], active: u32, on: &[u16; 32], r: Record) -> bool
+    requires { ⌜ Ready (now t) (sets active (now on)) ⌝ }
+    ensures { λ b. ⌜ b ≡ holdsAt (held (now (t .entry))) (stateOf (sets active (now (on .entry)))) r ⌝ }
+{
+    match r {
+        Record::Unsupported(i, b, k) => holds_unsupported(t, active, on, i, b, k),
+        Record::Snake(i, v) => holds_snake(t, active, on, i, v),
+        Record::Triangle(i, j) => holds_triangle(t, active, on, i, j),
+        Record::Neighbourhood(i, b, a) => holds_neighbourhood(t, active, on, i, b, a),
+        Record::SnakeSubstitution(i, b, a) => holds_slide(t, active, on, i, b, a),
+    }
+}
+
+// No record is lawful once an active variable has an empty domain.
+fn lawful(t: &[u16], active: u32, on: &[u16; 32], r: Record) -> bool
+    requires { ⌜ Ready (now t) (sets active (now on)) ⌝ }
+    ensures { λ b. ⌜ b ≡ lawfulAt (held (now (t .entry))) (stateOf (sets active (now (on .entry)))) r ⌝ }
+{
+    if held::none_empty(t, active, on) {
+        holds(t, active, on, r)
+    } else {
+        false
+    }
+}
+
+// The state after a lawful record.
+pub fn apply(t: &[u16], m: Masks, r: Record) -> Masks
+    requires { ⌜ Ready (now t) m × T (lawfulAt (held (now t)) (stateOf m) r) ⌝ }
+    ensures { λ x. ⌜ x ≡ masksOf (after (held (now (t .entry))) (stateOf m) r) ⌝ }
+{
+    steps::apply(t, m, r)
+}
+
+// The answer at a fault.
+fn fault(e: ExtendRefusal) -> TraceEnd
+    ensures { λ r. ⌜ r ≡ faulty e ⌝ }
+{
+    TraceEnd {
+        check: TraceCheck::Fault(e),
+        state: empty_masks(),
+    }
+}
+
+// A check on its way: its answer so far, and whether it goes on.
+pub struct Checking {
+    pub end: TraceEnd,
+    pub on: bool,
+}
+
+// On, in a state that lawful records lead to.
+fn going(m: Masks) -> Checking
+    ensures { λ r. ⌜ r ≡ goingOn m ⌝ }
+{
+    let end = TraceEnd {
+        check: TraceCheck::Lawful,
+        state: m,
+    };
+    Checking { end, on: true }
+}
+
+// At its end, with its answer.
+fn stopped(end: TraceEnd) -> Checking
+    ensures { λ r. ⌜ r ≡ stoppedWith end ⌝ }
+{
+    Checking { end, on: false }
+}
+
+// One turn: what the reader found, in the state so far.
+fn check_record(t: &[u16], c: Checking, x: RecordRead) -> Checking
+    requires { ⌜ Ready (now t) (c .end .state) ⌝ }
+    ensures { λ r. ⌜ r ≡ checkedTurn (held (now (t .entry))) c x ⌝ }
+{
+    let end = c.end;
+    let m = end.state;
+    match x {
+        RecordRead::Read { record, next: _ } => {
+            if lawful(t, m.active, &m.domains, record) {
+                going(apply(t, m, record))
+            } else {
+                stopped(fault(ExtendRefusal::Unlawful))
+            }
+        }
+        RecordRead::End => stopped(end),
+        RecordRead::Malformed => stopped(fault(ExtendRefusal::Malformed)),
+    }
+}
+
+// Record by record from the place after the front, each in the state that the records before it lead to: one reader, which each turn moves.
+fn check_records(t: &[u16], trace: &[u8], first: Masks) -> TraceEnd
+    requires { ⌜ Ready (now t) first ⌝ }
+    ensures { λ r. ⌜ r ≡ ended (held (now (t .entry))) (stateOf first) (checkedFrom (held (now (t .entry))) (now (trace .entry)) (stateOf first) 1) ⌝ }
+{
+    let mut r = placed(trace, 1);
+    let mut c = going(first);
+    while c.on {
+        c = check_record(t, c, peek(r));
+        r = moved(r);
+    }
+    c.end
+}
+
+// The whole trace from the first state: its front, then its records.
+pub fn check_trace(t: &[u16], trace: &[u8], first: Masks) -> TraceEnd
+    requires { ⌜ RowTable (now t) × (first ≡ masksOf (full (held (now t)))) ⌝ }
+    ensures { λ r. ⌜ r ≡ ended (held (now (t .entry))) (full (held (now (t .entry)))) (checkTrace (held (now (t .entry))) (now (trace .entry))) ⌝ }
+{
+    if trace.len() == 0 {
+        return fault(ExtendRefusal::TraceFront);
+    }
+    if trace[0] != 1 {
+        return fault(ExtendRefusal::TraceFront);
+    }
+    check_records(t, trace, first)
+}

@@ -1,0 +1,161 @@
+// docs/FORMAT.md, "Taking out by hand": the start, by sweeps over a filled table until one changes nothing.
+ghost use mathlib.Core.Path.{_≡_};
+ghost use mathlib.Core.Bool.{true};
+ghost use Prim.Native.Nat.{_<_};
+ghost use Rattle.problem.specs.Problem.{full};
+ghost use Rattle.problem.specs.Manual.{prune, pruneTimes};
+ghost use Rattle.problem.specs.Masks.{stateOf, masksOf, sets};
+ghost use Rattle.problem.specs.Held.{held, RowTable};
+ghost use Rattle.sheet.specs.Sheet.{layout, Keeps};
+ghost use Rattle.sheet.specs.Relation.{problemOf};
+ghost use Rattle.held.specs.Ready.{Ready};
+ghost use Rattle.jobs.specs.Hand.{startRefused, startOver, startJob};
+ghost use Rattle.start.specs.Parts.{noneBare, domainLeft, sameDomains, maxTurns};
+use bounded::has16;
+use jobs::ManualState;
+use jobs::StartAnswer;
+use jobs::StartOutcome;
+use problem::Masks;
+use sheet::SheetRead;
+use sheet::SheetRefusal;
+
+// At no other active variable is value a of i without a support.
+fn none_bare(t: &[u16], active: u32, on: &[u16; 32], i: usize, a: usize) -> bool
+    requires { ⌜ Ready (now t) (sets active (now on)) × (i < 32) × (a < 16) ⌝ }
+    ensures { λ r. ⌜ r ≡ noneBare (held (now (t .entry))) (stateOf (sets active (now (on .entry)))) i a ⌝ }
+{
+    let mut k: usize = 0;
+    while k < 32 {
+        if unsupported::unsupported(t, active, on, i, a, k) {
+            return false;
+        }
+        k += 1;
+    }
+    true
+}
+
+// Value a of i is in its domain and has a support at every other active variable.
+fn stays(t: &[u16], active: u32, on: &[u16; 32], i: usize, a: usize) -> bool
+    requires { ⌜ Ready (now t) (sets active (now on)) × (i < 32) × (a < 16) ⌝ }
+    ensures { λ r. ⌜ r ≡ prune (held (now (t .entry))) (stateOf (sets active (now (on .entry)))) .live i a ⌝ }
+{
+    if has16(on[i], a) {
+        none_bare(t, active, on, i, a)
+    } else {
+        false
+    }
+}
+
+fn domain_left(t: &[u16], active: u32, on: &[u16; 32], i: usize) -> u16
+    requires { ⌜ Ready (now t) (sets active (now on)) × (i < 32) ⌝ }
+    ensures { λ r. ⌜ r ≡ domainLeft (held (now (t .entry))) (stateOf (sets active (now (on .entry)))) i ⌝ }
+{
+    let mut x: u16 = 0;
+    let mut a: usize = 0;
+    while a < 16 {
+        x += bounded::weight(stays(t, active, on, i, a), a);
+        a += 1;
+    }
+    x
+}
+
+// Each setting without a partner at some other item goes off, all judged by the state before the sweep.
+fn prune_once(t: &[u16], m: Masks) -> Masks
+    requires { ⌜ Ready (now t) m ⌝ }
+    ensures { λ r. ⌜ r ≡ masksOf (prune (held (now (t .entry))) (stateOf m)) ⌝ }
+{
+    let mut r = m;
+    let mut i: usize = 0;
+    while i < 32 {
+        r.domains[i] = domain_left(t, m.active, &m.domains, i);
+        i += 1;
+    }
+    r
+}
+
+fn same_domains(x: Masks, y: Masks) -> bool
+    ensures { λ r. ⌜ r ≡ sameDomains x y ⌝ }
+{
+    let mut i: usize = 0;
+    while i < 32 {
+        let was = x.domains[i];
+        let left = y.domains[i];
+        let same = was == left;
+        if !same {
+            return false;
+        }
+        i += 1;
+    }
+    true
+}
+
+// Sweeps until one changes nothing. Each before it takes at least one of at most 512 values out, so 513 sweeps are enough.
+fn settle(t: &[u16], m: Masks) -> Masks
+    requires { ⌜ Ready (now t) m ⌝ }
+    ensures { λ r. ⌜ r ≡ masksOf (pruneTimes maxTurns (held (now (t .entry))) (stateOf m)) ⌝ }
+{
+    let mut kept = m;
+    let mut left: usize = 513;
+    while 0 < left {
+        let next = prune_once(t, kept);
+        if same_domains(kept, next) {
+            return kept;
+        }
+        kept = next;
+        left -= 1;
+    }
+    kept
+}
+
+fn start_masks(t: &[u16]) -> Masks
+    requires { ⌜ RowTable (now t) ⌝ }
+    ensures { λ r. ⌜ r ≡ masksOf (pruneTimes maxTurns (held (now (t .entry))) (full (held (now (t .entry))))) ⌝ }
+{
+    settle(t, held::full_masks(t))
+}
+
+// The start over a filled table: the state with all items in and the largest sets of settings in which each has a partner at every other
+// item.
+pub fn start_over(t: &[u16]) -> StartAnswer
+    requires { ⌜ RowTable (now t) ⌝ }
+    ensures { λ r. ⌜ r ≡ startOver (held (now (t .entry))) ⌝ }
+{
+    let masks = start_masks(t);
+    let state = ManualState { masks };
+    StartAnswer {
+        outcome: StartOutcome::Started,
+        state,
+    }
+}
+
+fn start_sheet(s: &[u8]) -> StartAnswer
+    requires { ⌜ Keeps layout (now s) ⌝ }
+    ensures { λ r. ⌜ r ≡ startOver (problemOf layout (now (s .entry))) ⌝ }
+{
+    let mut t = [0u16; 16416];
+    table::fill_table(s, &mut t);
+    start_over(&t)
+}
+
+// A state with no items in and no settings on.
+fn refused_start(r: SheetRefusal) -> StartAnswer
+    ensures { λ a. ⌜ a ≡ startRefused r ⌝ }
+{
+    let masks = problem::empty_masks();
+    let state = ManualState { masks };
+    StartAnswer {
+        outcome: StartOutcome::Refused(r),
+        state,
+    }
+}
+
+// The start of a sheet: over its table.
+pub fn start(s: &[u8]) -> StartAnswer
+    ensures { λ r. ⌜ r ≡ startJob (now (s .entry)) ⌝ }
+{
+    let read = read_sheet::read_sheet(s);
+    match read {
+        SheetRead::Refused(r) => refused_start(r),
+        SheetRead::Accepted { variables, blocks } => start_sheet(s),
+    }
+}
