@@ -80,7 +80,8 @@ fn reasons(text: &str, sheet: &str) -> String {
     text.lines().filter_map(reason).collect()
 }
 
-/// The example on a sheet and what follows it prints what the file has, says why for each refusal in it, and ends with 1 where there is one.
+/// The example, on a sheet and what follows it, prints what the file has, says why for each refusal in it, and ends with 1 where there is
+/// one.
 fn prints(example: &str, sheet: &str, arguments: &str, file: &str) {
     let output = program(example).arg(sheet).args(arguments.split_whitespace()).output();
     let expected = text(file);
