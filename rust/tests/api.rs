@@ -321,3 +321,19 @@ fn with_examples(source: &str) -> usize {
     }
     items
 }
+
+/// What the two pages that lead callers and developers name of the callers' part is there.
+#[test]
+fn the_files_that_the_pages_name_exist() {
+    let mut named = BTreeSet::new();
+    for page in ["../README.md", "../docs/CONTRIBUTING.md"] {
+        let text = file(page);
+        let words = text.split(|c: char| !(c.is_ascii_alphanumeric() || "_-./".contains(c))).map(|word| word.trim_end_matches('.'));
+        let ours = words.filter(|word| ["rust/", "include/", "tests/", "examples/c/"].iter().any(|folder| word.starts_with(folder)));
+        named.extend(ours.map(str::to_string));
+    }
+    for name in &named {
+        assert!(Path::new(env!("CARGO_MANIFEST_DIR")).join("..").join(name).exists(), "there is no {name}");
+    }
+    assert!(named.len() >= 30, "only {named:?}");
+}
