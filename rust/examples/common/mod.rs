@@ -35,7 +35,7 @@ pub fn main(work: fn(&[OsString], &mut String) -> Result<(), Status>) -> ExitCod
 }
 
 /// Where standard error cannot be written either, the status is all there is.
-fn say(reason: fmt::Arguments) {
+fn say(reason: fmt::Arguments<'_>) {
     let _ = writeln!(io::stderr(), "{reason}");
 }
 
