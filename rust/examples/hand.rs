@@ -1,40 +1,53 @@
-//! Takes items out by hand, in the order in which they are named, and prints a line for each call and then the state left: the items in,
-//! and the settings on at each. It stops at the first call that is refused.
+//! Takes items out by hand: starts, makes a hand call for each item named, in turn, and prints what each answered and the state left. A
+//! refused call leaves the state as it was, and the next one goes on from there.
 //!
 //!     cargo run --example hand ../examples/F.sheet 0 2
+//!
+//! A line for each call, `hand ITEM setting V` or `hand ITEM refused NUMBER`; then `left`, the number of items in and of settings on; then,
+//! for each item in, `item I on` and its settings on. A sheet that is refused prints `refused NUMBER` alone.
 
 mod common;
 
+use std::ffi::{OsStr, OsString};
 use std::process::ExitCode;
 
-use common::{line, read_sheet, refused, Failure};
+use common::{explain, line, number, read_sheet, refuse, usage, Status};
 use zomuwedli::{hand_call, start, HandState, State};
 
-const USAGE: Failure = Failure::Usage("hand SHEET ITEM...");
-
-fn call_all(sheet: &[u8], state: &mut HandState, items: &[u64], text: &mut String) -> Result<(), Failure> {
-    for &item in items {
-        let taken = hand_call(sheet, state, item).map_err(|refusal| refused(text, refusal))?;
-        line(text, "taken", [item, taken.setting.into()]);
+/// The item is printed as it was named.
+fn print_call(sheet: &[u8], state: &mut HandState, name: &OsStr, item: u64, text: &mut String) -> Result<(), Status> {
+    let call = format!("hand {}", name.to_string_lossy());
+    match hand_call(sheet, state, item) {
+        Ok(taken) => {
+            line(text, call + " setting", [taken.setting]);
+            Ok(())
+        }
+        Err(refusal) => {
+            line(text, call + " refused", [refusal.number()]);
+            Err(explain("item", name, refusal))
+        }
     }
-    Ok(())
 }
 
-fn print_state(state: &State, text: &mut String) {
-    line(text, "in", state.items());
+fn print_left(state: &State, text: &mut String) {
+    line(text, "left", [state.count_items(), state.count_settings()]);
     for item in state.items() {
-        line(text, format!("{item}:"), state.settings(item));
+        line(text, format_args!("item {item} on"), state.settings(item));
     }
 }
 
-fn work(arguments: &[String], text: &mut String) -> Result<(), Failure> {
-    let [name, items @ ..] = arguments else { return Err(USAGE) };
-    let items: Vec<u64> = items.iter().map(|item| item.parse()).collect::<Result<_, _>>().map_err(|_| USAGE)?;
+fn work(arguments: &[OsString], text: &mut String) -> Result<(), Status> {
+    let usage = || usage("SHEET [ITEM]...");
+    let [name, items @ ..] = arguments else { return Err(usage()) };
+    let numbers: Vec<u64> = items.iter().map(|item| number(item)).collect::<Option<_>>().ok_or_else(usage)?;
     let sheet = read_sheet(name)?;
-    let mut state = start(&sheet).map_err(|refusal| refused(text, refusal))?;
-    let called = call_all(&sheet, &mut state, &items, text);
-    print_state(state.state(), text);
-    called
+    let mut state = start(&sheet).map_err(|refusal| refuse(name, refusal, text))?;
+    let mut done = Ok(());
+    for (item, &number) in items.iter().zip(&numbers) {
+        done = done.and(print_call(&sheet, &mut state, item, number, text));
+    }
+    print_left(state.state(), text);
+    done
 }
 
 fn main() -> ExitCode {

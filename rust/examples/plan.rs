@@ -5,9 +5,10 @@
 
 mod common;
 
+use std::ffi::OsString;
 use std::process::ExitCode;
 
-use common::{line, read_sheet, refused, Failure};
+use common::{line, read_sheet, refuse, usage, Status};
 use zomuwedli::{put_back, run, State, MAX_ITEMS, MAX_SETTINGS, MAX_TRACE, OUT};
 
 /// Bit b of `rows[i][j][a]` is set where a of i and b of j, the higher item, may stand together.
@@ -48,18 +49,18 @@ fn search(state: &State, rows: &Rows, plan: &mut [u8], i: usize) -> bool {
     false
 }
 
-fn work(arguments: &[String], text: &mut String) -> Result<(), Failure> {
-    let [name] = arguments else { return Err(Failure::Usage("plan SHEET")) };
+fn work(arguments: &[OsString], text: &mut String) -> Result<(), Status> {
+    let [name] = arguments else { return Err(usage("SHEET")) };
     let sheet = read_sheet(name)?;
     let mut trace = [0; MAX_TRACE];
-    let run = run(&sheet, &mut trace).map_err(|refusal| refused(text, refusal))?;
+    let run = run(&sheet, &mut trace).map_err(|refusal| refuse(name, refusal, text))?;
     let mut plan = vec![OUT; usize::from(sheet[5])];
     if !search(&run.state, &rows(&sheet), &mut plan, 0) {
         line::<u8>(text, "no plan", []);
         return Ok(());
     }
     let mut full = vec![0; plan.len()];
-    put_back(&sheet, &trace[..run.written], &plan, &mut full).map_err(|refusal| refused(text, refusal))?;
+    put_back(&sheet, &trace[..run.written], &plan, &mut full).map_err(|refusal| refuse(name, refusal, text))?;
     line(text, "plan", full);
     Ok(())
 }

@@ -1,25 +1,27 @@
-//! Puts a lent trace back: reads a sheet and a trace, whoever wrote it, each from a file, takes the plan for the items left from the
-//! command line, 255 for an item out, and prints the plan of the full sheet.
+//! Puts a lent trace back: from a sheet, a trace, whoever wrote it, and a plan for the items left, the plan of the full sheet. The plan is
+//! named item by item, 255 for an item that is out.
 //!
-//!     printf '\001\003\002\000\000\003\002\001\000' >B.trace
-//!     cargo run --example put_back ../examples/B.sheet B.trace 255 255
+//!     cargo run --example put_back ../examples/B.sheet ../examples/B.trace 255 255
 
 mod common;
 
+use std::ffi::OsString;
 use std::process::ExitCode;
 
-use common::{line, read, read_sheet, refused, Failure};
-use zomuwedli::put_back;
+use common::{line, number, read_file, read_sheet, refuse, usage, Status};
+use zomuwedli::{put_back, MAX_TRACE};
 
-const USAGE: Failure = Failure::Usage("put_back SHEET TRACE SETTING...");
+/// One record more than the longest lawful trace has: the first fault of a longer file stands within it.
+const TRACE_ROOM: usize = MAX_TRACE + 5;
 
-fn work(arguments: &[String], text: &mut String) -> Result<(), Failure> {
-    let [sheet, trace, plan @ ..] = arguments else { return Err(USAGE) };
-    let plan: Vec<u8> = plan.iter().map(|setting| setting.parse()).collect::<Result<_, _>>().map_err(|_| USAGE)?;
-    // A trace is read whole: cut at any length it could be refused for another cause.
-    let (sheet, trace) = (read_sheet(sheet)?, read(trace, u64::MAX)?);
+fn work(arguments: &[OsString], text: &mut String) -> Result<(), Status> {
+    let usage = || usage("SHEET TRACE [SETTING]...");
+    let [name, trace, plan @ ..] = arguments else { return Err(usage()) };
+    let plan: Vec<u8> = plan.iter().map(|setting| number(setting)).collect::<Option<_>>().ok_or_else(usage)?;
+    let (sheet, trace) = (read_sheet(name)?, read_file(trace, TRACE_ROOM)?);
+    // As long as the plan: where that is not one byte for each item, the plan is refused first.
     let mut full = vec![0; plan.len()];
-    put_back(&sheet, &trace, &plan, &mut full).map_err(|refusal| refused(text, refusal))?;
+    put_back(&sheet, &trace, &plan, &mut full).map_err(|refusal| refuse(name, refusal, text))?;
     line(text, "plan", full);
     Ok(())
 }

@@ -205,7 +205,8 @@ pub fn hand_call(sheet: &[u8], state: &mut HandState, item: u64) -> Result<Taken
 /// then 16 and 17 record by record, then 19.
 ///
 /// Any lawful trace is accepted, whoever wrote it. The plan has a byte for each item, [`OUT`](crate::OUT) for one that is out; the result
-/// has as many, and a refused call leaves it as it was. The call keeps a state for each record on the stack: 256 KiB are enough.
+/// has as many, and a refused call leaves it as it was. The call keeps a state for each record on the stack, for which
+/// [`PUT_BACK_STACK`](crate::PUT_BACK_STACK) bytes are enough.
 ///
 /// ```
 /// use zomuwedli::{put_back, Refusal, OUT};

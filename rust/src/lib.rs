@@ -182,3 +182,21 @@ pub const HAND_STATE_LENGTH: usize = 68;
 /// # Ok::<(), zomuwedli::Refusal>(())
 /// ```
 pub const OUT: u8 = 255;
+
+/// The stack that is enough for any call but putting back, in bytes.
+///
+/// ```
+/// // A thread needs some beside that of the call.
+/// let room = zomuwedli::STACK + 64 * 1024;
+/// let thread = std::thread::Builder::new().stack_size(room).spawn(|| zomuwedli::start(&[1, 0, 0, 0, 9, 1, 0, 0, 2]))?;
+/// assert!(thread.join().expect("the thread ends").is_ok());
+/// # Ok::<(), std::io::Error>(())
+/// ```
+pub const STACK: usize = 40 * 1024;
+
+/// The stack that is enough for putting back, in bytes: it keeps a state for each record of the trace.
+///
+/// ```
+/// assert!(zomuwedli::PUT_BACK_STACK >= zomuwedli::MAX_RECORDS * zomuwedli::STATE_LENGTH);
+/// ```
+pub const PUT_BACK_STACK: usize = 320 * 1024;

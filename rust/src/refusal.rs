@@ -35,11 +35,11 @@ pub enum Refusal {
     SheetVersion = 2,
     /// The sheet's stated length is not the length lent.
     SheetLength = 3,
-    /// The number of items n is 0 or above 32.
+    /// The number of items is 0 or above 32.
     ItemCount = 4,
     /// A size is missing, 0 or above 16.
     ItemSize = 5,
-    /// A block's item bytes are missing or its rows cut short, or bytes are left over after the blocks.
+    /// A block's bytes are missing or cut short, or bytes are left over after the blocks.
     BlockBytes = 6,
     /// A block is without i < j < n, or not after the block before.
     BlockOrder = 7,
@@ -47,15 +47,15 @@ pub enum Refusal {
     RowBeyond = 8,
     /// A block bars nothing.
     BarsNothing = 9,
-    /// The trace buffer is shorter than 1 + 5 × the sum of the sizes.
+    /// The trace buffer is shorter than 1 + 5 x the sum of the sizes.
     TraceBuffer = 10,
     /// The state does not fit the sheet.
     StateMisfit = 11,
-    /// The named item is not below n or not in.
+    /// The named item is not on the sheet or not in.
     ItemNotIn = 12,
     /// Some item in has no setting on.
     ItemEmpty = 13,
-    /// The snake rule holds for no setting of the item.
+    /// The snake rule holds for no setting of the named item.
     NoSnake = 14,
     /// The trace has no byte, or its byte 0 is not 1.
     TraceFront = 15,
@@ -63,11 +63,11 @@ pub enum Refusal {
     RecordShape = 16,
     /// A record is not lawful in the state reached, or an item in has no setting on there.
     RecordUnlawful = 17,
-    /// The plan is not n bytes.
+    /// The plan does not have one byte for each item.
     PlanLength = 18,
-    /// The plan does not fit: an item out is not 255, a setting is not on, or a pair among the items left is barred.
+    /// The plan has an item out that is not 255, a setting not on, or a barred pair.
     PlanUnfit = 19,
-    /// The result buffer is not n bytes.
+    /// The result buffer does not have one byte for each item.
     ResultLength = 20,
 }
 
@@ -124,7 +124,7 @@ impl Refusal {
         Refusal::ALL.iter().copied().find(|refusal| refusal.number() == number)
     }
 
-    /// The cause in words, without the number.
+    /// The cause in words, without the number; the header has the same for C (`zomuwedli_text`).
     ///
     /// ```
     /// assert_eq!(zomuwedli::Refusal::BarsNothing.cause(), "a block bars nothing");
@@ -137,23 +137,21 @@ impl Refusal {
             Refusal::SheetLength => "the sheet's stated length is not the length lent",
             Refusal::ItemCount => "the number of items is 0 or above 32",
             Refusal::ItemSize => "a size is missing, 0 or above 16",
-            Refusal::BlockBytes => "a block's item bytes are missing or its rows cut short, or bytes are left over after the blocks",
+            Refusal::BlockBytes => "a block's bytes are missing or cut short, or bytes are left over after the blocks",
             Refusal::BlockOrder => "a block is without i < j < n, or not after the block before",
             Refusal::RowBeyond => "a row has a bit for a setting that item j lacks",
             Refusal::BarsNothing => "a block bars nothing",
-            Refusal::TraceBuffer => "the trace buffer is shorter than 1 + 5 × the sum of the sizes",
+            Refusal::TraceBuffer => "the trace buffer is shorter than 1 + 5 x the sum of the sizes",
             Refusal::StateMisfit => "the state does not fit the sheet",
             Refusal::ItemNotIn => "the named item is not on the sheet or not in",
             Refusal::ItemEmpty => "some item in has no setting on",
-            Refusal::NoSnake => "the snake rule holds for no setting of the item",
+            Refusal::NoSnake => "the snake rule holds for no setting of the named item",
             Refusal::TraceFront => "the trace has no byte, or its byte 0 is not 1",
             Refusal::RecordShape => "a record is cut short, of an unknown kind, or has a wrong length byte",
             Refusal::RecordUnlawful => "a record is not lawful in the state reached, or an item in has no setting on there",
-            Refusal::PlanLength => "the plan has not one byte for each item",
-            Refusal::PlanUnfit => {
-                "the plan does not fit: an item out is not 255, a setting is not on, or a pair among the items left is barred"
-            }
-            Refusal::ResultLength => "the result buffer has not one byte for each item",
+            Refusal::PlanLength => "the plan does not have one byte for each item",
+            Refusal::PlanUnfit => "the plan has an item out that is not 255, a setting not on, or a barred pair",
+            Refusal::ResultLength => "the result buffer does not have one byte for each item",
         }
     }
 }

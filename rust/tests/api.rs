@@ -1,4 +1,4 @@
-//! What the library has beside the five jobs: refusals as errors, states, the decoder, the constants, and the docs.
+//! What the library has beside the five jobs: refusals as errors, states, the decoder, the docs, and what the header has too.
 //!
 //! ZOMUWEDLI_PART: a divisor of the number of random cases.
 
@@ -10,8 +10,8 @@ use std::path::Path;
 
 use support::decoder::{decode, reference_decode};
 use support::generate::{self, Random};
-use support::reference;
-use zomuwedli::{HandState, Record, Refusal, State, HAND_STATE_LENGTH, MAX_ITEMS, MAX_SETTINGS, STATE_LENGTH};
+use support::{reference, Fault};
+use zomuwedli::{End, HandState, Record, Refusal, State, HAND_STATE_LENGTH, MAX_ITEMS, MAX_SETTINGS, STATE_LENGTH};
 
 const SEED: u64 = 90_125;
 
@@ -29,7 +29,7 @@ fn file(name: &str) -> String {
 #[test]
 fn each_refusal_says_its_number_and_a_cause_of_its_own() {
     let causes: BTreeSet<&str> = Refusal::ALL.iter().map(|refusal| refusal.cause()).collect();
-    assert_eq!(causes.len(), 20);
+    assert_eq!(causes.len(), Refusal::ALL.len());
     for (number, refusal) in (1..).zip(Refusal::ALL) {
         let error: Box<dyn std::error::Error> = Box::new(*refusal);
         assert_eq!(error.to_string(), format!("refused {number}: {}", refusal.cause()));
@@ -148,25 +148,147 @@ fn records_are_shown_as_the_program_prints_them() {
     }
 }
 
-// ---- The constants and the docs -----------------------------------------------------------------------------------------------------
+// ---- The header ---------------------------------------------------------------------------------------------------------------------
 
-/// The constants are those of the header.
+fn header() -> String {
+    file("../include/zomuwedli.h")
+}
+
+/// What `#define ZOMUWEDLI_NAME` stands for, without a comment behind it.
+fn defined(name: &str) -> String {
+    let rest = header().lines().find_map(|line| line.strip_prefix(&format!("#define ZOMUWEDLI_{name} ")).map(str::to_string));
+    let rest = rest.unwrap_or_else(|| panic!("the header has no {name}"));
+    rest.split("/*").next().expect("a first part").trim().to_string()
+}
+
+/// A number, or so many KiB: `(4 * 1024)`.
+fn number(name: &str) -> usize {
+    let text = defined(name);
+    let (number, factor) = text.strip_prefix('(').and_then(|text| text.strip_suffix(" * 1024)")).map_or((&*text, 1), |kib| (kib, 1024));
+    factor * number.parse::<usize>().unwrap_or_else(|_| panic!("{name} is {text}"))
+}
+
 #[test]
 fn constants_are_those_of_the_header() {
-    let header = file("../include/zomuwedli.h");
-    let stated = |name: &str| {
-        let line = header.lines().find_map(|line| line.strip_prefix(&format!("#define ZOMUWEDLI_{name} ")));
-        let number = line.unwrap_or_else(|| panic!("the header has no {name}")).split_whitespace().next().expect("a number");
-        number.parse::<usize>().unwrap_or_else(|_| panic!("{name} is {number}"))
-    };
-    assert_eq!(zomuwedli::MAX_SHEET, stated("MAX_SHEET"));
-    assert_eq!(MAX_ITEMS, stated("MAX_ITEMS"));
-    assert_eq!(MAX_SETTINGS, stated("MAX_SETTINGS"));
-    assert_eq!(zomuwedli::MAX_TRACE, stated("MAX_TRACE"));
-    assert_eq!(STATE_LENGTH, stated("STATE_LENGTH"));
-    assert_eq!(HAND_STATE_LENGTH, stated("HAND_STATE_LENGTH"));
-    assert_eq!(usize::from(zomuwedli::OUT), stated("OUT"));
+    assert_eq!(zomuwedli::MAX_SHEET, number("MAX_SHEET"));
+    assert_eq!(MAX_ITEMS, number("MAX_ITEMS"));
+    assert_eq!(MAX_SETTINGS, number("MAX_SETTINGS"));
+    assert_eq!(zomuwedli::MAX_TRACE, number("MAX_TRACE"));
+    assert_eq!(STATE_LENGTH, number("STATE_LENGTH"));
+    assert_eq!(HAND_STATE_LENGTH, number("HAND_STATE_LENGTH"));
+    assert_eq!(usize::from(zomuwedli::OUT), number("OUT"));
+    assert_eq!(zomuwedli::STACK, number("STACK"));
+    assert_eq!(zomuwedli::PUT_BACK_STACK, number("PUT_BACK_STACK"));
+    assert_eq!(End::Impossible as usize, number("IMPOSSIBLE"));
+    assert_eq!(End::Solved as usize, number("SOLVED"));
+    assert_eq!(End::Rest as usize, number("REST"));
 }
+
+#[test]
+fn the_version_is_that_of_the_header() {
+    assert_eq!(format!("{:?}", env!("CARGO_PKG_VERSION")), defined("VERSION"));
+}
+
+/// The rows of a list of the header, from its `#define` to the last line that goes on: what stands in `ROW(..)`, its parts apart.
+fn rows(list: &str) -> Vec<Vec<String>> {
+    let header = header();
+    let start = format!("#define ZOMUWEDLI_{list}(ROW) \\");
+    let mut rows = Vec::new();
+    for line in header.lines().skip_while(|line| *line != start).skip(1) {
+        if let Some((_, row)) = line.split_once("ROW(") {
+            let (row, after) = row.split_once("\")").expect("a row ends with a text");
+            assert!(!after.contains("ROW("), "one row a line: {line}");
+            let (front, text) = row.split_once(", \"").expect("a text");
+            rows.push(front.split(", ").chain([text]).map(str::to_string).collect());
+        }
+        if !line.ends_with('\\') {
+            break;
+        }
+    }
+    rows
+}
+
+/// `SheetFront` as `SHEET_FRONT`.
+fn upper_snake(name: &str) -> String {
+    let letters = name.chars().enumerate().flat_map(|(k, c)| (k > 0 && c.is_uppercase()).then_some('_').into_iter().chain([c]));
+    letters.collect::<String>().to_uppercase()
+}
+
+/// Name, number and text of each, in one order, and nothing more on either side. A comment over a case has the same sentence.
+#[test]
+fn refusals_are_those_of_the_header() {
+    let row = |name: String, number: u8, text: &str| {
+        vec![format!("ZOMUWEDLI_REFUSED_{}", upper_snake(&name)), number.to_string(), text.to_string()]
+    };
+    let of_jobs = Refusal::ALL.iter().map(|refusal| row(format!("{refusal:?}"), refusal.number(), refusal.cause()));
+    // The boundary's own are no case of the library's, where a state is a type.
+    let run = format!("the buffer for the run's state is not {STATE_LENGTH} bytes");
+    let hand = format!("the buffer for the hand state is not {HAND_STATE_LENGTH} bytes");
+    let own = [(Fault::RunStateLength, run), (Fault::HandStateLength, hand)];
+    let own = own.iter().map(|(fault, text)| row(format!("{fault:?}"), fault.number(), text));
+    assert_eq!(of_jobs.chain(own).collect::<Vec<_>>(), rows("REFUSALS"));
+
+    let source = file("src/refusal.rs");
+    for refusal in Refusal::ALL {
+        let (first, rest) = refusal.cause().split_at(1);
+        let case = format!("    /// {}{rest}.\n    {refusal:?} = {},\n", first.to_uppercase(), refusal.number());
+        assert!(source.contains(&case), "src/refusal.rs has not:\n{case}");
+    }
+}
+
+/// Name, number, fields and word of each, as a record of that kind has them.
+#[test]
+fn kinds_are_those_of_the_header() {
+    let row = |record: &Record| {
+        let (name, fields) = (record.word().to_uppercase(), zomuwedli::trace_of([*record]).len() - 2);
+        vec![format!("ZOMUWEDLI_{name}"), record.kind().to_string(), fields.to_string(), record.word().to_string()]
+    };
+    let one_of_each = decode(&[1, 4, 1, 0, 0, 0, 3, 2, 0, 0, 3, 3, 0, 0, 4, 4, 0, 0, 0, 4, 5, 0, 0, 0]).expect("a trace");
+    assert_eq!(one_of_each.iter().map(row).collect::<Vec<_>>(), rows("KINDS"));
+}
+
+/// The functions that the header declares.
+fn functions() -> Vec<String> {
+    let header = header();
+    let declared = header.lines().filter_map(|line| line.strip_prefix("uint64_t ")?.split_once('('));
+    declared.map(|(name, _)| name.to_string()).collect()
+}
+
+/// The table in the header's first comment has a line for each function, in their order, with its constant and how much that is; and
+/// what is said to be enough for any call but putting back is the most of these.
+#[test]
+fn the_stack_table_is_that_of_the_constants() {
+    let header = header();
+    let comment = header.split("*/").next().expect("a first comment");
+    let lines = comment.lines().filter(|line| line.starts_with(" *     zomuwedli_"));
+    // A comma stands where a reason follows.
+    let words = |line: &str| line.split_whitespace().skip(1).take(4).map(|word| word.trim_end_matches(',')).collect::<Vec<_>>().join(" ");
+    let (mut expected, mut most) = (Vec::new(), 0);
+    for name in functions() {
+        let constant = format!("{}_STACK", name.to_uppercase());
+        let bytes = number(constant.strip_prefix("ZOMUWEDLI_").expect("a name of ours"));
+        assert_eq!(bytes % 1024, 0, "{constant} is not so many KiB");
+        expected.push(format!("{name} {constant} {} KiB", bytes / 1024));
+        most = if name == "zomuwedli_put_back" { most } else { most.max(bytes) };
+    }
+    assert_eq!(lines.map(words).collect::<Vec<String>>(), expected);
+    assert_eq!(most, number("STACK"));
+}
+
+/// Each function of the header is declared for Rust, called from C, and measured.
+#[test]
+fn every_function_is_wrapped_called_and_measured() {
+    let functions = functions();
+    assert!(functions.len() >= 5, "only {functions:?}");
+    for place in ["src/boundary.rs", "../tests/boundary.c", "../tests/stack.c"] {
+        let source = file(place);
+        functions.iter().for_each(|name| assert!(source.contains(&format!("{name}(")), "{place} has no {name}"));
+    }
+    let declared = file("src/boundary.rs").lines().filter(|line| line.starts_with("    fn zomuwedli_")).count();
+    assert_eq!(declared, functions.len(), "src/boundary.rs declares others");
+}
+
+// ---- The docs -----------------------------------------------------------------------------------------------------------------------
 
 /// Every public item has an example. That it has a doc comment at all is the compiler's to say (`missing_docs`), and that the example runs
 /// `cargo test --doc`.
@@ -198,4 +320,20 @@ fn with_examples(source: &str) -> usize {
         has_example = line.starts_with("/// ```") || (has_example && (line.starts_with("///") || line.starts_with("#[")));
     }
     items
+}
+
+/// What the two pages that lead callers and developers name of the callers' part is there.
+#[test]
+fn the_files_that_the_pages_name_exist() {
+    let mut named = BTreeSet::new();
+    for page in ["../README.md", "../docs/CONTRIBUTING.md"] {
+        let text = file(page);
+        let words = text.split(|c: char| !(c.is_ascii_alphanumeric() || "_-./".contains(c))).map(|word| word.trim_end_matches('.'));
+        let ours = words.filter(|word| ["rust/", "include/", "tests/", "examples/c/"].iter().any(|folder| word.starts_with(folder)));
+        named.extend(ours.map(str::to_string));
+    }
+    for name in &named {
+        assert!(Path::new(env!("CARGO_MANIFEST_DIR")).join("..").join(name).exists(), "there is no {name}");
+    }
+    assert!(named.len() >= 30, "only {named:?}");
 }

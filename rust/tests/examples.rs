@@ -1,4 +1,5 @@
-//! Builds and runs the four programs of examples/, and compares what they print, their status, and that standard error says why.
+//! Builds and runs the four programs of examples/ on the files of the top folder's examples/, which the C programs are run on too
+//! (tests/callers): what they print, their status, and the reasons on standard error.
 
 use std::ffi::OsStr;
 use std::fs::{self, File};
@@ -6,13 +7,11 @@ use std::path::{Path, PathBuf};
 use std::process::{Command, Output, Stdio};
 use std::sync::OnceLock;
 
-/// The folder of the example sheets, with what is printed for each.
-fn sheets() -> PathBuf {
-    Path::new(env!("CARGO_MANIFEST_DIR")).join("../examples")
-}
+use zomuwedli::Refusal;
 
-fn sheet(name: &str) -> String {
-    sheets().join(name).with_extension("sheet").to_str().expect("a path in UTF-8").to_string()
+/// The top folder, which the programs are run in: the files of examples/ name others from there.
+fn top() -> PathBuf {
+    Path::new(env!("CARGO_MANIFEST_DIR")).join("..")
 }
 
 /// The folder of the examples' programs. `cargo test --test examples` builds none of them, and older ones would pass for these: so they
@@ -37,160 +36,137 @@ fn programs() -> &'static Path {
 }
 
 fn program(example: &str) -> Command {
-    Command::new(programs().join(example))
+    let mut program = Command::new(programs().join(example));
+    program.current_dir(top()).stdin(Stdio::null());
+    program
 }
 
-fn output(example: &str, arguments: &[&str]) -> Output {
-    program(example).args(arguments).stdin(Stdio::null()).output().expect("the example runs")
+/// What the example printed and said, and its status.
+fn ended(output: Output) -> (String, String, Option<i32>) {
+    let text = |bytes: Vec<u8>| String::from_utf8(bytes).expect("text");
+    (text(output.stdout), text(output.stderr), output.status.code())
 }
 
-/// The example prints this text and ends with this status; standard error begins so, or is empty where nothing is expected.
-fn prints(example: &str, arguments: &[&str], text: &str, status: i32, error: &str) {
-    let output = output(example, arguments);
-    let (printed, said) = (String::from_utf8_lossy(&output.stdout), String::from_utf8_lossy(&output.stderr));
-    assert_eq!(printed, text, "{example} {arguments:?}");
-    assert_eq!(output.status.code(), Some(status), "{example} {arguments:?}: {said}");
-    assert!(said.starts_with(error) && said.is_empty() == error.is_empty(), "{example} {arguments:?} says {said:?}, not {error:?}");
+// ---- The files ----------------------------------------------------------------------------------------------------------------------
+
+/// The files of examples/ with this ending, `examples/NAME.ENDING`, of which there are at least so many.
+fn files(ending: &str, least: usize) -> Vec<String> {
+    let entries = fs::read_dir(top().join("examples")).expect("the folder of the examples");
+    let names = entries.map(|entry| entry.expect("an entry").file_name().into_string().expect("a name in UTF-8"));
+    let files = names.filter(|name| Path::new(name).extension() == Some(OsStr::new(ending)));
+    let mut files: Vec<String> = files.map(|name| format!("examples/{name}")).collect();
+    files.sort();
+    assert!(files.len() >= least, "only {} files .{ending}", files.len());
+    files
 }
 
-/// The text of a file of examples/, the status 1 and a reason where it is that of a refusal.
-fn prints_file(example: &str, name: &str, file: &Path) {
-    let text = fs::read_to_string(file).expect("the expected text");
-    match text.strip_prefix("refused ") {
-        None => prints(example, &[&sheet(name)], &text, 0, ""),
-        Some(number) => prints(example, &[&sheet(name)], &text, 1, &format!("refused {}: ", number.trim_end())),
-    }
+fn text(file: &str) -> String {
+    fs::read_to_string(top().join(file)).unwrap_or_else(|error| panic!("{file}: {error}"))
 }
 
-/// The names of the example sheets.
-fn names() -> Vec<String> {
-    let files = fs::read_dir(sheets()).expect("the folder of the examples").map(|entry| entry.expect("an entry").path());
-    let mut sheets: Vec<PathBuf> = files.filter(|file| file.extension() == Some(OsStr::new("sheet"))).collect();
-    sheets.sort();
-    sheets.iter().map(|file| file.file_stem().and_then(OsStr::to_str).expect("a name in UTF-8").to_string()).collect()
+/// The sheet of examples/SHEET.CASE.hand is examples/SHEET.sheet.
+fn sheet_of(file: &str) -> String {
+    format!("{}.sheet", file.split('.').next().expect("a first part"))
+}
+
+/// What standard error says where this text is printed for a sheet: for each refused call a line, with its cause.
+fn reasons(text: &str, sheet: &str) -> String {
+    let reason = |line: &str| {
+        let (call, number) = line.split_once("refused ")?;
+        let what = call.strip_prefix("hand ").map_or(format!("sheet {sheet}"), |item| format!("item {}", item.trim_end()));
+        let refusal = Refusal::from_number(number.parse().expect("a number")).expect("a refusal");
+        Some(format!("{what}: refused {number}: {}\n", refusal.cause()))
+    };
+    text.lines().filter_map(reason).collect()
+}
+
+/// The example, on a sheet and what follows it, prints what the file has, says why for each refusal in it, and ends with 1 where there is
+/// one.
+fn prints(example: &str, sheet: &str, arguments: &str, file: &str) {
+    let output = program(example).arg(sheet).args(arguments.split_whitespace()).output();
+    let expected = text(file);
+    let reasons = reasons(&expected, sheet);
+    let status = i32::from(!reasons.is_empty());
+    assert_eq!(ended(output.expect("the example runs")), (expected, reasons, Some(status)), "{example} {sheet} {arguments}");
 }
 
 #[test]
 fn run_prints_what_the_program_prints() {
-    let names = names();
-    assert!(names.len() >= 21, "only {} sheets", names.len());
-    names.iter().for_each(|name| prints_file("run", name, &sheets().join(name).with_extension("txt")));
+    files("sheet", 22).iter().for_each(|sheet| prints("run", sheet, "", &sheet.replace(".sheet", ".txt")));
 }
 
 #[test]
 fn plan_prints_a_plan_or_that_there_is_none() {
-    let plans = names().into_iter().map(|name| (sheets().join(&name).with_extension("plan"), name));
-    let plans: Vec<(PathBuf, String)> = plans.filter(|(file, _)| file.exists()).collect();
-    assert!(plans.len() >= 10, "only {} plans", plans.len());
-    plans.iter().for_each(|(file, name)| prints_file("plan", name, file));
+    files("plan", 11).iter().for_each(|file| prints("plan", &sheet_of(file), "", file));
 }
 
 #[test]
 fn hand_prints_each_call_and_the_state_left() {
-    prints("hand", &[&sheet("F"), "0"], "taken 0 1\nin 1 2\n1: 0 1 2\n2: 0 1 2\n", 0, "");
-    prints("hand", &[&sheet("B"), "1", "0"], "taken 1 0\ntaken 0 0\nin\n", 0, "");
-    prints("hand", &[&sheet("C")], "in 0 1 2\n0: 0 1\n1: 0 1\n2: 0 1\n", 0, "");
-    // The start switches off what has no partner: setting 2 (full) of item 0.
-    prints("hand", &[&sheet("three-gates")], "in 0 1 2\n0: 0 1\n1: 0 1\n2: 0 1\n", 0, "");
-}
-
-#[test]
-fn hand_stops_at_the_first_refusal() {
-    let all_of_c = "in 0 1 2\n0: 0 1\n1: 0 1\n2: 0 1\n";
-    prints("hand", &[&sheet("C"), "0", "1"], &format!("refused 14\n{all_of_c}"), 1, "refused 14: ");
-    prints("hand", &[&sheet("C"), "3"], &format!("refused 12\n{all_of_c}"), 1, "refused 12: ");
-    prints("hand", &[&sheet("C"), "18446744073709551615"], &format!("refused 12\n{all_of_c}"), 1, "refused 12: ");
-    prints("hand", &[&sheet("B"), "1", "1", "0"], "taken 1 0\nrefused 12\nin 0\n0: 0 1\n", 1, "refused 12: ");
-    prints("hand", &[&sheet("D"), "0"], "refused 13\nin 0 1\n0:\n1:\n", 1, "refused 13: ");
-    prints("hand", &[&sheet("refused-8"), "0"], "refused 8\n", 1, "refused 8: ");
-}
-
-/// A file of the test's own with these bytes, gone when it is dropped.
-struct Lent(PathBuf);
-
-impl Lent {
-    fn new(name: &str, bytes: &[u8]) -> Lent {
-        let path = Path::new(env!("CARGO_TARGET_TMPDIR")).join(format!("{name}-{}", std::process::id()));
-        fs::write(&path, bytes).expect("a file to lend");
-        Lent(path)
-    }
-
-    fn path(&self) -> &str {
-        self.0.to_str().expect("a path in UTF-8")
-    }
-}
-
-impl Drop for Lent {
-    fn drop(&mut self) {
-        let _ = fs::remove_file(&self.0);
-    }
+    files("hand", 9).iter().for_each(|file| prints("hand", &sheet_of(file), &text(file), &format!("{file}.txt")));
 }
 
 #[test]
 fn put_back_prints_the_plan() {
-    let of_b = Lent::new("of_b", &[1, 3, 2, 0, 0, 3, 2, 1, 0]);
-    prints("put_back", &[&sheet("B"), of_b.path(), "255", "255"], "plan 0 1\n", 0, "");
-    let empty = Lent::new("empty", &[1]);
-    prints("put_back", &[&sheet("B"), empty.path(), "1", "0"], "plan 1 0\n", 0, "");
-    // Not the run's own: item 2 of sheet F goes out second, and item 1 is left. Its 1 is barred with the 1 of item 0, and changed to 2.
-    let by_other = Lent::new("by_other", &[1, 3, 2, 0, 1, 3, 2, 2, 0]);
-    prints("put_back", &[&sheet("F"), by_other.path(), "255", "1", "255"], "plan 1 2 0\n", 0, "");
+    files("back", 14).iter().for_each(|file| prints("put_back", &sheet_of(file), &text(file), &format!("{file}.txt")));
 }
 
-#[test]
-fn put_back_is_refused() {
-    let trace = |name: &str, bytes: &[u8]| Lent::new(name, bytes);
-    let refused = |sheet_name: &str, trace: &Lent, plan: &[&str], number: u8| {
-        let sheet = sheet(sheet_name);
-        let arguments: Vec<&str> = [&sheet, trace.path()].into_iter().chain(plan.iter().copied()).collect();
-        prints("put_back", &arguments, &format!("refused {number}\n"), 1, &format!("refused {number}: "));
-    };
-    refused("refused-9", &trace("sheet", &[1]), &["0", "0"], 9);
-    refused("B", &trace("front", &[]), &["0", "1"], 15);
-    refused("B", &trace("shape", &[1, 3]), &["0", "1"], 16);
-    refused("B", &trace("unlawful", &[1, 4, 5, 0, 0, 1]), &["1", "1"], 17);
-    refused("B", &trace("length", &[1]), &["0"], 18);
-    refused("B", &trace("none", &[1]), &[], 18);
-    refused("C", &trace("barred", &[1]), &["0", "1", "0"], 19);
+// ---- What goes wrong besides --------------------------------------------------------------------------------------------------------
+
+const B: &str = "examples/B.sheet";
+const TRACE: &str = "examples/B.trace";
+
+/// Each example with what it is given after its sheet.
+const ALL: [(&str, &[&str]); 4] = [("run", &[]), ("plan", &[]), ("hand", &["0"]), ("put_back", &[TRACE, "255", "255"])];
+
+/// Nothing is printed, the status is this one, and standard error begins so and ends so.
+fn astray(example: &str, arguments: &[&str], status: i32, first: &str, last: &str) {
+    let (printed, said, ended) = ended(program(example).args(arguments).output().expect("the example runs"));
+    assert_eq!((&*printed, ended), ("", Some(status)), "{example} {arguments:?}: {said}");
+    assert!(said.starts_with(first) && said.ends_with(last), "{example} {arguments:?} says {said:?}");
 }
 
 #[test]
 fn bad_usage_is_told() {
-    let b = sheet("B");
-    prints("run", &[], "", 2, "usage: run SHEET");
-    prints("run", &[&b, &b], "", 2, "usage: run SHEET");
-    prints("plan", &[], "", 2, "usage: plan SHEET");
-    prints("hand", &[], "", 2, "usage: hand SHEET ITEM...");
-    prints("hand", &[&b, "one"], "", 2, "usage: hand SHEET ITEM...");
-    prints("put_back", &[&b], "", 2, "usage: put_back SHEET TRACE SETTING...");
-    prints("put_back", &[&b, &b, "256"], "", 2, "usage: put_back SHEET TRACE SETTING...");
+    let bad = |example: &str, arguments: &[&str], usage: &str| {
+        astray(example, arguments, 2, "usage: ", &format!("{example} {usage}\n"));
+    };
+    bad("run", &[], "SHEET");
+    bad("run", &[B, B], "SHEET");
+    bad("plan", &[], "SHEET");
+    bad("plan", &[B, B], "SHEET");
+    bad("hand", &[], "SHEET [ITEM]...");
+    for item in ["", "-1", "+1", "1x", "18446744073709551616"] {
+        bad("hand", &[B, "0", item], "SHEET [ITEM]...");
+    }
+    bad("put_back", &[], "SHEET TRACE [SETTING]...");
+    bad("put_back", &[B], "SHEET TRACE [SETTING]...");
+    for setting in ["", "-1", "+1", "256"] {
+        bad("put_back", &[B, TRACE, "255", setting], "SHEET TRACE [SETTING]...");
+    }
 }
 
+/// A folder opens and cannot be read.
 #[test]
 fn a_failed_read_is_told() {
-    let (b, missing) = (sheet("B"), sheet("no-such"));
-    for (example, arguments) in [("run", vec![]), ("plan", vec![]), ("hand", vec!["0"]), ("put_back", vec![&*b, "0", "1"])] {
-        let arguments: Vec<&str> = [&*missing].into_iter().chain(arguments).collect();
-        prints(example, &arguments, "", 3, &format!("{missing}: "));
+    for unread in ["examples/missing.sheet", "examples"] {
+        let first = format!("{unread}: ");
+        for (example, arguments) in ALL {
+            astray(example, &[&[unread], arguments].concat(), 3, &first, "\n");
+        }
+        astray("put_back", &[B, unread, "255", "255"], 3, &first, "\n");
     }
-    prints("put_back", &[&b, &missing, "0", "1"], "", 3, &format!("{missing}: "));
-    // A folder opens and cannot be read.
-    let folder = sheets().to_str().expect("a path in UTF-8").to_string();
-    prints("run", &[&folder], "", 3, &format!("{folder}: "));
 }
 
-/// /dev/full takes no byte.
+/// /dev/full takes no byte, of an answer or of a refusal.
 #[test]
 fn a_failed_write_is_told() {
-    let trace = Lent::new("written", &[1]);
-    let b = sheet("B");
-    for (example, arguments) in
-        [("run", vec![&*b]), ("plan", vec![&*b]), ("hand", vec![&*b, "0"]), ("put_back", vec![&*b, trace.path(), "0", "1"])]
-    {
-        let full = File::options().write(true).open("/dev/full").expect("/dev/full");
-        let output = program(example).args(&arguments).stdout(full).output().expect("the example runs");
-        let said = String::from_utf8_lossy(&output.stderr);
-        assert_eq!(output.status.code(), Some(3), "{example} {arguments:?}: {said}");
-        assert!(said.starts_with("standard output: "), "{example} {arguments:?} says {said:?}");
+    for sheet in [B, "examples/refused-8.sheet"] {
+        for (example, arguments) in ALL {
+            let full = File::options().write(true).open("/dev/full").expect("/dev/full");
+            let output = program(example).arg(sheet).args(arguments).stdout(full).output();
+            let (_, said, status) = ended(output.expect("the example runs"));
+            assert_eq!(status, Some(3), "{example} {sheet}: {said}");
+            assert!(said.lines().any(|line| line.starts_with("standard output: ")), "{example} {sheet} says {said:?}");
+        }
     }
 }

@@ -1,7 +1,10 @@
-//! What the four examples share: reading a file, and ending with a status that a script can read.
-//!
-//! 0: done. 1: refused, and standard output has a line `refused N`. 2: bad usage. 3: a read or a write failed. Standard error says why.
+//! What the four examples share, as examples/c/example.h does for C: the exit status, reading files and numbers, and saying why a call was
+//! refused. They take the same arguments as the C ones and print the same: examples/README.md.
 
+// Each example has all of it and uses a part.
+#![allow(dead_code)]
+
+use std::ffi::{OsStr, OsString};
 use std::fmt;
 use std::fs::File;
 use std::io::{self, Read, Write};
@@ -9,60 +12,57 @@ use std::process::ExitCode;
 
 use zomuwedli::{Refusal, MAX_SHEET};
 
-/// Why an example did not do what it was asked for.
-pub enum Failure {
-    Refused(Refusal),
-    Usage(&'static str),
-    Unread(String, io::Error),
-    Unwritten(io::Error),
-}
-
-impl Failure {
-    fn status(&self) -> u8 {
-        match self {
-            Failure::Refused(_) => 1,
-            Failure::Usage(_) => 2,
-            Failure::Unread(..) | Failure::Unwritten(_) => 3,
-        }
-    }
-}
-
-impl fmt::Display for Failure {
-    fn fmt(&self, f: &mut fmt::Formatter<'_>) -> fmt::Result {
-        match self {
-            Failure::Refused(refusal) => write!(f, "{refusal}"),
-            Failure::Usage(usage) => write!(f, "usage: {usage}"),
-            Failure::Unread(file, error) => write!(f, "{file}: {error}"),
-            Failure::Unwritten(error) => write!(f, "standard output: {error}"),
-        }
-    }
+/// Why an example does not end with 0. The reason was said on standard error.
+#[derive(Clone, Copy)]
+pub enum Status {
+    Refused = 1,
+    Usage = 2,
+    Failed = 3,
 }
 
 /// Does the work on the arguments, prints the text that it made, whatever its end, and answers the status.
-pub fn main(work: fn(&[String], &mut String) -> Result<(), Failure>) -> ExitCode {
-    let arguments: Option<Vec<String>> = std::env::args_os().skip(1).map(|argument| argument.into_string().ok()).collect();
+pub fn main(work: fn(&[OsString], &mut String) -> Result<(), Status>) -> ExitCode {
+    let arguments: Vec<OsString> = std::env::args_os().skip(1).collect();
     let mut text = String::new();
-    let done = work(&arguments.unwrap_or_default(), &mut text);
+    let done = work(&arguments, &mut text);
     // A panicking print would end with another status than a failed write has.
     let mut output = io::stdout().lock();
-    let written = output.write_all(text.as_bytes()).and_then(|()| output.flush()).map_err(Failure::Unwritten);
-    match written.and(done) {
+    let written = output.write_all(text.as_bytes()).and_then(|()| output.flush());
+    match written.map_err(|error| failed("standard output", &error)).and(done) {
         Ok(()) => ExitCode::SUCCESS,
-        Err(failure) => {
-            // Where standard error cannot be written either, the status is all there is.
-            let _ = writeln!(io::stderr(), "{failure}");
-            ExitCode::from(failure.status())
-        }
+        Err(status) => ExitCode::from(status as u8),
     }
 }
 
-/// Adds the line of a refusal, and answers the failure.
-pub fn refused(text: &mut String, refusal: Refusal) -> Failure {
-    line(text, "refused", [refusal.number()]);
-    Failure::Refused(refusal)
+/// Where standard error cannot be written either, the status is all there is.
+fn say(reason: fmt::Arguments<'_>) {
+    let _ = writeln!(io::stderr(), "{reason}");
 }
 
-/// Adds a line: a word, and numbers after it.
+pub fn usage(arguments: &str) -> Status {
+    let program = std::env::args_os().next().unwrap_or_default();
+    say(format_args!("usage: {} {arguments}", program.to_string_lossy()));
+    Status::Usage
+}
+
+fn failed(what: &str, error: &io::Error) -> Status {
+    say(format_args!("{what}: {error}"));
+    Status::Failed
+}
+
+/// Says why a call was refused; what it was made for is a sheet or an item, by its name.
+pub fn explain(what: &str, name: &OsStr, refusal: Refusal) -> Status {
+    say(format_args!("{what} {}: {refusal}", name.to_string_lossy()));
+    Status::Refused
+}
+
+/// The same for a sheet, with the one line that is then printed.
+pub fn refuse(sheet: &OsStr, refusal: Refusal, text: &mut String) -> Status {
+    line(text, "refused", [refusal.number()]);
+    explain("sheet", sheet, refusal)
+}
+
+/// Adds a line: a word, or several, and numbers after it.
 pub fn line<T: fmt::Display>(text: &mut String, word: impl fmt::Display, numbers: impl IntoIterator<Item = T>) {
     text.push_str(&word.to_string());
     for number in numbers {
@@ -72,14 +72,20 @@ pub fn line<T: fmt::Display>(text: &mut String, word: impl fmt::Display, numbers
     text.push('\n');
 }
 
-/// A sheet from a file: one byte more than the longest has at most, so that a longer file is refused and not cut to a sheet.
-pub fn read_sheet(name: &str) -> Result<Vec<u8>, Failure> {
-    read(name, MAX_SHEET as u64 + 1)
+/// A decimal number of digits only: `parse` by itself takes a sign too.
+pub fn number<T: std::str::FromStr>(text: &OsStr) -> Option<T> {
+    let text = text.to_str().filter(|text| text.bytes().all(|byte| byte.is_ascii_digit()))?;
+    text.parse().ok()
 }
 
-/// A file's bytes, so many at most.
-pub fn read(name: &str, most: u64) -> Result<Vec<u8>, Failure> {
+/// A sheet from a file: one byte more than the longest has at most, so that a longer file is refused and not cut to a sheet.
+pub fn read_sheet(name: &OsStr) -> Result<Vec<u8>, Status> {
+    read_file(name, MAX_SHEET + 1)
+}
+
+/// The first bytes of a file, so many, or all of it where it is shorter.
+pub fn read_file(name: &OsStr, most: usize) -> Result<Vec<u8>, Status> {
     let mut bytes = Vec::new();
-    let done = File::open(name).and_then(|file| file.take(most).read_to_end(&mut bytes));
-    done.map(|_| bytes).map_err(|error| Failure::Unread(name.to_string(), error))
+    let done = File::open(name).and_then(|file| file.take(most as u64).read_to_end(&mut bytes));
+    done.map(|_| bytes).map_err(|error| failed(&name.to_string_lossy(), &error))
 }
