@@ -1,5 +1,8 @@
 // Runs the bench cases: each line of standard input is a job and its input as hexadecimal digits, and each answer is one line.
 // A line that starts with # is passed over. What is written is compared with the file stdout.
+//
+// The input is read in pieces into 65,536 bytes, so a line has at most that many, its newline included; the longest case has half of it.
+// A longer line ends the program with a line that says so, and that no file stdout has. The last line may end without a newline.
 use jobs::CallAnswer;
 use jobs::CallOutcome;
 use jobs::Extended;
@@ -8,193 +11,38 @@ use jobs::ReduceOutcome;
 use jobs::Reduced;
 use jobs::StartAnswer;
 use jobs::StartOutcome;
-use libc::STDOUT_FILENO;
-use problem::Masks;
 use sheet::SheetRead;
-ghost use mathlib.Core.Path.{_≡_};
-ghost use Prim.Native.Nat.{_+_, _*_, _<_, _≤_};
+ghost use Prim.Native.Nat.{_≤_};
 ghost use lib.ListN.{length};
 ghost use Rattle.io.specs.Counts.{Counts};
 
-fn number(x: usize) {
-    let mut digits = [0u8; 20];
-    let n = io::decimal(x as u64, &mut digits);
-    io::write_all(STDOUT_FILENO, &digits[..n]);
+// A line `read SHEET`.
+fn do_read(fields: &[u8]) {
+    let mut sheet = io::large_buffer();
+    let n = cases::bytes(fields, &mut sheet);
+    show_read(read_sheet::read_sheet(&sheet[..n]));
 }
 
-// The value of a hexadecimal digit, 16 for any other byte.
-fn digit(c: u8) -> u8
-    ensures { λ r. ⌜ r ≤ 16 ⌝ }
-{
-    if c < 48 {
-        return 16;
-    }
-    if c <= 57 {
-        return c - 48;
-    }
-    if c < 97 {
-        return 16;
-    }
-    if c <= 102 {
-        return c - 87;
-    }
-    16
-}
-
-// The bytes of the field that starts at a place: how many there are.
-fn field(text: &[u8], from: usize, out: &mut [u8]) -> usize
-    requires { ⌜ from ≤ length (now text) ⌝ }
-    ensures { λ r. ⌜ Counts r (now (out .exit)) × (from + 2 * r ≤ length (now (text .entry))) ⌝ }
-{
-    let mut n: usize = 0;
-    let mut at = from;
-    while n < out.len() {
-        if text.len() - at < 2 {
-            return n;
-        }
-        let hi = digit(text[at]);
-        let lo = digit(text[at + 1]);
-        if hi == 16 {
-            return n;
-        }
-        if lo == 16 {
-            return n;
-        }
-        out[n] = hi * 16 + lo;
-        n += 1;
-        at += 2;
-    }
-    n
-}
-
-// The place after the line that a place stands in.
-fn next_line(text: &[u8], from: usize) -> usize
-    requires { ⌜ from < length (now text) ⌝ }
-    ensures { λ r. ⌜ (from < r) × (r ≤ length (now (text .entry))) ⌝ }
-{
-    let mut at = from;
-    while at < text.len() {
-        if text[at] == 10 {
-            return at + 1;
-        }
-        at += 1;
-    }
-    at
-}
-
-fn show_read(s: &[u8]) {
-    match read_sheet::read_sheet(s) {
+fn show_read(a: SheetRead) {
+    match a {
         SheetRead::Refused(r) => {
-            io::write_all(STDOUT_FILENO, b"refused ");
-            number(sheet::sheet_number(r) as usize);
+            cases::show_number(b"refused ", sheet::sheet_number(r) as usize);
         }
         SheetRead::Accepted { variables, blocks } => {
-            io::write_all(STDOUT_FILENO, b"accepted ");
-            number(variables);
-            io::write_all(STDOUT_FILENO, b" ");
-            number(blocks);
+            cases::show_number(b"accepted ", variables);
+            cases::show_number(b" ", blocks);
         }
     }
-    io::write_all(STDOUT_FILENO, b"\n");
+    cases::show(b"\n");
 }
 
-// ---- hexadecimal output
-
-fn hex_digit(x: u8) -> u8
-    requires { ⌜ x < 16 ⌝ }
-{
-    if x < 10 { 48 + x } else { 87 + x }
-}
-
-fn show_byte(x: u8) {
-    let d = [hex_digit(x / 16), hex_digit(x % 16)];
-    io::write_all(STDOUT_FILENO, &d);
-}
-
-fn show_bytes(b: &[u8]) {
-    let mut k: usize = 0;
-    while k < b.len() {
-        show_byte(b[k]);
-        k += 1;
-    }
-}
-
-fn show_word(x: u16) {
-    show_byte((x / 256) as u8);
-    show_byte((x % 256) as u8);
-}
-
-// A state as 68 bytes: the active variables, then the domains, big-endian.
-fn show_masks(m: Masks) {
-    show_word((m.active / 65536) as u16);
-    show_word((m.active % 65536) as u16);
-    let d = m.domains;
-    let mut i: usize = 0;
-    while i < 32 {
-        show_word(d[i]);
-        i += 1;
-    }
-}
-
-fn words(w: &[u8], x: usize) {
-    io::write_all(STDOUT_FILENO, w);
-    number(x);
-}
-
-// ---- the jobs
-
-// Where the field after one of n bytes starts.
-fn next_field(text: &[u8], from: usize, n: usize) -> usize
-    requires { ⌜ from + 2 * n ≤ length (now text) ⌝ }
-    ensures { λ r. ⌜ r ≤ length (now (text .entry)) ⌝ }
-{
-    let at = from + 2 * n;
-    if at < text.len() { at + 1 } else { at }
-}
-
-// A buffer of a pattern, so that a byte that changes shows.
-fn pattern() -> [u8; 4096]
-    ensures { λ r. ⌜ 4096 ≡ length r ⌝ }
-{
-    let mut b = [0u8; 4096];
-    let mut k: usize = 0;
-    while k < 4096 {
-        b[k] = ((37 * k + 11) % 251) as u8;
-        k += 1;
-    }
-    b
-}
-
-// A line `read SHEET`.
-fn do_read(text: &[u8], from: usize)
-    requires { ⌜ from ≤ length (now text) ⌝ }
-{
-    let mut sheet = [0u8; 20000];
-    let n = field(text, from, &mut sheet);
-    show_read(&sheet[..n]);
-}
-
-fn show_run(a: Reduced, b: &[u8]) {
-    let o = a.outcome;
-    match o {
-        ReduceOutcome::Refused(r) => {
-            words(b"refused ", jobs::reduce_number(r) as usize);
-        }
-        ReduceOutcome::Done {
-            end,
-            steps,
-            written,
-        } => {
-            words(b"done ", jobs::end_number(end) as usize);
-            words(b" ", steps);
-            words(b" ", written);
-            io::write_all(STDOUT_FILENO, b" ");
-            show_masks(a.state);
-        }
-    }
-    io::write_all(STDOUT_FILENO, b" ");
-    show_bytes(b);
-    io::write_all(STDOUT_FILENO, b"\n");
+// A line `work LENGTH SHEET`: the run with a buffer of so many bytes, four digits.
+fn do_work(fields: &[u8]) {
+    let long = cases::number(fields, 0, 4);
+    let mut sheet = io::large_buffer();
+    let n = cases::bytes(&fields[cases::next_field(fields)..], &mut sheet);
+    let mut b = cases::pattern();
+    run_part(&sheet[..n], &mut b, long as usize);
 }
 
 // The run of a sheet with the first bytes of a buffer.
@@ -206,178 +54,131 @@ fn run_part(s: &[u8], b: &mut [u8], long: usize) {
     }
 }
 
-// The run of a sheet with a buffer of so many bytes.
-fn run_with(s: &[u8], long: usize) {
-    let mut b = pattern();
-    run_part(s, &mut b, long);
+fn show_run(a: Reduced, b: &[u8]) {
+    let o = a.outcome;
+    match o {
+        ReduceOutcome::Refused(r) => {
+            cases::show_number(b"refused ", jobs::reduce_number(r) as usize);
+        }
+        ReduceOutcome::Done {
+            end,
+            steps,
+            written,
+        } => {
+            cases::show_number(b"done ", jobs::end_number(end) as usize);
+            cases::show_number(b" ", steps);
+            cases::show_number(b" ", written);
+            cases::show(b" ");
+            cases::show_masks(a.state);
+        }
+    }
+    cases::show(b" ");
+    cases::show_bytes(b);
+    cases::show(b"\n");
 }
 
-fn wide(x: u8) -> usize
-    ensures { λ r. ⌜ r < 256 ⌝ }
-{
-    x as usize
-}
-
-// A line `work LENGTH SHEET`: the run with a buffer of so many bytes, two bytes long.
-fn do_work(text: &[u8], from: usize)
-    requires { ⌜ from ≤ length (now text) ⌝ }
-{
-    let mut long = [0u8; 2];
-    let k = field(text, from, &mut long);
-    let at = next_field(text, from, k);
-    let mut sheet = [0u8; 20000];
-    let n = field(text, at, &mut sheet);
-    run_with(&sheet[..n], wide(long[0]) * 256 + wide(long[1]));
+// A line `star SHEET`: the start.
+fn do_start(fields: &[u8]) {
+    let mut sheet = io::large_buffer();
+    let n = cases::bytes(fields, &mut sheet);
+    show_start(start::start(&sheet[..n]));
 }
 
 fn show_start(a: StartAnswer) {
     let o = a.outcome;
     match o {
         StartOutcome::Refused(r) => {
-            words(b"refused ", sheet::sheet_number(r) as usize);
+            cases::show_number(b"refused ", sheet::sheet_number(r) as usize);
         }
         StartOutcome::Started => {
-            io::write_all(STDOUT_FILENO, b"started");
+            cases::show(b"started");
         }
     }
-    io::write_all(STDOUT_FILENO, b" ");
-    show_masks(a.state.masks);
-    io::write_all(STDOUT_FILENO, b"\n");
+    show_state(a.state);
 }
 
-// A line `star SHEET`: the start.
-fn do_start(text: &[u8], from: usize)
-    requires { ⌜ from ≤ length (now text) ⌝ }
-{
-    let mut sheet = [0u8; 20000];
-    let n = field(text, from, &mut sheet);
-    show_start(start::start(&sheet[..n]));
+// The state at the end of an answer's line.
+fn show_state(s: ManualState) {
+    cases::show(b" ");
+    cases::show_masks(s.masks);
+    cases::show(b"\n");
 }
 
-// The number of two bytes.
-fn word(hi: u8, lo: u8) -> u16 {
-    (wide(hi) * 256 + wide(lo)) as u16
-}
-
-fn long(hi: u16, lo: u16) -> u32 {
-    hi as u32 * 65536 + lo as u32
-}
-
-fn longer(hi: u32, lo: u32) -> u64 {
-    hi as u64 * 4294967296 + lo as u64
-}
-
-// The number of eight bytes.
-fn item_of(b: [u8; 8]) -> u64 {
-    let hi = long(word(b[0], b[1]), word(b[2], b[3]));
-    let lo = long(word(b[4], b[5]), word(b[6], b[7]));
-    longer(hi, lo)
-}
-
-// The masks of a state's 68 bytes.
-fn masks_of(b: [u8; 68]) -> Masks {
-    let mut m = problem::empty_masks();
-    m.active = long(word(b[0], b[1]), word(b[2], b[3]));
-    let mut i: usize = 0;
-    while i < 32 {
-        m.domains[i] = word(b[4 + 2 * i], b[5 + 2 * i]);
-        i += 1;
-    }
-    m
+// A line `hand ITEM STATE SHEET`: the item as 16 digits, the state as 136.
+fn do_hand(fields: &[u8]) {
+    let item = cases::number(fields, 0, 16);
+    let more = &fields[cases::next_field(fields)..];
+    let masks = cases::masks(more);
+    let mut sheet = io::large_buffer();
+    let n = cases::bytes(&more[cases::next_field(more)..], &mut sheet);
+    show_call(hand::hand_call(&sheet[..n], ManualState { masks }, item));
 }
 
 fn show_call(a: CallAnswer) {
     let o = a.outcome;
     match o {
         CallOutcome::Refused(r) => {
-            words(b"refused ", jobs::manual_number(r) as usize);
+            cases::show_number(b"refused ", jobs::manual_number(r) as usize);
         }
         CallOutcome::Eliminated(v) => {
-            words(b"taken ", v);
+            cases::show_number(b"taken ", v);
         }
     }
-    io::write_all(STDOUT_FILENO, b" ");
-    show_masks(a.state.masks);
-    io::write_all(STDOUT_FILENO, b"\n");
+    show_state(a.state);
 }
 
-// A line `hand ITEM STATE SHEET`: the item as eight bytes, the state as 68.
-fn do_hand(text: &[u8], from: usize)
-    requires { ⌜ from ≤ length (now text) ⌝ }
-{
-    let mut item = [0u8; 8];
-    let k = field(text, from, &mut item);
-    let at = next_field(text, from, k);
-    let mut state = [0u8; 68];
-    let j = field(text, at, &mut state);
-    let p = next_field(text, at, j);
-    let mut sheet = [0u8; 20000];
-    let n = field(text, p, &mut sheet);
-    let masks = masks_of(state);
-    show_call(hand::hand_call(&sheet[..n], ManualState { masks }, item_of(item)));
+// A line `back SHEET TRACE PLAN RESULT`: putting back, the result's buffer as it is before.
+fn do_back(fields: &[u8]) {
+    let mut sheet = io::large_buffer();
+    let n = cases::bytes(fields, &mut sheet);
+    let more = &fields[cases::next_field(fields)..];
+    let mut trace = io::buffer();
+    let k = cases::bytes(more, &mut trace);
+    back_rest(&more[cases::next_field(more)..], &sheet[..n], &trace[..k]);
+}
+
+// The plan and the result's buffer of a line whose sheet and trace are read.
+fn back_rest(fields: &[u8], s: &[u8], trace: &[u8]) {
+    let mut plan = [0u8; 64];
+    let k = cases::bytes(fields, &mut plan);
+    let mut out = [0u8; 64];
+    let n = cases::bytes(&fields[cases::next_field(fields)..], &mut out);
+    back_part(s, trace, &plan[..k], &mut out[..n]);
+}
+
+// Putting back into a result's buffer.
+fn back_part(s: &[u8], trace: &[u8], plan: &[u8], out: &mut [u8]) {
+    let a = extend::put_back(s, trace, plan, out);
+    show_back(a, out);
 }
 
 fn show_back(a: Extended, out: &[u8]) {
     match a {
         Extended::Refused(r) => {
-            words(b"refused ", jobs::extend_number(r) as usize);
+            cases::show_number(b"refused ", jobs::extend_number(r) as usize);
         }
         Extended::Done => {
-            io::write_all(STDOUT_FILENO, b"done");
+            cases::show(b"done");
         }
     }
-    io::write_all(STDOUT_FILENO, b" ");
-    show_bytes(out);
-    io::write_all(STDOUT_FILENO, b"\n");
+    cases::show(b" ");
+    cases::show_bytes(out);
+    cases::show(b"\n");
 }
 
-// Putting back with the first bytes of a buffer for the result.
-fn back_part(s: &[u8], trace: &[u8], plan: &[u8], out: &mut [u8], long: usize) {
-    if long <= out.len() {
-        let part = &mut out[..long];
-        let a = extend::put_back(s, trace, plan, part);
-        show_back(a, part);
-    }
-}
-
-// The plan and the result's buffer of a line whose sheet and trace are read.
-fn back_rest(text: &[u8], from: usize, s: &[u8], trace: &[u8])
-    requires { ⌜ from ≤ length (now text) ⌝ }
-{
-    let mut plan = [0u8; 64];
-    let k = field(text, from, &mut plan);
-    let at = next_field(text, from, k);
-    let mut out = [0u8; 64];
-    let n = field(text, at, &mut out);
-    back_part(s, trace, &plan[..k], &mut out, n);
-}
-
-// A line `back SHEET TRACE PLAN RESULT`: putting back, the result's buffer as it is before.
-fn do_back(text: &[u8], from: usize)
-    requires { ⌜ from ≤ length (now text) ⌝ }
-{
-    let mut sheet = [0u8; 20000];
-    let n = field(text, from, &mut sheet);
-    let at = next_field(text, from, n);
-    let mut trace = [0u8; 4096];
-    let k = field(text, at, &mut trace);
-    back_rest(text, next_field(text, at, k), &sheet[..n], &trace[..k]);
-}
-
-// The line at a place: its first byte names the job, and its input starts after four letters and a space.
-fn line(text: &[u8], from: usize)
-    requires { ⌜ from < length (now text) ⌝ }
-{
-    if text.len() - from < 5 {
+// A line: its first letter names the job, and the fields stand behind the first space. One too short for a job's word is passed over.
+fn line(text: &[u8]) {
+    if text.len() < 5 {
         return;
     }
-    let c = text[from];
-    match c {
-        b'r' => do_read(text, from + 5),
-        b'w' => do_work(text, from + 5),
-        b's' => do_start(text, from + 5),
-        b'h' => do_hand(text, from + 5),
-        b'b' => do_back(text, from + 5),
+    let job = text[0];
+    let fields = &text[cases::next_field(text)..];
+    match job {
+        b'r' => do_read(fields),
+        b'w' => do_work(fields),
+        b's' => do_start(fields),
+        b'h' => do_hand(fields),
+        b'b' => do_back(fields),
         _ => {}
     }
 }
@@ -385,13 +186,49 @@ fn line(text: &[u8], from: usize)
 fn lines(text: &[u8]) {
     let mut at: usize = 0;
     while at < text.len() {
-        line(text, at);
-        at = next_line(text, at);
+        let next = cases::next_line(text, at);
+        line(&text[at..next]);
+        at = next;
+    }
+}
+
+// The lines that end in the first n bytes. What is left of them goes to the front: how many bytes that are.
+fn piece(text: &mut [u8], n: usize) -> usize
+    requires { ⌜ n ≤ length (now text) ⌝ }
+    ensures { λ r. ⌜ r ≤ length (now (text .exit)) ⌝ }
+{
+    let end = cases::lines_end(text, n);
+    lines(&text[..end]);
+    cases::keep(text, end, n)
+}
+
+// What is left where no more can be read: the last line, or the start of a line that does not fit.
+fn last(text: &[u8], held: usize)
+    requires { ⌜ Counts held (now text) ⌝ }
+{
+    if held == text.len() {
+        cases::show(b"a line is too long\n");
+        return;
+    }
+    lines(&text[..held]);
+}
+
+// Reads and runs the input. A proved loop has to end, and nothing says that the input does: the turns are more than any run uses up.
+fn run(text: &mut [u8]) {
+    let mut held: usize = 0;
+    let mut turns = u64::MAX;
+    while turns > 0 {
+        let n = cases::read_on(text, held);
+        if n == held {
+            last(text, held);
+            return;
+        }
+        held = piece(text, n);
+        turns -= 1;
     }
 }
 
 fn main() {
-    let mut text = [0u8; 524288];
-    let n = io::read_full(0, &mut text);
-    lines(&text[..n]);
+    let mut text = io::large_buffer();
+    run(&mut text);
 }

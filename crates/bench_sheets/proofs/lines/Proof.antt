@@ -7,7 +7,7 @@ use Rattle.bench_sheets.proofs.lines.Tie as tie
 use Rattle.bench_sheets.proofs.lines.Reads as reads
 use Rattle.bench_sheets.proofs.lines.Lts as lts
 use Rattle.bench_sheets.proofs.line.Reads as line-reads
-use Rattle.bench_sheets.proofs.next_line.Reads as next-line-reads
+use Rattle.cases.proofs.next_line.Reads as next-line-reads
 
 abbrev Inv-loop : tie.InvT-loop
 Inv-loop text at₀ at = at ≤ length text
@@ -18,11 +18,20 @@ abbrev μ-loop : tie.MeasureT-loop
 loop-holds : tie.Need-loop-holds Inv-loop μ-loop
 loop-holds c = search needs
 
-line-requires : tie.Need-line-requires Inv-loop μ-loop
-line-requires c κs = search needs
-
 next-line-requires : tie.Need-next-line-requires Inv-loop μ-loop
 next-line-requires c κs = search needs
+
+sub-line : tie.Need-sub-line Inv-loop μ-loop
+sub-line c = search needs
+
+part-line-start : tie.Need-part-line-start Inv-loop μ-loop
+part-line-start c = search needs
+
+part-line-end : tie.Need-part-line-end Inv-loop μ-loop
+part-line-end c = search needs
+
+line-requires : tie.Need-line-requires Inv-loop μ-loop
+line-requires c κs = search needs
 
 loop-less : tie.Need-loop-less Inv-loop μ-loop
 loop-less c = search needs
@@ -40,8 +49,11 @@ lines-spec =
     Inv-loop
     μ-loop
     loop-holds
-    line-requires
     next-line-requires
+    sub-line
+    part-line-start
+    part-line-end
+    line-requires
     loop-less
     loop-again
     returns)

@@ -1,9 +1,10 @@
 -- `trace::record_at`: the cases of proofs/Read.antt, in the order of the code's tests.
-use mathlib.Core.Path.{_≡_, sym}
-use Prim.Native.Nat.{_+_, _≤_}
+use mathlib.Core.Path.{_≡_, ap, sym, _∙_}
+use Prim.Native.Nat.{ℕ, _+_, _≤_}
 use native.Mathlib.Omega.{arith}
 use Rattle.sheet.specs.Bytes.{byteAt}
 use Rattle.jobs.specs.Trace.{lengthByte, recordOf}
+use Rattle.jobs.specs.declared.RecordRead.the-variants.{Read}
 use Rattle.trace.proofs.Read.{known, at-end, at-cut, at-short, at-wrong, at-record}
 use borrow.Author.Needs.{needs}
 use Rattle.trace.proofs.record_at.Statement.{statement}
@@ -34,7 +35,10 @@ length-byte-requires : tie.Need-length-byte-requires
 length-byte-requires c κs = search needs
 
 returns-4 : tie.Need-returns-4
-returns-4 c = sym (at-wrong _ _ (omega arith) (λ e. c .if4 .taken (cc)))
+returns-4 c =
+    let n = c .before .before .before .before .before .byte .ensures in
+    let m = c .before .length-byte .ensures ∙ ap lengthByte (c .before .before .byte2 .ensures) in
+    sym (at-wrong _ _ (omega arith) (λ e. c .if4 .taken (n ∙ e ∙ sym m)))
 
 record-from-requires : tie.Need-record-from-requires
 record-from-requires c κs =
@@ -51,10 +55,13 @@ add-t7 c = search needs
 returns-5 : tie.Need-returns-5
 returns-5 c =
     let a = c .before .before .before .before .before .before .before .before .before .args in
-    let q : byteAt (a .s .now) (a .at) ≡ lengthByte (byteAt (a .s .now) (a .at + 1)) = cc in
-    let r : c .record-from .result ≡ recordOf (byteAt (a .s .now) (a .at + 1)) (byteAt (a .s .now) (a .at + 2)) (byteAt (a .s .now) (a .at + 3)) (byteAt (a .s .now) (a .at + 4)) = cc in
-    let w = at-record (a .s .now) (a .at) (omega arith) (omega arith) q (c .record-from .result) r in
-    cc
+    let s = a .s .now in
+    let p = a .at in
+    let n : c .before .before .before .before .before .before .byte .result ≡ byteAt s p = c .before .before .before .before .before .before .byte .ensures in
+    let k : c .before .before .before .byte2 .result ≡ byteAt s (p + 1) = c .before .before .before .byte2 .ensures in
+    let q = sym n ∙ c .before .if4 .left ∙ c .before .before .length-byte .ensures ∙ ap lengthByte k in
+    let r = c .record-from .ensures ∙ ap (λ (x : ℕ). recordOf x (byteAt s (p + 2)) (byteAt s (p + 3)) (byteAt s (p + 4))) k in
+    ap (λ (x : ℕ). Read (c .record-from .result) (p + 1 + x)) n ∙ at-record s p (omega arith) (omega arith) q (c .record-from .result) r
 
 pub record-at-spec : {M : Type 1} → statement M
 record-at-spec =

@@ -1,4 +1,5 @@
 -- `trace::record_from`: the kind's record, from the three bytes after it.
+use mathlib.Core.Path.{_∙_}
 use borrow.Author.Needs.{needs}
 use Rattle.trace.proofs.record_from.Statement.{statement}
 use Rattle.trace.proofs.record_from.Tie as tie
@@ -25,7 +26,8 @@ record-of-requires : tie.Need-record-of-requires
 record-of-requires c κs = search needs
 
 returns : tie.Need-returns
-returns c = cc
+returns c =
+    c .record-of .ensures ∙ rw (c .before .byte3 .ensures, c .before .before .byte2 .ensures, c .before .before .before .byte .ensures)
 
 pub record-from-spec : {M : Type 1} → statement M
 record-from-spec =

@@ -1,12 +1,12 @@
--- `bench_sheets::show_bytes`: the place is within the bytes. Assumes nothing.
+-- `cases::show_bytes`: the place is within the bytes. Assumes nothing.
 use Prim.Native.Nat.{_≤_, _-_}
 use lib.ListN.{length}
 use borrow.Author.Needs.{needs}
-use Rattle.bench_sheets.proofs.show_bytes.Statement.{statement}
-use Rattle.bench_sheets.proofs.show_bytes.Tie as tie
-use Rattle.bench_sheets.proofs.show_bytes.Reads as reads
-use Rattle.bench_sheets.proofs.show_bytes.Lts as lts
-use Rattle.bench_sheets.proofs.show_byte.Reads as show-byte-reads
+use Rattle.cases.proofs.show_bytes.Statement.{statement}
+use Rattle.cases.proofs.show_bytes.Tie as tie
+use Rattle.cases.proofs.show_bytes.Reads as reads
+use Rattle.cases.proofs.show_bytes.Lts as lts
+use Rattle.cases.proofs.show_byte.Reads as show-byte-reads
 
 abbrev Inv-loop : tie.InvT-loop
 Inv-loop b k₀ k = k ≤ length b

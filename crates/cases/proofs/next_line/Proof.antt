@@ -1,11 +1,11 @@
--- `bench_sheets::next_line`: the place is within the text. Assumes nothing.
+-- `cases::next_line`: the place is within the text. Assumes nothing.
 use Prim.Native.Nat.{_≤_, _-_}
 use lib.ListN.{length}
 use borrow.Author.Needs.{needs}
-use Rattle.bench_sheets.proofs.next_line.Statement.{statement}
-use Rattle.bench_sheets.proofs.next_line.Tie as tie
-use Rattle.bench_sheets.proofs.next_line.Reads as reads
-use Rattle.bench_sheets.proofs.next_line.Lts as lts
+use Rattle.cases.proofs.next_line.Statement.{statement}
+use Rattle.cases.proofs.next_line.Tie as tie
+use Rattle.cases.proofs.next_line.Reads as reads
+use Rattle.cases.proofs.next_line.Lts as lts
 
 abbrev Inv-loop : tie.InvT-loop
 Inv-loop text from at₀ at = (from ≤ at) × (at ≤ length text)

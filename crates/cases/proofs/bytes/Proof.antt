@@ -1,25 +1,21 @@
--- `bench_sheets::field`: the bytes found stand at the front, and the place is two digits on for each. Assumes nothing.
+-- `cases::bytes`: the bytes found stand at the front, and the place is two digits on for each. Assumes nothing.
 use mathlib.Core.Path.{_≡_}
-use mathlib.Core.List.{List}
-use Prim.Native.Nat.{ℕ, _≤_, _+_, _*_, _-_}
+use Prim.Native.Nat.{_≤_, _-_}
 use native.Mathlib.Omega.{arith}
-use lib.ListN.{length, take, length-set, length-take}
+use lib.ListN.{length, length-set}
 use borrow.Author.Needs.{needs}
-use Rattle.bench_sheets.proofs.field.Statement.{statement}
-use Rattle.bench_sheets.proofs.field.Tie as tie
-use Rattle.bench_sheets.proofs.field.Reads as reads
-use Rattle.bench_sheets.proofs.field.Lts as lts
-use Rattle.bench_sheets.proofs.digit.Reads as digit-reads
-
--- as many bytes as there are at the front
-front : (n : ℕ) (xs : List ℕ) → n ≤ length xs → n ≡ length (take n xs)
-front n xs h = omega (arith, length-take n xs)
+use Rattle.cases.proofs.Front.{front}
+use Rattle.cases.proofs.bytes.Statement.{statement}
+use Rattle.cases.proofs.bytes.Tie as tie
+use Rattle.cases.proofs.bytes.Reads as reads
+use Rattle.cases.proofs.bytes.Lts as lts
+use Rattle.cases.proofs.digit.Reads as digit-reads
 
 abbrev Inv-loop : tie.InvT-loop
-Inv-loop text from out₀ n₀ at₀ out n at = (n ≤ length out) × ((length out ≡ length out₀) × ((at ≡ from + 2 * n) × (at ≤ length text)))
+Inv-loop line out₀ n₀ at₀ out n at = (n ≤ length out) × ((length out ≡ length out₀) × (at ≤ length line))
 
 abbrev μ-loop : tie.MeasureT-loop
-μ-loop text from out₀ n₀ at₀ out n at = length out₀ - n
+μ-loop line out₀ n₀ at₀ out n at = length out₀ - n
 
 loop-holds : tie.Need-loop-holds Inv-loop μ-loop
 loop-holds c = search needs
@@ -31,7 +27,7 @@ same-length : tie.Need-same-length Inv-loop μ-loop
 same-length c = search needs
 
 returns : tie.Need-returns Inv-loop μ-loop
-returns c = ((omega arith, front _ _ (omega arith)), omega arith)
+returns c = front _ _ (omega arith)
 
 shared-slice-read-digit : tie.Need-shared-slice-read-digit Inv-loop μ-loop
 shared-slice-read-digit c = search needs
@@ -52,13 +48,13 @@ same-length-2 : tie.Need-same-length-2 Inv-loop μ-loop
 same-length-2 c = search needs
 
 returns-2 : tie.Need-returns-2 Inv-loop μ-loop
-returns-2 c = ((omega arith, front _ _ (omega arith)), omega arith)
+returns-2 c = front _ _ (omega arith)
 
 same-length-3 : tie.Need-same-length-3 Inv-loop μ-loop
 same-length-3 c = search needs
 
 returns-3 : tie.Need-returns-3 Inv-loop μ-loop
-returns-3 c = ((omega arith, front _ _ (omega arith)), omega arith)
+returns-3 c = front _ _ (omega arith)
 
 mul-out : tie.Need-mul-out Inv-loop μ-loop
 mul-out c = search needs
@@ -81,16 +77,16 @@ loop-less c = search needs
 loop-again : tie.Need-loop-again Inv-loop μ-loop
 loop-again c =
     let l = c .before .before .before .before .before .before .before .before .loop in
-    (simp length-set (omega arith), (simp length-set (l .inv .1 .0), (omega arith, omega arith)))
+    (simp length-set (omega arith), (simp length-set (l .inv .1 .0), omega arith))
 
 same-length-4 : tie.Need-same-length-4 Inv-loop μ-loop
 same-length-4 c = search needs
 
 returns-4 : tie.Need-returns-4 Inv-loop μ-loop
-returns-4 c = ((omega arith, front _ _ (omega arith)), omega arith)
+returns-4 c = front _ _ (omega arith)
 
-pub field-spec : {M : Type 1} → statement M
-field-spec =
+pub bytes-spec : {M : Type 1} → statement M
+bytes-spec =
     tie.close
     (tie.spec
     Inv-loop

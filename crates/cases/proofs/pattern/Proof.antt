@@ -1,18 +1,22 @@
--- `bench_sheets::pattern`: the stores keep the length. Assumes nothing.
+-- `cases::pattern`: the stores keep the length. Assumes nothing.
 use mathlib.Core.Path.{_≡_}
 use Prim.Native.Nat.{_≤_, _-_}
 use lib.ListN.{length}
 use borrow.Author.Needs.{needs}
-use Rattle.bench_sheets.proofs.pattern.Statement.{statement}
-use Rattle.bench_sheets.proofs.pattern.Tie as tie
-use Rattle.bench_sheets.proofs.pattern.Reads as reads
-use Rattle.bench_sheets.proofs.pattern.Lts as lts
+use Rattle.cases.proofs.pattern.Statement.{statement}
+use Rattle.cases.proofs.pattern.Tie as tie
+use Rattle.cases.proofs.pattern.Reads as reads
+use Rattle.cases.proofs.pattern.Lts as lts
+use Rattle.io.proofs.buffer.Reads as buffer-reads
 
 abbrev Inv-loop : tie.InvT-loop
 Inv-loop b₀ k₀ b k = (k ≤ 4096) × (length b ≡ 4096)
 
 abbrev μ-loop : tie.MeasureT-loop
 μ-loop b₀ k₀ b k = 4096 - k
+
+buffer-requires : tie.Need-buffer-requires Inv-loop μ-loop
+buffer-requires c κs = search needs
 
 loop-holds : tie.Need-loop-holds Inv-loop μ-loop
 loop-holds c = search needs
@@ -47,6 +51,7 @@ pattern-spec =
     (tie.spec
     Inv-loop
     μ-loop
+    buffer-requires
     loop-holds
     mul-b
     add-b
