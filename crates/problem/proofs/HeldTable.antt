@@ -73,15 +73,15 @@ before-zero t i l e = lowest-least 32 (λ i. eqb (heldSize t i) 0) i l (eqb-iff 
 pos : (k : ℕ) → k ≢ 0 → 1 ≤ k
 pos k d = elim (lt-dec 0 k) [ inl l ↦ omega arith | inr l ↦ absurd (d (omega arith)) ]
 
--- a table whose sizes stay 0 after the first that is 0 holds a bounded problem
-pub held-bounded : {t : List ℕ} → RowTable t → ((i : ℕ) → (held t) .n ≤ i → (held t) .size i ≡ 0) → Bounded (held t)
+-- a filled table holds a bounded problem
+pub held-bounded : {t : List ℕ} → RowTable t → Bounded (held t)
 unfolding held
-held-bounded {t} R none =
+held-bounded {t} R =
     record {
       few = held-few t;
       some = λ i l. pos (heldSize t i) (before-zero t i l);
       narrow = R .narrow;
-      none = none;
+      none = R .ended;
       listed = λ i a j b h.
           let x = heldRow-iff t i a j b .0 ((simp and-iff at h) .0) .0 in
           let y = heldValue-iff t i a .0 (x .0) in
@@ -166,6 +166,7 @@ module _ (P : Problem) (B : Bounded P) where
       record {
         long = length-tab tableLength (tableEntry P);
         narrow = λ i. omega (arith, held-size i, B .narrow i);
+        ended = λ i l. held-size i ∙ B .none i (omega (arith, held-variables));
         turned = λ i a j b vi vj d.
             let y = held-value i a .0 vi in
             let z = held-value j b .0 vj in

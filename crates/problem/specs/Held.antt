@@ -50,10 +50,12 @@ held t =
       symmetric = λ i a j b. and-comm (heldRow t i a j b) (heldRow t j b i a);
     }
 
--- a table that the rule tests may read: of the right length, no size above 16, and the two ways round of each pair tell the same
+-- a filled table, which the rule tests may read: of the right length, no size above 16, none after the first that is 0, and the two ways
+-- round of each pair tell the same
 pub record RowTable (t : List ℕ) : Type 0 where
   pub long : length t ≡ tableLength
   pub narrow : (i : ℕ) → heldSize t i ≤ maxValues
+  pub ended : (i : ℕ) → heldVariables t ≤ i → heldSize t i ≡ 0
   pub turned : (i a j b : ℕ) → T (heldValue t i a) → T (heldValue t j b) → i ≢ j → rowAllows t i a j b ≡ rowAllows t j b i a
 
 -- ---- the table of a problem

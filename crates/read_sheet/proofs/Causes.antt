@@ -9,6 +9,7 @@ use native.Mathlib.Omega.{arith}
 use lib.Dec.{eqb, leb}
 use lib.ListN.{length}
 use borrow.Author.Tests.{lt-ltb, le-ltb, le-leb, leb-true, eqb-true, eq-eqb, ne-eqb}
+use Rattle.bounded.proofs.Causes.{cause-iff, number-iff}
 use Rattle.bounded.proofs.Truth.{T-true, T-false, split, clash, both, eq-dec, lt-dec}
 use Rattle.sheet.specs.Bytes.{byteAt, numberAt}
 use Rattle.sheet.specs.Sheet.{layout, sheetNumber, versionOf, lengthOf, variablesOf, blocksOf, sizeAt, rowBytes, inOrder, beyond, allowsAll, blockOf, blockAt, blocksFrom, badSizes, readSheet}
@@ -370,7 +371,7 @@ module _ (s : List ℕ) where
 
   -- Reading a sheet answers as it does for its cause and for no other.
   pub read-iff : (x : SheetRead) → (readSheet layout s ≡ x) ↔ ReadCause x
-  read-iff x = (λ e. subst ReadCause (sym (cause-answers (some-cause .0) (some-cause .1)) ∙ e) (some-cause .1), cause-answers x)
+  read-iff = cause-iff (readSheet layout s) ReadCause cause-answers some-cause
 
   -- ---- the numbers
 
@@ -402,10 +403,9 @@ module _ (s : List ℕ) where
 
   -- each number but 6 has one cause
   pub read-number : (r : SheetRefusal) → sheetNumber r ≢ 6 → (readingNumber (readSheet layout s) ≡ sheetNumber r) ↔ ReadCause (Refused r)
-  read-number r h = (
-    λ e. read-iff (Refused r) .0 (sym (number-back (readSheet layout s) (λ z. let l = sheet-number r in omega arith) (λ z. h (sym e ∙ z))) ∙ ap numbered e ∙ number-back (Refused r) (λ z. let l = sheet-number r in omega arith) h),
-    λ x. ap readingNumber (read-iff (Refused r) .1 x),
-  )
+  read-number r h =
+      number-iff (readSheet layout s) ReadCause read-iff readingNumber numbered (λ k. (k ≢ 0) × (k ≢ 6)) (λ x n. number-back x (n .0) (n .1)) (Refused r)
+      (λ z. let l = sheet-number r in omega arith, h)
 
   -- 6 has three
   pub read-6 : (readingNumber (readSheet layout s) ≡ 6) ↔ (ReadCause (Refused PairMissing) ⊎ (ReadCause (Refused RowsCut) ⊎ ReadCause (Refused LeftOver)))

@@ -4,10 +4,6 @@ use lib.ListN.{length}
 use borrow.Author.Needs.{needs}
 use Rattle.bench_sheets.proofs.lines.Statement.{statement}
 use Rattle.bench_sheets.proofs.lines.Tie as tie
-use Rattle.bench_sheets.proofs.lines.Reads as reads
-use Rattle.bench_sheets.proofs.lines.Lts as lts
-use Rattle.bench_sheets.proofs.line.Reads as line-reads
-use Rattle.cases.proofs.next_line.Reads as next-line-reads
 
 abbrev Inv-loop : tie.InvT-loop
 Inv-loop text at₀ at = at ≤ length text

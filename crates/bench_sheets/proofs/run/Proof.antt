@@ -7,11 +7,6 @@ use Rattle.cases.proofs.Front.{front}
 use borrow.Author.Needs.{needs}
 use Rattle.bench_sheets.proofs.run.Statement.{statement}
 use Rattle.bench_sheets.proofs.run.Tie as tie
-use Rattle.bench_sheets.proofs.run.Reads as reads
-use Rattle.bench_sheets.proofs.run.Lts as lts
-use Rattle.bench_sheets.proofs.last.Reads as last-reads
-use Rattle.bench_sheets.proofs.piece.Reads as piece-reads
-use Rattle.cases.proofs.read_on.Reads as read-on-reads
 
 abbrev Inv-loop : tie.InvT-loop
 Inv-loop text₀ held₀ turns₀ text held turns = (held ≤ length text) × (length text ≡ length text₀)

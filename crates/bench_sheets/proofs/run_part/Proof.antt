@@ -4,10 +4,6 @@ use lib.ListN.{length-take}
 use borrow.Author.Needs.{needs}
 use Rattle.bench_sheets.proofs.run_part.Statement.{statement}
 use Rattle.bench_sheets.proofs.run_part.Tie as tie
-use Rattle.bench_sheets.proofs.run_part.Reads as reads
-use Rattle.bench_sheets.proofs.run_part.Lts as lts
-use Rattle.bench_sheets.proofs.show_run.Reads as show-run-reads
-use Rattle.reduce.proofs.reduce.Reads as reduce-reads
 
 slice-relend-prefix-part : tie.Need-slice-relend-prefix-part
 slice-relend-prefix-part c = search needs

@@ -7,9 +7,6 @@ use borrow.Author.Needs.{needs}
 use Rattle.cases.proofs.Front.{front}
 use Rattle.cases.proofs.bytes.Statement.{statement}
 use Rattle.cases.proofs.bytes.Tie as tie
-use Rattle.cases.proofs.bytes.Reads as reads
-use Rattle.cases.proofs.bytes.Lts as lts
-use Rattle.cases.proofs.digit.Reads as digit-reads
 
 abbrev Inv-loop : tie.InvT-loop
 Inv-loop line out₀ n₀ at₀ out n at = (n ≤ length out) × ((length out ≡ length out₀) × (at ≤ length line))

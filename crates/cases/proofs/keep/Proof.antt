@@ -5,8 +5,6 @@ use lib.ListN.{length}
 use borrow.Author.Needs.{needs}
 use Rattle.cases.proofs.keep.Statement.{statement}
 use Rattle.cases.proofs.keep.Tie as tie
-use Rattle.cases.proofs.keep.Reads as reads
-use Rattle.cases.proofs.keep.Lts as lts
 
 abbrev Inv-loop : tie.InvT-loop
 Inv-loop text₀ from to at₀ k₀ text at k = (k ≤ at) × ((at ≤ to) × (length text ≡ length text₀))

@@ -5,8 +5,6 @@ use borrow.Author.Needs.{needs}
 use Rattle.cases.proofs.Front.{front}
 use Rattle.cases.proofs.lines_end.Statement.{statement}
 use Rattle.cases.proofs.lines_end.Tie as tie
-use Rattle.cases.proofs.lines_end.Reads as reads
-use Rattle.cases.proofs.lines_end.Lts as lts
 
 abbrev Inv-loop : tie.InvT-loop
 Inv-loop text n at₀ at = at ≤ n

@@ -3,10 +3,6 @@ use Prim.Native.Nat.{_≤_, _-_}
 use borrow.Author.Needs.{needs}
 use Rattle.cases.proofs.masks.Statement.{statement}
 use Rattle.cases.proofs.masks.Tie as tie
-use Rattle.cases.proofs.masks.Reads as reads
-use Rattle.cases.proofs.masks.Lts as lts
-use Rattle.cases.proofs.number.Reads as number-reads
-use Rattle.problem.proofs.empty_masks.Reads as empty-masks-reads
 
 abbrev Inv-loop : tie.InvT-loop
 Inv-loop line m₀ i₀ m i = i ≤ 32

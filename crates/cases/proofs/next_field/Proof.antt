@@ -4,8 +4,6 @@ use lib.ListN.{length}
 use borrow.Author.Needs.{needs}
 use Rattle.cases.proofs.next_field.Statement.{statement}
 use Rattle.cases.proofs.next_field.Tie as tie
-use Rattle.cases.proofs.next_field.Reads as reads
-use Rattle.cases.proofs.next_field.Lts as lts
 
 abbrev Inv-loop : tie.InvT-loop
 Inv-loop line at₀ at = at ≤ length line

@@ -4,8 +4,6 @@ use lib.ListN.{length}
 use borrow.Author.Needs.{needs}
 use Rattle.cases.proofs.next_line.Statement.{statement}
 use Rattle.cases.proofs.next_line.Tie as tie
-use Rattle.cases.proofs.next_line.Reads as reads
-use Rattle.cases.proofs.next_line.Lts as lts
 
 abbrev Inv-loop : tie.InvT-loop
 Inv-loop text from at₀ at = (from ≤ at) × (at ≤ length text)

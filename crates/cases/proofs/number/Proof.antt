@@ -3,9 +3,6 @@ use Prim.Native.Nat.{_-_}
 use borrow.Author.Needs.{needs}
 use Rattle.cases.proofs.number.Statement.{statement}
 use Rattle.cases.proofs.number.Tie as tie
-use Rattle.cases.proofs.number.Reads as reads
-use Rattle.cases.proofs.number.Lts as lts
-use Rattle.cases.proofs.digit.Reads as digit-reads
 
 abbrev Inv-loop : tie.InvT-loop
 Inv-loop line from to x₀ at₀ x at = Unit {0}

@@ -5,9 +5,6 @@ use lib.ListN.{length}
 use borrow.Author.Needs.{needs}
 use Rattle.cases.proofs.pattern.Statement.{statement}
 use Rattle.cases.proofs.pattern.Tie as tie
-use Rattle.cases.proofs.pattern.Reads as reads
-use Rattle.cases.proofs.pattern.Lts as lts
-use Rattle.io.proofs.buffer.Reads as buffer-reads
 
 abbrev Inv-loop : tie.InvT-loop
 Inv-loop b₀ k₀ b k = (k ≤ 4096) × (length b ≡ 4096)

@@ -4,9 +4,6 @@ use lib.ListN.{length}
 use borrow.Author.Needs.{needs}
 use Rattle.cases.proofs.show_bytes.Statement.{statement}
 use Rattle.cases.proofs.show_bytes.Tie as tie
-use Rattle.cases.proofs.show_bytes.Reads as reads
-use Rattle.cases.proofs.show_bytes.Lts as lts
-use Rattle.cases.proofs.show_byte.Reads as show-byte-reads
 
 abbrev Inv-loop : tie.InvT-loop
 Inv-loop b k₀ k = k ≤ length b

@@ -3,9 +3,6 @@ use Prim.Native.Nat.{_≤_, _-_}
 use borrow.Author.Needs.{needs}
 use Rattle.cases.proofs.show_masks.Statement.{statement}
 use Rattle.cases.proofs.show_masks.Tie as tie
-use Rattle.cases.proofs.show_masks.Reads as reads
-use Rattle.cases.proofs.show_masks.Lts as lts
-use Rattle.io.proofs.print_hex.Reads as print-hex-reads
 
 abbrev Inv-loop : tie.InvT-loop
 Inv-loop d i₀ i = i ≤ 32

@@ -3,8 +3,7 @@ use mathlib.Core.Path.{sym, _∙_}
 use Rattle.bounded.proofs.Truth.{T-of}
 use Rattle.problem.specs.Masks.{stateOf}
 use Rattle.held.proofs.Laws.{live-value}
-use Rattle.bounded.proofs.Guard.{guard}
-use Rattle.bounded.proofs.Guard.{met, unmet}
+use Rattle.bounded.proofs.Guard.{guard, met, unmet}
 use Rattle.extend.proofs.Plan.{entry-iff}
 use native.Mathlib.Omega.{arith}
 use borrow.Author.Needs.{needs}
