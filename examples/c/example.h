@@ -77,6 +77,20 @@ static inline int finish(int status)
     return status;
 }
 
+/* What a program does that is given one sheet and nothing else. */
+static inline int on_sheet(int argc, char **argv, int (*print)(const char *name, const uint8_t *sheet, size_t length))
+{
+    static uint8_t sheet[SHEET_ROOM];
+    size_t length;
+    if (argc != 2) {
+        return usage(argv[0], "SHEET");
+    }
+    if (!read_file(argv[1], sheet, sizeof sheet, &length)) {
+        return FAILED;
+    }
+    return finish(print(argv[1], sheet, length));
+}
+
 static inline unsigned count_bits(uint32_t x)
 {
     unsigned sum = 0;
