@@ -3,6 +3,9 @@
 //
 // The input is read in pieces into 65,536 bytes, so a line has at most that many, its newline included; the longest case has half of it.
 // A longer line ends the program with a line that says so, and that no file stdout has. The last line may end without a newline.
+ghost use Prim.Native.Nat.{_≤_};
+ghost use lib.ListN.{length};
+ghost use Rattle.io.specs.Counts.{Counts};
 use jobs::CallAnswer;
 use jobs::CallOutcome;
 use jobs::Extended;
@@ -12,9 +15,6 @@ use jobs::Reduced;
 use jobs::StartAnswer;
 use jobs::StartOutcome;
 use sheet::SheetRead;
-ghost use Prim.Native.Nat.{_≤_};
-ghost use lib.ListN.{length};
-ghost use Rattle.io.specs.Counts.{Counts};
 
 // A line `read SHEET`.
 fn do_read(fields: &[u8]) {

@@ -7,6 +7,8 @@ ghost use Rattle.trace.specs.Written.{written};
 ghost use Rattle.boundary.specs.State.{stateLength, numberBytes, masksBytes, masksIn};
 use problem::Masks;
 
+// ---- the state's bytes
+
 // The number of two bytes.
 fn word(hi: u8, lo: u8) -> u16
     ensures { λ r. ⌜ r ≡ hi * 256 + lo ⌝ }

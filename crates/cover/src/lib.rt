@@ -35,6 +35,8 @@ fn substitutes(
     w & row(t, i, l, a) == w
 }
 
+// ---- sets of variables
+
 // The active variables other than i and j.
 pub fn third_set(active: u32, i: usize, j: usize) -> u32
     requires { ⌜ (i < 32) × (j < 32) ⌝ }
@@ -42,6 +44,8 @@ pub fn third_set(active: u32, i: usize, j: usize) -> u32
 {
     without32(without32(active, i), j)
 }
+
+// ---- covering at a set of variables
 
 fn covers_at(
     t: &[u16],
@@ -87,6 +91,8 @@ pub fn covers(
     }
     true
 }
+
+// ---- a value in another's place
 
 fn served_by(
     t: &[u16],

@@ -6,6 +6,8 @@ ghost use lib.ListN.{length};
 ghost use Rattle.jobs.specs.Print.{decimal, field};
 ghost use Rattle.trace.specs.Written.{written};
 
+// ---- bytes
+
 // One byte.
 pub fn put_byte(out: &mut [u8], at: usize, v: u8) -> usize
     requires { ⌜ at + 1 ≤ length (now out) ⌝ }
@@ -27,6 +29,8 @@ pub fn put_bytes(out: &mut [u8], at: usize, w: &[u8]) -> usize
     }
     at + j
 }
+
+// ---- numbers
 
 // A number in decimal digits: those before the last one, if any, and the last one.
 pub fn put_decimal(out: &mut [u8], at: usize, x: usize) -> usize

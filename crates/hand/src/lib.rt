@@ -8,9 +8,9 @@ ghost use Rattle.bounded.specs.Mask.{bit};
 ghost use Rattle.problem.specs.Problem.{maxValues, stateFits, noneEmpty, snake as snakeHolds};
 ghost use Rattle.problem.specs.Masks.{stateOf, sets, Proper};
 ghost use Rattle.problem.specs.Held.{held, RowTable};
+ghost use Rattle.held.specs.Ready.{Ready};
 ghost use Rattle.sheet.specs.Sheet.{layout, Keeps};
 ghost use Rattle.sheet.specs.Relation.{problemOf};
-ghost use Rattle.held.specs.Ready.{Ready};
 ghost use Rattle.jobs.specs.Hand.{callRefused, callOver, callJob};
 ghost use Rattle.hand.specs.Parts.{fitsAt, callEliminated};
 use bounded::has32;
@@ -21,6 +21,8 @@ use jobs::ManualRefusal;
 use jobs::ManualState;
 use problem::Masks;
 use sheet::SheetRead;
+
+// ---- the refusals
 
 // Every member of x is below z.
 fn below(x: u16, z: usize) -> bool
@@ -84,6 +86,8 @@ fn lowest_snake(t: &[u16], active: u32, on: &[u16; 32], i: usize) -> usize
     }
     16
 }
+
+// ---- the call
 
 // "A refused hand call answers the state it was given."
 fn refused_call(r: ManualRefusal, st: ManualState) -> CallAnswer

@@ -4,16 +4,59 @@ ghost use mathlib.Core.Path.{_≡_};
 ghost use mathlib.Core.Bool.{true, false};
 ghost use Prim.Native.Nat.{_<_, _≤_, _+_, _*_};
 ghost use lib.ListN.{getD};
+ghost use lib.Dec.{ltb};
 ghost use Rattle.bounded.specs.Bounded.{imp};
 ghost use Rattle.bounded.specs.Mask.{bit, maskOf};
 ghost use Rattle.problem.specs.Problem.{noneEmpty, anyLive, full, sizeSum};
 ghost use Rattle.problem.specs.Held.{held, rowPlace, RowTable};
 ghost use Rattle.problem.specs.Masks.{stateOf, masksOf, sets, Proper};
 ghost use Rattle.held.specs.Ready.{Ready, Value};
-ghost use lib.Dec.{ltb};
 use bounded::has16;
 use bounded::has32;
 use problem::Masks;
+
+// ---- sizes
+
+// How many values variable i has.
+pub fn size(t: &[u16], i: usize) -> usize
+    requires { ⌜ RowTable (now t) × (i < 32) ⌝ }
+    ensures { λ r. ⌜ r ≡ (held (now (t .entry))) .size i ⌝ }
+{
+    t[i] as usize
+}
+
+// How many variables the table holds: a size of 0 ends them.
+pub fn variables(t: &[u16]) -> usize
+    requires { ⌜ RowTable (now t) ⌝ }
+    ensures { λ r. ⌜ r ≡ (held (now (t .entry))) .n ⌝ }
+{
+    let mut i: usize = 0;
+    while i < 32 {
+        if t[i] == 0 {
+            return i;
+        }
+        i += 1;
+    }
+    32
+}
+
+// The sum of the sizes that a table holds.
+pub fn size_sum(t: &[u16]) -> usize
+    requires { ⌜ RowTable (now t) ⌝ }
+    ensures is { λ r. ⌜ r ≡ sizeSum (held (now (t .entry))) ⌝ }
+    ensures within { λ r. ⌜ r ≤ 512 ⌝ }
+{
+    let n = variables(t);
+    let mut sum: usize = 0;
+    let mut i: usize = 0;
+    while i < n {
+        sum += t[i] as usize;
+        i += 1;
+    }
+    sum
+}
+
+// ---- rows
 
 // The values of j that are allowed with value a of i.
 pub fn row(t: &[u16], i: usize, j: usize, a: usize) -> u16
@@ -29,6 +72,16 @@ pub fn pair_allowed(t: &[u16], i: usize, a: usize, j: usize, b: usize) -> bool
     ensures { λ r. ⌜ r ≡ (held (now (t .entry))) .allowed i a j b ⌝ }
 {
     (i != j) & has16(row(t, i, j, a), b)
+}
+
+// ---- a state
+
+// Value v is in the domain of variable i.
+pub fn is_live(active: u32, on: &[u16; 32], i: usize, v: usize) -> bool
+    requires { ⌜ Proper (sets active (now on)) × (i < 32) ⌝ }
+    ensures { λ r. ⌜ r ≡ (stateOf (sets active (now (on .entry)))) .live i v ⌝ }
+{
+    if v < 16 { has16(on[i], v) } else { false }
 }
 
 fn some_value(t: &[u16], active: u32, on: &[u16; 32], l: usize) -> bool
@@ -53,6 +106,8 @@ pub fn none_empty(t: &[u16], active: u32, on: &[u16; 32]) -> bool
     true
 }
 
+// ---- the first state
+
 // The set of the variables below z.
 fn variables_below(z: usize) -> u32
     requires { ⌜ z ≤ 32 ⌝ }
@@ -67,21 +122,6 @@ fn values_below(z: usize) -> u16
     ensures { λ r. ⌜ r ≡ maskOf 16 (λ c. ltb c z) ⌝ }
 {
     (bounded::power(z) - 1) as u16
-}
-
-// How many variables the table holds: a size of 0 ends them.
-pub fn variables(t: &[u16]) -> usize
-    requires { ⌜ RowTable (now t) ⌝ }
-    ensures { λ r. ⌜ r ≡ (held (now (t .entry))) .n ⌝ }
-{
-    let mut i: usize = 0;
-    while i < 32 {
-        if t[i] == 0 {
-            return i;
-        }
-        i += 1;
-    }
-    32
 }
 
 // The domain of i in the first state, of a table of n variables.
@@ -110,36 +150,4 @@ pub fn full_masks(t: &[u16]) -> Masks
         i += 1;
     }
     m
-}
-
-// The sum of the sizes that a table holds.
-pub fn size_sum(t: &[u16]) -> usize
-    requires { ⌜ RowTable (now t) ⌝ }
-    ensures is { λ r. ⌜ r ≡ sizeSum (held (now (t .entry))) ⌝ }
-    ensures within { λ r. ⌜ r ≤ 512 ⌝ }
-{
-    let n = variables(t);
-    let mut sum: usize = 0;
-    let mut i: usize = 0;
-    while i < n {
-        sum += t[i] as usize;
-        i += 1;
-    }
-    sum
-}
-
-// How many values variable i has.
-pub fn size(t: &[u16], i: usize) -> usize
-    requires { ⌜ RowTable (now t) × (i < 32) ⌝ }
-    ensures { λ r. ⌜ r ≡ (held (now (t .entry))) .size i ⌝ }
-{
-    t[i] as usize
-}
-
-// Value v is in the domain of variable i.
-pub fn is_live(active: u32, on: &[u16; 32], i: usize, v: usize) -> bool
-    requires { ⌜ Proper (sets active (now on)) × (i < 32) ⌝ }
-    ensures { λ r. ⌜ r ≡ (stateOf (sets active (now (on .entry)))) .live i v ⌝ }
-{
-    if v < 16 { has16(on[i], v) } else { false }
 }

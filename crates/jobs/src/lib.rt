@@ -1,11 +1,11 @@
 // What each job of the format answers: the types, and the format's number for each refusal. The definitions of specs/ say which
 // answer each input gets; the crates of the jobs prove their code equal to them.
+ghost use mathlib.Core.Path.{_≡_};
+ghost use Rattle.jobs.specs.Numbers.{reduceNumber, manualNumber, extendNumber, endNumber};
 use problem::End;
 use problem::Masks;
 use problem::Record;
 use sheet::SheetRefusal;
-ghost use mathlib.Core.Path.{_≡_};
-ghost use Rattle.jobs.specs.Numbers.{reduceNumber, manualNumber, extendNumber, endNumber};
 
 // Why a run is refused.
 pub enum ReduceRefusal {

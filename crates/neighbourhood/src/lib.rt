@@ -5,8 +5,8 @@ ghost use Prim.Native.Nat.{_<_, _+_};
 ghost use Rattle.problem.specs.Problem.{neighbourhood as neighbourhoodHolds};
 ghost use Rattle.problem.specs.Held.{held};
 ghost use Rattle.problem.specs.Masks.{stateOf, sets};
-ghost use Rattle.held.specs.Ready.{Ready};
 ghost use Rattle.problem.specs.Reduce.{nextNeighbourhood};
+ghost use Rattle.held.specs.Ready.{Ready};
 ghost use Rattle.neighbourhood.specs.Parts.{neighbourhoodValue, neighbourhoodVariable};
 use bounded::has16;
 use bounded::has32;
@@ -28,6 +28,11 @@ pub fn neighbourhood(t: &[u16], active: u32, on: &[u16; 32], i: usize, b: usize,
         false
     }
 }
+
+// ---- the search
+
+// A field at a time, the lowest first. A variable that is not active and a value that is not in a domain make no step, so they are passed
+// over without a test.
 
 // The lowest value that covers value b of i at every other variable.
 fn neighbourhood_value(t: &[u16], active: u32, on: &[u16; 32], i: usize, b: usize) -> Next

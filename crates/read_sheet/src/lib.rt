@@ -16,6 +16,8 @@ use sheet::takes;
 use sheet::two;
 use sheet::width_of;
 
+// ---- rows
+
 // Whether one of k rows of w bytes from p has a bit for a setting that an item of z settings lacks.
 fn some_beyond(s: &[u8], w: usize, z: usize, k: usize, p: usize) -> bool
     requires { ⌜ Inside (length (now s)) w z k p ⌝ }
@@ -51,6 +53,8 @@ fn allows_all(s: &[u8], w: usize, z: usize, k: usize, p: usize) -> bool
     }
     true
 }
+
+// ---- blocks
 
 // Whether i < j < n, and the pair comes after the block before.
 fn in_order(s: &[u8], least: usize, i: usize, j: usize) -> bool
@@ -134,6 +138,8 @@ fn blocks(s: &[u8]) -> SheetRead
         blocks: m,
     }
 }
+
+// ---- the sheet
 
 // Whether a size, of n items from the byte at p, is 0 or above 16.
 fn bad_sizes(s: &[u8], n: usize, p: usize) -> bool

@@ -20,6 +20,8 @@ use trace::moved;
 use trace::peek;
 use trace::placed;
 
+// ---- the answer
+
 // What checking a trace finds.
 pub enum TraceCheck {
     Lawful,
@@ -31,6 +33,8 @@ pub struct TraceEnd {
     pub check: TraceCheck,
     pub state: Masks,
 }
+
+// ---- one record, with any numbers in its fields
 
 fn holds_unsupported(t: &[u16], active: u32, on: &[u16; 32], i: usize, b: usize, k: usize) -> bool
     requires { ⌜ Ready (now t) (sets active (now on)) ⌝ }
@@ -120,6 +124,8 @@ pub fn apply(t: &[u16], m: Masks, r: Record) -> Masks
 {
     steps::apply(t, m, r)
 }
+
+// ---- the trace
 
 // The answer at a fault.
 fn fault(e: ExtendRefusal) -> TraceEnd

@@ -1,9 +1,4 @@
 // The whole text that the program prints for a sheet, written to the front of a lent buffer.
-use bounded::has32;
-use jobs::RecordRead;
-use jobs::ReduceOutcome;
-use problem::End;
-use problem::Masks;
 ghost use mathlib.Core.Path.{_≡_};
 ghost use Prim.Native.Nat.{_+_, _*_, _≤_};
 ghost use lib.ListN.{length};
@@ -17,6 +12,11 @@ ghost use Rattle.jobs.specs.Print.{stepLines, runLines, sheetLines};
 ghost use Rattle.trace.specs.Written.{written};
 ghost use Rattle.report.specs.Records.{recordsIn};
 ghost use Rattle.report.specs.Report.{reportRoom, reportText, Ran};
+use bounded::has32;
+use jobs::RecordRead;
+use jobs::ReduceOutcome;
+use problem::End;
+use problem::Masks;
 
 // ---- counts of the last state
 

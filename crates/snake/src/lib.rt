@@ -7,10 +7,10 @@ ghost use Rattle.bounded.specs.Mask.{bit};
 ghost use Rattle.problem.specs.Problem.{allOther, snake as snakeHolds, snakeServes};
 ghost use Rattle.problem.specs.Held.{held};
 ghost use Rattle.problem.specs.Masks.{stateOf, sets};
+ghost use Rattle.problem.specs.Reduce.{nextSnake};
 ghost use Rattle.held.specs.Ready.{Ready, Value};
 ghost use Rattle.cover.specs.Words.{others};
 ghost use Rattle.snake.specs.Parts.{snakeAt, snakeVariable};
-ghost use Rattle.problem.specs.Reduce.{nextSnake};
 use bounded::has16;
 use bounded::has32;
 use bounded::without32;
@@ -84,6 +84,11 @@ pub fn snake(t: &[u16], active: u32, on: &[u16; 32], i: usize, v: usize) -> bool
         false
     }
 }
+
+// ---- the search
+
+// A field at a time, the lowest first. A variable that is not active and a value that is not in a domain make no step, so they are passed
+// over without a test.
 
 fn snake_variable(t: &[u16], active: u32, on: &[u16; 32], i: usize) -> Next
     requires { ⌜ Ready (now t) (sets active (now on)) × (i < 32) ⌝ }

@@ -7,10 +7,10 @@ ghost use Rattle.bounded.specs.Mask.{bit};
 ghost use Rattle.problem.specs.Problem.{allOther, slideSpares, snakeSubstitution};
 ghost use Rattle.problem.specs.Held.{held};
 ghost use Rattle.problem.specs.Masks.{stateOf, sets};
+ghost use Rattle.problem.specs.Reduce.{nextSnakeSubstitution};
 ghost use Rattle.held.specs.Ready.{Ready, Value};
 ghost use Rattle.cover.specs.Words.{others};
 ghost use Rattle.snake_substitution.specs.Parts.{slideAt, slideSet, substitutionValue, substitutionVariable};
-ghost use Rattle.problem.specs.Reduce.{nextSnakeSubstitution};
 use bounded::has16;
 use bounded::has32;
 use bounded::without32;
@@ -86,6 +86,11 @@ pub fn snake_substitution(
         false
     }
 }
+
+// ---- the search
+
+// A field at a time, the lowest first. A variable that is not active and a value that is not in a domain make no step, so they are passed
+// over without a test.
 
 // The lowest value for which value b of i goes off by the slide rule.
 fn substitution_value(t: &[u16], active: u32, on: &[u16; 32], i: usize, b: usize) -> Next

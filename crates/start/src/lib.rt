@@ -6,9 +6,9 @@ ghost use Rattle.problem.specs.Problem.{full};
 ghost use Rattle.problem.specs.Manual.{prune, pruneTimes};
 ghost use Rattle.problem.specs.Masks.{stateOf, masksOf, sets};
 ghost use Rattle.problem.specs.Held.{held, RowTable};
+ghost use Rattle.held.specs.Ready.{Ready};
 ghost use Rattle.sheet.specs.Sheet.{layout, Keeps};
 ghost use Rattle.sheet.specs.Relation.{problemOf};
-ghost use Rattle.held.specs.Ready.{Ready};
 ghost use Rattle.jobs.specs.Hand.{startRefused, startOver, startJob};
 ghost use Rattle.start.specs.Parts.{noneBare, domainLeft, sameDomains, maxTurns};
 use bounded::has16;
@@ -18,6 +18,8 @@ use jobs::StartOutcome;
 use problem::Masks;
 use sheet::SheetRead;
 use sheet::SheetRefusal;
+
+// ---- one sweep
 
 // At no other active variable is value a of i without a support.
 fn none_bare(t: &[u16], active: u32, on: &[u16; 32], i: usize, a: usize) -> bool
@@ -72,6 +74,8 @@ fn prune_once(t: &[u16], m: Masks) -> Masks
     }
     r
 }
+
+// ---- the start
 
 fn same_domains(x: Masks, y: Masks) -> bool
     ensures { λ r. ⌜ r ≡ sameDomains x y ⌝ }

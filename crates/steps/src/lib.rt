@@ -4,9 +4,9 @@ ghost use Prim.Native.Nat.{_<_, _+_};
 ghost use Rattle.problem.specs.Problem.{remove as removed, eliminate as eliminated};
 ghost use Rattle.problem.specs.Held.{held, RowTable};
 ghost use Rattle.problem.specs.Masks.{stateOf, masksOf, sets};
+ghost use Rattle.problem.specs.Reduce.{after};
 ghost use Rattle.held.specs.Ready.{Ready};
 ghost use Rattle.steps.specs.Words.{domainAfter, partnersOf};
-ghost use Rattle.problem.specs.Reduce.{after};
 ghost use Rattle.steps.specs.Steps.{Within};
 use bounded::has16;
 use bounded::without16;
@@ -14,6 +14,8 @@ use bounded::without32;
 use held::row;
 use problem::Masks;
 use problem::Record;
+
+// ---- a value removed
 
 // Value b goes off at i.
 pub fn remove(t: &[u16], m: Masks, i: usize, b: usize) -> Masks
@@ -24,6 +26,8 @@ pub fn remove(t: &[u16], m: Masks, i: usize, b: usize) -> Masks
     r.domains[i] = without16(m.domains[i], b);
     r
 }
+
+// ---- a variable eliminated
 
 // The values of j with a support at i: the union of the rows of i's domain.
 fn partners(t: &[u16], domain: u16, i: usize, j: usize) -> u16
@@ -68,6 +72,8 @@ pub fn eliminate(t: &[u16], m: Masks, i: usize) -> Masks
     }
     r
 }
+
+// ---- a step
 
 // The state after a step. Kinds 1, 4 and 5 take a value out of a domain; kinds 2 and 3 take a variable out and, in the same step, each
 // value elsewhere that had no support at it.

@@ -19,6 +19,8 @@ use sheet::row_bytes;
 use sheet::two;
 use sheet::width_of;
 
+// ---- what a sheet allows
+
 // Whether the item bytes at p are i and j.
 fn is_pair(s: &[u8], p: usize, i: usize, j: usize) -> bool
     requires { ⌜ p + 1 < length (now s) ⌝ }
@@ -94,6 +96,8 @@ pub fn size_sum(s: &[u8]) -> usize
     }
     sum
 }
+
+// ---- the table
 
 // The row of a of i towards the lower item j, whose rows start at r: bit b is bit a of j's row b, for each of z settings of j.
 fn turned(s: &[u8], i: usize, a: usize, j: usize, r: usize, z: usize) -> usize

@@ -1,6 +1,4 @@
 // A trace's records: the one at a place of a trace, and one written at a place of a lent buffer.
-use jobs::RecordRead;
-use problem::Record;
 ghost use mathlib.Core.Path.{_≡_};
 ghost use mathlib.Core.List.{_∷_, []};
 ghost use Prim.Native.Nat.{_+_, _<_, _≤_};
@@ -9,6 +7,8 @@ ghost use Rattle.sheet.specs.Bytes.{byteAt};
 ghost use Rattle.jobs.specs.Trace.{recordBytes, lengthByte, recordOf, recordAt};
 ghost use Rattle.trace.specs.Written.{written, Small};
 ghost use Rattle.trace.specs.Place.{placeAfter};
+use jobs::RecordRead;
+use problem::Record;
 
 // ---- reading
 

@@ -9,10 +9,10 @@ ghost use Rattle.bounded.specs.Mask.{bit};
 ghost use Rattle.problem.specs.Problem.{allLive, triangle as triangleHolds, triangleServes};
 ghost use Rattle.problem.specs.Held.{held};
 ghost use Rattle.problem.specs.Masks.{stateOf, sets};
+ghost use Rattle.problem.specs.Reduce.{nextTriangle};
 ghost use Rattle.held.specs.Ready.{Ready, Value};
 ghost use Rattle.cover.specs.Words.{thirds};
 ghost use Rattle.triangle.specs.Parts.{foldAt, triangleVariable};
-ghost use Rattle.problem.specs.Reduce.{nextTriangle};
 use bounded::has16;
 use bounded::has32;
 use cover::covers;
@@ -82,6 +82,11 @@ pub fn triangle(t: &[u16], active: u32, on: &[u16; 32], i: usize, j: usize) -> b
         false
     }
 }
+
+// ---- the search
+
+// A field at a time, the lowest first. A variable that is not active and a value that is not in a domain make no step, so they are passed
+// over without a test.
 
 fn triangle_variable(t: &[u16], active: u32, on: &[u16; 32], i: usize) -> Next
     requires { ⌜ Ready (now t) (sets active (now on)) × (i < 32) ⌝ }

@@ -10,8 +10,8 @@ ghost use Rattle.problem.specs.Extend.{undo};
 ghost use Rattle.problem.specs.Held.{held};
 ghost use Rattle.problem.specs.Masks.{stateOf, sets};
 ghost use Rattle.problem.specs.declared.Record.the-variants.{Snake, Triangle};
-ghost use Rattle.sheet.specs.Bytes.{Is};
 ghost use Rattle.held.specs.Ready.{Ready, Value};
+ghost use Rattle.sheet.specs.Bytes.{Is};
 ghost use Rattle.jobs.specs.PutBack.{planOf};
 ghost use Rattle.replay.specs.Walk.{checkedFrom};
 ghost use Rattle.undo.specs.Undone.{mended as mendedAt, Left, Undoable, UndoableFrom, undoneBy};
@@ -26,6 +26,8 @@ use trace::Reader;
 use trace::moved;
 use trace::peek;
 use trace::placed;
+
+// ---- undoing kind 2
 
 fn serves_snake(
     t: &[u16],
@@ -115,6 +117,8 @@ fn undo_snake(t: &[u16], active: u32, on: &[u16; 32], i: usize, v: usize, out: &
     out[i] = v as u8;
 }
 
+// ---- undoing kind 3
+
 fn serves_triangle(
     t: &[u16],
     active: u32,
@@ -156,6 +160,8 @@ fn undo_triangle(t: &[u16], active: u32, on: &[u16; 32], i: usize, j: usize, out
 {
     out[i] = lowest_triangle(t, active, on, i, j, out[j] as usize) as u8;
 }
+
+// ---- undoing a trace
 
 // One record undone against the state before it. Kinds 1, 4 and 5 change nothing.
 fn undo_record(t: &[u16], m: Masks, r: Record, out: &mut [u8])

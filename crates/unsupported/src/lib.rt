@@ -6,8 +6,8 @@ ghost use Prim.Native.Nat.{_<_, _+_};
 ghost use Rattle.problem.specs.Problem.{allLive, unsupported as unsupportedHolds};
 ghost use Rattle.problem.specs.Held.{held};
 ghost use Rattle.problem.specs.Masks.{stateOf, sets};
-ghost use Rattle.held.specs.Ready.{Ready, Value};
 ghost use Rattle.problem.specs.Reduce.{nextUnsupported};
+ghost use Rattle.held.specs.Ready.{Ready, Value};
 ghost use Rattle.unsupported.specs.Parts.{unsupportedValue, unsupportedVariable};
 use bounded::has16;
 use bounded::has32;
@@ -34,6 +34,11 @@ pub fn unsupported(t: &[u16], active: u32, on: &[u16; 32], i: usize, b: usize, k
         false
     }
 }
+
+// ---- the search
+
+// A field at a time, the lowest first. A variable that is not active and a value that is not in a domain make no step, so they are passed
+// over without a test.
 
 // The lowest k at which value b of i has no support.
 fn unsupported_value(t: &[u16], active: u32, on: &[u16; 32], i: usize, b: usize) -> Next
