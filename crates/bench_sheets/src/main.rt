@@ -72,6 +72,11 @@ fn show_run(a: Reduced, b: &[u8]) {
             cases::show_masks(a.state);
         }
     }
+    show_buffer(b);
+}
+
+// The buffer at the end of an answer's line.
+fn show_buffer(b: &[u8]) {
     cases::show(b" ");
     cases::show_bytes(b);
     cases::show(b"\n");
@@ -161,9 +166,7 @@ fn show_back(a: Extended, out: &[u8]) {
             cases::show(b"done");
         }
     }
-    cases::show(b" ");
-    cases::show_bytes(out);
-    cases::show(b"\n");
+    show_buffer(out);
 }
 
 // A line: its first letter names the job, and the fields stand behind the first space. One too short for a job's word is passed over.

@@ -22,10 +22,10 @@ pair : (c : tie.Else1) → let a = c .before .before .before .args in (a .i < va
 pair c =
     let a = c .before .before .before .args in
     let o = in-order layout (now (a .s)) (a .least) (a .i) (a .j) (ordered c) in
-    (omega arith, o .1 .0)
+    (omega (arith, o .0, o .1 .0), o .1 .0)
 
 whole : (c : tie.Else2) → let a = c .before .before .before .before .before .args in a .p + 2 + rowBytes layout (now (a .s)) (a .i) (a .j) ≤ length (now (a .s))
-whole c = let e = c .before .row-bytes .ensures .is in omega arith
+whole c = omega (arith, c .before .row-bytes .ensures .is, c .if2 .left, c .before .before .before .before .before .pre .1)
 
 rows : (c : tie.After-byte2) → Inside (length (now (c .before .before .before .before .before .before .before .before .args .s))) (c .before .before .width-of .result) (c .before .byte .result) (c .byte2 .result) (c .before .before .before .before .before .before .before .before .args .p + 2)
 rows c =
@@ -33,8 +33,8 @@ rows c =
     let f = c .before .before .before .before .before .before .before .before .pre .0 .sizes (a .j) (pair (c .before .before .before .before .before) .1) in
     let h = whole (c .before .before .before) in
     let w = c .before .before .width-of .ensures in
-    let e : c .byte2 .result * c .before .before .width-of .result ≡ rowBytes layout (now (a .s)) (a .i) (a .j) = cc in
-    record { some = w .some; few = w .few; size = omega arith; within = omega arith }
+    let e : c .byte2 .result * c .before .before .width-of .result ≡ rowBytes layout (now (a .s)) (a .i) (a .j) = rw (c .byte2 .ensures .is, w .is) in
+    record { some = w .some; few = w .few; size = omega (arith, c .before .byte .ensures .is, f .1); within = omega (arith, h, e) }
 
 seen-beyond : (c : tie.After-some-beyond) → let a = c .before .before .before .before .before .before .before .before .before .args in let s = now (a .s) in
     c .some-beyond .result ≡ beyond layout s (rowWidth layout s (a .j)) (sizeAt s (a .j)) (sizeAt s (a .i)) (a .p + 2)
@@ -60,7 +60,7 @@ sub-if2 : tie.Need-sub-if2
 sub-if2 c = search needs
 
 returns-2 : tie.Need-returns-2
-returns-2 c = sym (block-cut _ _ _ _ _ _ (ordered (c .before .before)) (let e = c .before .row-bytes .ensures .is in omega arith))
+returns-2 c = sym (block-cut _ _ _ _ _ _ (ordered (c .before .before)) (omega (arith, c .before .row-bytes .ensures .is, c .if2 .taken)))
 
 width-of-requires : tie.Need-width-of-requires
 width-of-requires c κs = (c .before .before .before .before .before .pre .0, pair (c .before .before) .1)
@@ -69,13 +69,13 @@ add-byte : tie.Need-add-byte
 add-byte c = let h = pair (c .before .before .before) in let f = c .before .before .before .before .before .before .pre .0 .room in search needs
 
 byte-requires : tie.Need-byte-requires
-byte-requires c κs = let h = pair (c .before .before .before) in let f = c .before .before .before .before .before .before .pre .0 .room in omega arith
+byte-requires c κs = omega (arith, pair (c .before .before .before) .1, c .before .before .before .before .before .before .pre .0 .room)
 
 add-byte-2 : tie.Need-add-byte-2
 add-byte-2 c = let h = pair (c .before .before .before .before) in let f = c .before .before .before .before .before .before .before .pre .0 .room in search needs
 
 byte-requires-2 : tie.Need-byte-requires-2
-byte-requires-2 c κs = let h = pair (c .before .before .before .before) in let f = c .before .before .before .before .before .before .before .pre .0 .room in omega arith
+byte-requires-2 c κs = omega (arith, pair (c .before .before .before .before) .0, c .before .before .before .before .before .before .before .pre .0 .room)
 
 some-beyond-requires : tie.Need-some-beyond-requires
 some-beyond-requires c κs = rows c
