@@ -15,7 +15,6 @@ use bounded::has16;
 use bounded::has32;
 use bounded::without32;
 use held::row;
-use problem::Masks;
 
 // Value a of i covers value b of j at l.
 fn substitutes(

@@ -118,7 +118,7 @@ fn lawful(t: &[u16], active: u32, on: &[u16; 32], r: Record) -> bool
 }
 
 // The state after a lawful record.
-pub fn apply(t: &[u16], m: Masks, r: Record) -> Masks
+pub fn after_lawful(t: &[u16], m: Masks, r: Record) -> Masks
     requires { ⌜ Ready (now t) m × T (lawfulAt (held (now t)) (stateOf m) r) ⌝ }
     ensures { λ x. ⌜ x ≡ masksOf (after (held (now (t .entry))) (stateOf m) r) ⌝ }
 {
@@ -171,7 +171,7 @@ fn check_record(t: &[u16], c: Checking, x: RecordRead) -> Checking
     match x {
         RecordRead::Read { record, next: _ } => {
             if lawful(t, m.active, &m.domains, record) {
-                going(apply(t, m, record))
+                going(after_lawful(t, m, record))
             } else {
                 stopped(fault(ExtendRefusal::Unlawful))
             }

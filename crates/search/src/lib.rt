@@ -6,7 +6,6 @@ ghost use Rattle.problem.specs.Masks.{stateOf, sets};
 ghost use Rattle.problem.specs.Reduce.{nextOfKind, next as nextOf};
 ghost use Rattle.held.specs.Ready.{Ready};
 use neighbourhood::next_neighbourhood;
-use problem::Masks;
 use problem::Next;
 use problem::is_step;
 use snake::next_snake;

@@ -1,4 +1,4 @@
-// A trace's records: the one at a place of a trace, and one written at a place of a lent buffer.
+// A trace's records: the reader that moves through them, what stands at a place, and one written at a place of a lent buffer.
 ghost use mathlib.Core.Path.{_≡_};
 ghost use mathlib.Core.List.{_∷_, []};
 ghost use Prim.Native.Nat.{_+_, _<_, _≤_};

@@ -21,7 +21,7 @@ use held::is_live;
 use jobs::RecordRead;
 use problem::Masks;
 use problem::Record;
-use replay::apply;
+use replay::after_lawful;
 use trace::Reader;
 use trace::moved;
 use trace::peek;
@@ -194,7 +194,7 @@ fn after_found(t: &[u16], m: Masks, x: RecordRead) -> Masks
     ensures { λ r. ⌜ r ≡ afterFound (held (now (t .entry))) m x ⌝ }
 {
     match x {
-        RecordRead::Read { record, next: _ } => apply(t, m, record),
+        RecordRead::Read { record, next: _ } => after_lawful(t, m, record),
         RecordRead::End => m,
         RecordRead::Malformed => m,
     }

@@ -16,8 +16,8 @@ enum-known-x c = search needs
 lawful-requires : tie.Need-lawful-requires
 lawful-requires c κs = search needs
 
-apply-requires : tie.Need-apply-requires
-apply-requires c κs = (c .before .before .before .before .before .before .before .before .before .before .pre, T-of (sym (c .before .lawful .ensures) ∙ c .if1 .taken))
+after-lawful-requires : tie.Need-after-lawful-requires
+after-lawful-requires c κs = (c .before .before .before .before .before .before .before .before .before .before .pre, T-of (sym (c .before .lawful .ensures) ∙ c .if1 .taken))
 
 going-requires : tie.Need-going-requires
 going-requires c κs = search needs
@@ -44,7 +44,7 @@ stopped-requires-3 : tie.Need-stopped-requires-3
 stopped-requires-3 c κs = search needs
 
 returns : tie.Need-returns
-returns c = let a = c .before .before .before .before .before .before .before .before .before .before .before .before .args in let x = c .before .before .before .before .before .before .before .x .given in let P = held (a .t .now) in let w = a .c in c .going .ensures ∙ ap goingOn (c .before .apply .ensures) ∙ sym (ap (checkedTurn P w) (x .1) ∙ ap (λ (b : Bool). ruledTurn b (masksOf (after P (stateOf (w .end .state)) (x .0 .0)))) (sym (c .before .before .before .lawful .ensures) ∙ c .before .before .if1 .taken))
+returns c = let a = c .before .before .before .before .before .before .before .before .before .before .before .before .args in let x = c .before .before .before .before .before .before .before .x .given in let P = held (a .t .now) in let w = a .c in c .going .ensures ∙ ap goingOn (c .before .after-lawful .ensures) ∙ sym (ap (checkedTurn P w) (x .1) ∙ ap (λ (b : Bool). ruledTurn b (masksOf (after P (stateOf (w .end .state)) (x .0 .0)))) (sym (c .before .before .before .lawful .ensures) ∙ c .before .before .if1 .taken))
 
 returns-2 : tie.Need-returns-2
 returns-2 c = let a = c .before .before .before .before .before .before .before .before .before .before .before .before .args in let x = c .before .before .before .before .before .before .before .x .given in let P = held (a .t .now) in let w = a .c in c .stopped .ensures ∙ ap stoppedWith (c .before .fault .ensures) ∙ sym (ap (checkedTurn P w) (x .1) ∙ ap (λ (b : Bool). ruledTurn b (masksOf (after P (stateOf (w .end .state)) (x .0 .0)))) (sym (c .before .before .before .lawful .ensures) ∙ c .before .before .if1 .left))
@@ -61,7 +61,7 @@ check-record-spec =
     (tie.spec
     enum-known-x
     lawful-requires
-    apply-requires
+    after-lawful-requires
     going-requires
     fault-requires
     stopped-requires

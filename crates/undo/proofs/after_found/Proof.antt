@@ -9,8 +9,8 @@ use Rattle.undo.proofs.after_found.Tie as tie
 enum-known-x : tie.Need-enum-known-x
 enum-known-x c = search needs
 
-apply-requires : tie.Need-apply-requires
-apply-requires c κs = let p = c .before .before .before .before .pre in let a = c .before .before .before .before .args in (p .0, subst (LawfulFound (a .t .now) (a .m)) (c .before .x .given .1) (p .1))
+after-lawful-requires : tie.Need-after-lawful-requires
+after-lawful-requires c κs = let p = c .before .before .before .before .pre in let a = c .before .before .before .before .args in (p .0, subst (LawfulFound (a .t .now) (a .m)) (c .before .x .given .1) (p .1))
 
 enum-told : tie.Need-enum-told
 enum-told c = search needs
@@ -19,7 +19,7 @@ enum-told-2 : tie.Need-enum-told-2
 enum-told-2 c = search needs
 
 returns : tie.Need-returns
-returns c = let a = c .before .before .before .before .before .args in c .apply .ensures ∙ sym (ap (afterFound (held (a .t .now)) (a .m)) (c .before .before .x .given .1))
+returns c = let a = c .before .before .before .before .before .args in c .after-lawful .ensures ∙ sym (ap (afterFound (held (a .t .now)) (a .m)) (c .before .before .x .given .1))
 
 returns-2 : tie.Need-returns-2
 returns-2 c = search needs
@@ -30,4 +30,4 @@ returns-3 c = search needs
 pub after-found-spec : {M : Type 1} → statement M
 after-found-spec =
     tie.close
-    (tie.spec enum-known-x apply-requires enum-told enum-told-2 returns returns-2 returns-3)
+    (tie.spec enum-known-x after-lawful-requires enum-told enum-told-2 returns returns-2 returns-3)
