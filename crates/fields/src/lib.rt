@@ -1,10 +1,13 @@
-// Bytes, decimal numbers and fields of a line, written into a lent buffer at a place. Each function answers the place after its text.
+// Bytes, decimal numbers and the fields of a line, those of a step among them, written into a lent buffer at a place. Each function answers
+// the place after its text.
 ghost use mathlib.Core.Path.{_≡_};
 ghost use mathlib.Core.List.{_∷_, _++_, []};
 ghost use Prim.Native.Nat.{_+_, _<_, _≤_};
 ghost use lib.ListN.{length};
 ghost use Rattle.jobs.specs.Print.{decimal, field};
-ghost use Rattle.trace.specs.Written.{written};
+ghost use Rattle.trace.specs.Written.{written, Small};
+ghost use Rattle.fields.specs.Parts.{stepFields};
+use problem::Record;
 
 // ---- bytes
 
@@ -56,7 +59,7 @@ pub fn put_field(out: &mut [u8], at: usize, x: usize) -> usize
 }
 
 // Two fields.
-pub fn put_two(out: &mut [u8], at: usize, x: usize, y: usize) -> usize
+fn put_two(out: &mut [u8], at: usize, x: usize, y: usize) -> usize
     requires { ⌜ (x < 100000) × ((y < 100000) × (at + 12 ≤ length (now out))) ⌝ }
     ensures text { λ r. ⌜ (now (out .exit) ≡ written (now (out .entry)) at (field x ++ field y)) × (r ≡ at + length (field x ++ field y)) ⌝ }
     ensures within { λ r. ⌜ r ≤ at + 12 ⌝ }
@@ -66,11 +69,40 @@ pub fn put_two(out: &mut [u8], at: usize, x: usize, y: usize) -> usize
 }
 
 // Three fields.
-pub fn put_three(out: &mut [u8], at: usize, x: usize, y: usize, z: usize) -> usize
+fn put_three(out: &mut [u8], at: usize, x: usize, y: usize, z: usize) -> usize
     requires { ⌜ (x < 100000) × ((y < 100000) × ((z < 100000) × (at + 18 ≤ length (now out)))) ⌝ }
     ensures text { λ r. ⌜ (now (out .exit) ≡ written (now (out .entry)) at (field x ++ (field y ++ field z))) × (r ≡ at + length (field x ++ (field y ++ field z))) ⌝ }
     ensures within { λ r. ⌜ r ≤ at + 18 ⌝ }
 {
     let p = put_field(out, at, x);
     put_two(out, p, y, z)
+}
+
+// Three fields and the end of the line.
+pub fn put_three_end(out: &mut [u8], at: usize, x: usize, y: usize, z: usize) -> usize
+    requires { ⌜ (x < 100000) × ((y < 100000) × ((z < 100000) × (at + 19 ≤ length (now out)))) ⌝ }
+    ensures text { λ r. ⌜ (now (out .exit) ≡ written (now (out .entry)) at (field x ++ (field y ++ (field z ++ (10 ∷ []))))) × (r ≡ at + length (field x ++ (field y ++ (field z ++ (10 ∷ []))))) ⌝ }
+    ensures within { λ r. ⌜ r ≤ at + 19 ⌝ }
+{
+    let p = put_field(out, at, x);
+    let q = put_field(out, p, y);
+    let s = put_field(out, q, z);
+    put_byte(out, s, 10)
+}
+
+// ---- a step
+
+// The fields of a step after its kind.
+pub fn put_step_fields(out: &mut [u8], at: usize, r: Record) -> usize
+    requires { ⌜ (at + 18 ≤ length (now out)) × Small r ⌝ }
+    ensures text { λ q. ⌜ (now (out .exit) ≡ written (now (out .entry)) at (stepFields r)) × (q ≡ at + length (stepFields r)) ⌝ }
+    ensures within { λ q. ⌜ q ≤ at + 18 ⌝ }
+{
+    match r {
+        Record::Unsupported(i, b, k) => put_three(out, at, i, b, k),
+        Record::Snake(i, v) => put_two(out, at, i, v),
+        Record::Triangle(i, j) => put_two(out, at, i, j),
+        Record::Neighbourhood(i, b, a) => put_three(out, at, i, b, a),
+        Record::SnakeSubstitution(i, b, a) => put_three(out, at, i, b, a),
+    }
 }

@@ -5,7 +5,8 @@ use Prim.Native.Nat.{_+_}
 use Rattle.problem.specs.declared.Record.{Record}
 use Rattle.problem.specs.declared.Record.the-variants.{Unsupported, Snake, Triangle, Neighbourhood, SnakeSubstitution}
 use Rattle.jobs.specs.Print.{stepText}
-use Rattle.text.specs.Parts.{stepWord, stepFields}
+use Rattle.text.specs.Parts.{stepWord}
+use Rattle.fields.specs.Parts.{stepFields}
 
 -- the word and then the fields
 pub step-parts : (r : Record) → stepText r ≡ stepWord r ++ stepFields r

@@ -5,17 +5,15 @@ ghost use Prim.Native.Nat.{_+_, _<_, _≤_};
 ghost use lib.ListN.{length};
 ghost use Rattle.jobs.specs.Print.{decimal, field, sheetWord, stepText, endWord, refusedLine};
 ghost use Rattle.trace.specs.Written.{written, Small};
-ghost use Rattle.text.specs.Parts.{stepWord, stepFields};
+ghost use Rattle.text.specs.Parts.{stepWord};
 use fields::put_byte;
 use fields::put_bytes;
 use fields::put_decimal;
 use fields::put_field;
-use fields::put_three;
-use fields::put_two;
+use fields::put_step_fields;
+use fields::put_three_end;
 use problem::End;
 use problem::Record;
-
-// ---- lines
 
 // "Line 1: n, sum of sizes."
 pub fn put_first_line(out: &mut [u8], at: usize, n: usize, sum: usize) -> usize
@@ -41,21 +39,6 @@ fn put_step_word(out: &mut [u8], at: usize, r: Record) -> usize
         Record::Triangle(_, _) => put_bytes(out, at, b"fold"),
         Record::Neighbourhood(_, _, _) => put_bytes(out, at, b"cover"),
         Record::SnakeSubstitution(_, _, _) => put_bytes(out, at, b"slide"),
-    }
-}
-
-// The fields of a step after its kind.
-fn put_step_fields(out: &mut [u8], at: usize, r: Record) -> usize
-    requires { ⌜ (at + 18 ≤ length (now out)) × Small r ⌝ }
-    ensures text { λ q. ⌜ (now (out .exit) ≡ written (now (out .entry)) at (stepFields r)) × (q ≡ at + length (stepFields r)) ⌝ }
-    ensures within { λ q. ⌜ q ≤ at + 18 ⌝ }
-{
-    match r {
-        Record::Unsupported(i, b, k) => put_three(out, at, i, b, k),
-        Record::Snake(i, v) => put_two(out, at, i, v),
-        Record::Triangle(i, j) => put_two(out, at, i, j),
-        Record::Neighbourhood(i, b, a) => put_three(out, at, i, b, a),
-        Record::SnakeSubstitution(i, b, a) => put_three(out, at, i, b, a),
     }
 }
 
@@ -92,18 +75,6 @@ fn put_end_word(out: &mut [u8], at: usize, e: End) -> usize
         End::Solved => put_bytes(out, at, b"solved"),
         End::Rest => put_bytes(out, at, b"rest"),
     }
-}
-
-// Three fields and the end of the line.
-fn put_three_end(out: &mut [u8], at: usize, x: usize, y: usize, z: usize) -> usize
-    requires { ⌜ (x < 100000) × ((y < 100000) × ((z < 100000) × (at + 19 ≤ length (now out)))) ⌝ }
-    ensures text { λ r. ⌜ (now (out .exit) ≡ written (now (out .entry)) at (field x ++ (field y ++ (field z ++ (10 ∷ []))))) × (r ≡ at + length (field x ++ (field y ++ (field z ++ (10 ∷ []))))) ⌝ }
-    ensures within { λ r. ⌜ r ≤ at + 19 ⌝ }
-{
-    let p = put_field(out, at, x);
-    let q = put_field(out, p, y);
-    let s = put_field(out, q, z);
-    put_byte(out, s, 10)
 }
 
 // "Last line: end, steps, items in, settings on at items in."

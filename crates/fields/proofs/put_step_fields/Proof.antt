@@ -1,10 +1,10 @@
--- `text::put_step_fields`: each kind by itself; its fields are small.
+-- `fields::put_step_fields`: each kind by itself; its fields are small.
 use mathlib.Core.Path.{subst}
 use native.Mathlib.Omega.{arith}
 use Rattle.trace.specs.Written.{Small}
 use borrow.Author.Needs.{needs}
-use Rattle.text.proofs.put_step_fields.Statement.{statement}
-use Rattle.text.proofs.put_step_fields.Tie as tie
+use Rattle.fields.proofs.put_step_fields.Statement.{statement}
+use Rattle.fields.proofs.put_step_fields.Tie as tie
 
 enum-known-r : tie.Need-enum-known-r
 enum-known-r c = search needs

@@ -1,11 +1,11 @@
--- `text::put_three_end`: three fields and the line's end, one after the other.
+-- `fields::put_three_end`: three fields and the line's end, one after the other.
 use borrow.Author.Needs.{needs}
 use native.Mathlib.Omega.{arith}
 use Prim.Native.Nat.{_+_, _≤_}
 use lib.ListN.{length}
 use Rattle.fields.proofs.Laws.{after}
-use Rattle.text.proofs.put_three_end.Statement.{statement}
-use Rattle.text.proofs.put_three_end.Tie as tie
+use Rattle.fields.proofs.put_three_end.Statement.{statement}
+use Rattle.fields.proofs.put_three_end.Tie as tie
 
 put-field-requires : tie.Need-put-field-requires
 put-field-requires c κs = search needs
