@@ -1,0 +1,3 @@
+pub mod Graph
+pub mod Colouring
+pub mod Scan

@@ -1,0 +1,47 @@
+-- `read_graph::line_at`: told by its first byte. Assumes nothing.
+use mathlib.Core.Path.{sym, _∙_}
+use Rattle.graph.proofs.Lines.{line-within}
+use lib.ListN.{length-drop, drop}
+use Rattle.read_graph.proofs.Laws.{getD-any}
+use Rattle.read_graph.proofs.Found.{comment-here}
+use borrow.Author.Needs.{needs}
+use native.Mathlib.Omega.{arith}
+use Rattle.read_graph.proofs.line_at.Statement.{statement}
+use Rattle.read_graph.proofs.line_at.Tie as tie
+
+shared-slice-read-b : tie.Need-shared-slice-read-b
+shared-slice-read-b c = search needs
+
+edge-line-requires : tie.Need-edge-line-requires
+edge-line-requires c κs = (c .before .before .before .pre .0, sym (getD-any (c .before .before .before .args .f .now) (c .before .before .before .args .p) 0 10 (c .before .before .before .pre .1)) ∙ c .if1 .taken)
+
+returns : tie.Need-returns
+returns c = search needs
+
+line-end-requires : tie.Need-line-end-requires
+line-end-requires c κs = search needs
+
+add-t9 : tie.Need-add-t9
+add-t9 c = let e = c .line-end .ensures in let w = line-within (drop (c .before .before .before .before .before .args .p) (c .before .before .before .before .before .args .f .now)) in let d = length-drop (c .before .before .before .before .before .args .p) (c .before .before .before .before .before .args .f .now) in let s = c .before .before .before .before .before .pre .0 .short in omega arith
+
+returns-2 : tie.Need-returns-2
+returns-2 c = comment-here (c .before .before .before .before .before .args .f .now) (c .before .before .before .before .before .args .p) _ (sym (getD-any (c .before .before .before .before .before .args .f .now) (c .before .before .before .before .before .args .p) 0 10 (c .before .before .before .before .before .pre .1)) ∙ c .before .if2 .taken) (let e = c .line-end .ensures in omega arith)
+
+size-line-requires : tie.Need-size-line-requires
+size-line-requires c κs = (c .before .before .before .before .pre .0, record { comment = λ e. c .if2 .left (getD-any (c .before .before .before .before .args .f .now) (c .before .before .before .before .args .p) 0 10 (c .before .before .before .before .pre .1) ∙ e); edge = λ e. c .before .if1 .left (getD-any (c .before .before .before .before .args .f .now) (c .before .before .before .before .args .p) 0 10 (c .before .before .before .before .pre .1) ∙ e) })
+
+returns-3 : tie.Need-returns-3
+returns-3 c = search needs
+
+pub line-at-spec : {M : Type 1} → statement M
+line-at-spec =
+    tie.close
+    (tie.spec
+    shared-slice-read-b
+    edge-line-requires
+    returns
+    line-end-requires
+    add-t9
+    returns-2
+    size-line-requires
+    returns-3)

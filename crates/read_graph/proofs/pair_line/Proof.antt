@@ -1,0 +1,61 @@
+-- `read_graph::pair_line`: the first number ends at a space, the second with the line. Assumes nothing.
+use mathlib.Core.Path.{sym, _∙_}
+use Rattle.read_graph.specs.Parts.{NumberAt, FieldAt, formOf}
+use Rattle.read_graph.specs.declared.Field.the-variants.{NoNumber}
+use Rattle.read_graph.proofs.Found.{number-place, pair-first, pair-second, pair-both}
+use borrow.Author.Needs.{needs}
+use Rattle.read_graph.proofs.pair_line.Statement.{statement}
+use Rattle.read_graph.proofs.pair_line.Tie as tie
+
+field-at-requires : tie.Need-field-at-requires
+field-at-requires c κs = search needs
+
+enum-told : tie.Need-enum-told
+enum-told c = search needs
+
+bad-line-requires : tie.Need-bad-line-requires
+bad-line-requires c κs = search needs
+
+enum-known-a : tie.Need-enum-known-a
+enum-known-a c = search needs
+
+field-at-requires-2 : tie.Need-field-at-requires-2
+field-at-requires-2 c κs = let N : NumberAt (c .before .before .before .before .before .args .f .now) (c .before .before .before .before .before .args .p) 32 (c .before .a .given .0 .0) (c .before .a .given .0 .1 .0) = rw (c .before .a .given .1) at (c .before .before .before .field-at .ensures) in number-place _ _ _ _ N (c .before .before .before .before .before .pre)
+
+enum-told-2 : tie.Need-enum-told-2
+enum-told-2 c = search needs
+
+bad-line-requires-2 : tie.Need-bad-line-requires-2
+bad-line-requires-2 c κs = search needs
+
+enum-known-b : tie.Need-enum-known-b
+enum-known-b c = search needs
+
+two-numbers-requires : tie.Need-two-numbers-requires
+two-numbers-requires c κs = search needs
+
+returns : tie.Need-returns
+returns c = let N : FieldAt (c .before .before .before .before .before .args .f .now) (c .before .before .before .before .before .args .p) 32 NoNumber = rw (c .before .enum-told .given .1) at (c .before .before .before .field-at .ensures) in record { is = c .bad-line .ensures ∙ sym (pair-first (c .before .before .before .before .before .args .f .now) (c .before .before .before .before .before .args .p) (formOf (c .before .before .before .before .before .args .edge)) N); after = λ n. absurd (n (c .bad-line .ensures)) }
+
+returns-2 : tie.Need-returns-2
+returns-2 c = let N : NumberAt (c .before .before .before .before .before .before .before .before .before .args .f .now) (c .before .before .before .before .before .before .before .before .before .args .p) 32 (c .before .before .before .before .before .a .given .0 .0) (c .before .before .before .before .before .a .given .0 .1 .0) = rw (c .before .before .before .before .before .a .given .1) at (c .before .before .before .before .before .before .before .field-at .ensures) in let M : FieldAt (c .before .before .before .before .before .before .before .before .before .args .f .now) (c .before .before .before .before .before .a .given .0 .1 .0) 10 NoNumber = rw (c .before .enum-told2 .given .1) at (c .before .before .before .field-at2 .ensures) in record { is = c .bad-line2 .ensures ∙ sym (pair-second _ _ _ _ N (formOf (c .before .before .before .before .before .before .before .before .before .args .edge)) M); after = λ n. absurd (n (c .bad-line2 .ensures)) }
+
+returns-3 : tie.Need-returns-3
+returns-3 c = let N : NumberAt (c .before .before .before .before .before .before .before .before .before .before .args .f .now) (c .before .before .before .before .before .before .before .before .before .before .args .p) 32 (c .before .before .before .before .before .before .a .given .0 .0) (c .before .before .before .before .before .before .a .given .0 .1 .0) = rw (c .before .before .before .before .before .before .a .given .1) at (c .before .before .before .before .before .before .before .before .field-at .ensures) in let M : NumberAt (c .before .before .before .before .before .before .before .before .before .before .args .f .now) (c .before .before .before .before .before .before .a .given .0 .1 .0) 10 (c .before .before .b .given .0 .0) (c .before .before .b .given .0 .1 .0) = rw (c .before .before .b .given .1) at (c .before .before .before .before .field-at2 .ensures) in let q = pair-both _ _ _ _ N (formOf (c .before .before .before .before .before .before .before .before .before .before .args .edge)) _ _ M in record { is = c .two-numbers .ensures ∙ sym (q .0); after = λ n. q .1 }
+
+pub pair-line-spec : {M : Type 1} → statement M
+pair-line-spec =
+    tie.close
+    (tie.spec
+    field-at-requires
+    enum-told
+    bad-line-requires
+    enum-known-a
+    field-at-requires-2
+    enum-told-2
+    bad-line-requires-2
+    enum-known-b
+    two-numbers-requires
+    returns
+    returns-2
+    returns-3)

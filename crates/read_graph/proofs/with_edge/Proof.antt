@@ -1,0 +1,45 @@
+-- `read_graph::with_edge`: an `e` line out of its place turns the file away. Assumes nothing.
+use mathlib.Core.Path.{sym, _∙_}
+use Rattle.read_graph.proofs.Marks.{in-place, out-of-range, unsized}
+use borrow.Author.Tests.{not-true, not-false}
+use Rattle.graph.proofs.Reading.{step-edge, step-astray}
+use borrow.Author.Needs.{needs}
+use Rattle.read_graph.proofs.with_edge.Statement.{statement}
+use Rattle.read_graph.proofs.with_edge.Tie as tie
+
+turned-away-requires : tie.Need-turned-away-requires
+turned-away-requires c κs = search needs
+
+returns : tie.Need-returns
+returns c = c .turned-away .ensures ∙ sym (step-astray (c .before .before .before .args .g) (c .before .before .before .args .a) (c .before .before .before .args .b) (unsized (c .before .before .before .args .g) (c .before .before .before .args .a) (c .before .before .before .args .b) (not-true _ (c .before .if1 .taken))))
+
+is-outside-requires : tie.Need-is-outside-requires
+is-outside-requires c κs = search needs
+
+is-outside-requires-2 : tie.Need-is-outside-requires-2
+is-outside-requires-2 c κs = search needs
+
+turned-away-requires-2 : tie.Need-turned-away-requires-2
+turned-away-requires-2 c κs = search needs
+
+returns-2 : tie.Need-returns-2
+returns-2 c = c .turned-away2 .ensures ∙ sym (step-astray (c .before .before .before .before .before .before .args .g) (c .before .before .before .before .before .before .args .a) (c .before .before .before .before .before .before .args .b) (out-of-range (c .before .before .before .before .before .before .args .g) (c .before .before .before .before .before .before .args .a) (c .before .before .before .before .before .before .args .b) _ _ (c .before .before .before .is-outside .ensures) (c .before .before .is-outside2 .ensures) (c .before .if2 .taken)))
+
+add-t7 : tie.Need-add-t7
+add-t7 c = search needs
+
+returns-3 : tie.Need-returns-3
+returns-3 c = sym (step-edge (c .before .before .before .before .before .before .before .args .g) (c .before .before .before .before .before .before .before .args .a) (c .before .before .before .before .before .before .before .args .b) (in-place (c .before .before .before .before .before .before .before .args .g) (c .before .before .before .before .before .before .before .args .a) (c .before .before .before .before .before .before .before .args .b) _ _ (c .before .before .before .before .is-outside .ensures) (c .before .before .before .is-outside2 .ensures) (not-false _ (c .before .before .before .before .before .if1 .left)) (c .before .before .if2 .left)))
+
+pub with-edge-spec : {M : Type 1} → statement M
+with-edge-spec =
+    tie.close
+    (tie.spec
+    turned-away-requires
+    returns
+    is-outside-requires
+    is-outside-requires-2
+    turned-away-requires-2
+    returns-2
+    add-t7
+    returns-3)
