@@ -1,74 +1,111 @@
+-- `compose::put_rows`: the rows so far are written, and the rest is underway. Assumes nothing.
+use mathlib.Core.Path.{_≡_, ap, _∙_}
+use Prim.Native.Nat.{ℕ, _+_, _-_, _^_, _≤_, _<_}
+use native.Mathlib.Omega.{arith}
+use denote.Ref.{now}
+use lib.ListN.{length}
+use lib.Pow.{pow-pos}
+use Rattle.problem.specs.Held.{held}
+use Rattle.problem.proofs.HeldTable.{held-few, held-narrow}
+use Rattle.sheet.specs.Bytes.{numberBytes}
+use Rattle.sheet.specs.Sheet.{layout}
+use Rattle.compose.specs.Compose.{rowNumber, rowsBytes}
+use Rattle.compose.specs.Parts.{Wrote, Underway}
+use Rattle.compose.proofs.Stands.{length-number}
+use Rattle.compose.proofs.Blocks.{roomy-today}
+use Rattle.compose.proofs.Writing.{full-is, begins, writes, part-room, ends, wrote-number, rows-step, rows-none}
+use borrow.Author.Needs.{needs}
 use Rattle.compose.proofs.put_rows.Statement.{statement}
 use Rattle.compose.proofs.put_rows.Tie as tie
-use Rattle.compose.proofs.put_rows.Reads as reads
-use Rattle.compose.proofs.put_rows.Lts as lts
-use Rattle.bounded.proofs.power.Reads as power-reads
-use Rattle.compose.proofs.put_row.Reads as put-row-reads
-use Rattle.compose.proofs.row_number.Reads as row-number-reads
-use Rattle.held.proofs.size.Reads as size-reads
-use Rattle.sheet.proofs.row_width.Reads as row-width-reads
 
 abbrev Inv-loop : tie.InvT-loop
-Inv-loop t v out₀ at i j z y full w p₀ a₀ out p a = ?
+Inv-loop t v out₀ at i j z y full w p₀ a₀ out p a = (a ≤ (held t) .size i) × Underway out₀ at (rowsBytes layout v (held t) i j ((held t) .size i) 0) out p (rowsBytes layout v (held t) i j ((held t) .size i - a) a)
 
 abbrev μ-loop : tie.MeasureT-loop
-μ-loop t v out₀ at i j z y full w p₀ a₀ out p a = ?
+μ-loop t v out₀ at i j z y full w p₀ a₀ out p a = (held t) .size i - a
 
--- src/lib.rt:129:9
 size-requires : tie.Need-size-requires Inv-loop μ-loop
-size-requires c κs = ?
+size-requires c κs = let p = c .before .before .pre .0 in let few = held-few (now (c .before .before .args .t)) in (p .table, omega arith)
 
--- src/lib.rt:130:9
 size-requires-2 : tie.Need-size-requires-2 Inv-loop μ-loop
-size-requires-2 c κs = ?
+size-requires-2 c κs = let p = c .before .before .before .pre .0 in let few = held-few (now (c .before .before .before .args .t)) in (p .table, omega arith)
 
--- src/lib.rt:131:16
 power-requires : tie.Need-power-requires Inv-loop μ-loop
-power-requires c κs = ?
+power-requires c κs = let e = c .size2 .ensures in let l = held-narrow (c .before .before .before .before .pre .0 .table) (c .before .before .before .before .args .j) in omega arith
 
--- src/lib.rt:131:16
 sub-full : tie.Need-sub-full Inv-loop μ-loop
-sub-full c = ?
+sub-full c = let e = c .power .ensures in omega (arith, pow-pos (c .before .size2 .result))
 
--- src/lib.rt:132:9
 row-width-requires : tie.Need-row-width-requires Inv-loop μ-loop
-row-width-requires c κs = ?
+row-width-requires c κs = search needs
 
--- src/lib.rt:135:5
 loop-holds : tie.Need-loop-holds Inv-loop μ-loop
-loop-holds c = ?
+loop-holds c =
+    let a = c .before .before .before .before .before .before .args in
+    let S = (held (now (a .t))) .size (a .i) in
+    let z : S - 0 ≡ S = omega arith in
+    (omega arith, rw z (begins _ _ _ (c .before .before .before .before .before .before .pre .1 .1)))
 
--- src/lib.rt:136:13
 row-number-requires : tie.Need-row-number-requires Inv-loop μ-loop
-row-number-requires c κs = ?
+row-number-requires c κs = let e = c .before .before .before .before .before .size .ensures in (c .before .before .before .before .before .before .before .before .pre .0, (omega arith, full-is _ _ _ (c .before .before .before .power .ensures) (c .before .before .before .before .size2 .ensures)))
 
--- src/lib.rt:137:9
 put-row-requires : tie.Need-put-row-requires Inv-loop μ-loop
-put-row-requires c κs = ?
+put-row-requires c κs =
+    let a = c .before .before .before .before .before .before .before .before .before .before .args in
+    let P = held (now (a .t)) in
+    let l = c .before .before .before .loop in
+    let e = c .before .before .before .before .before .before .before .size .ensures in
+    let w = c .before .before .before .before .row-width .ensures in
+    let k : l .a < P .size (a .i) = omega arith in
+    let N = rowNumber P (a .i) (a .j) (l .a) in
+    let u = rw (rows-step layout (a .v) P (a .i) (a .j) (P .size (a .i)) (l .a) k) at (l .inv .1) in
+    let m : l .p + length (numberBytes 2 N) ≤ length (l .out) = part-room _ _ _ _ _ (numberBytes 2 N) (rowsBytes layout (a .v) P (a .i) (a .j) (P .size (a .i) - (l .a + 1)) (l .a + 1)) u in
+    let r = c .before .row-number .ensures .below in
+    let x = roomy-today .room (a .v) (P .size (a .j)) (c .before .before .before .before .before .before .before .before .before .before .pre .1 .0 .taken) (held-narrow (c .before .before .before .before .before .before .before .before .before .before .pre .0 .table) (a .j)) in
+    let g : 256 ^ c .before .before .before .before .row-width .result ≡ 256 ^ 2 = ap (λ (y : ℕ). 256 ^ y) (w .is) in
+    (w .some, (w .few, (omega arith, omega arith)))
 
--- src/lib.rt:138:9
 add-p : tie.Need-add-p Inv-loop μ-loop
-add-p c = ?
+add-p c =
+    let a = c .before .before .before .before .before .before .before .before .before .before .before .before .before .args in
+    let P = held (now (a .t)) in
+    let l = c .before .before .before .before .before .before .loop in
+    let e = c .before .before .before .before .before .before .before .before .before .before .size .ensures in
+    let w = c .before .before .before .before .before .before .before .row-width .ensures .is in
+    let k : l .a < P .size (a .i) = omega arith in
+    let N = rowNumber P (a .i) (a .j) (l .a) in
+    let u = rw (rows-step layout (a .v) P (a .i) (a .j) (P .size (a .i)) (l .a) k) at (l .inv .1) in
+    let m : l .p + length (numberBytes 2 N) ≤ length (l .out) = part-room _ _ _ _ _ (numberBytes 2 N) (rowsBytes layout (a .v) P (a .i) (a .j) (P .size (a .i) - (l .a + 1)) (l .a + 1)) u in
+    omega arith
 
--- src/lib.rt:139:9
 add-a : tie.Need-add-a Inv-loop μ-loop
-add-a c = ?
+add-a c = search needs
 
--- src/lib.rt:135:5
 loop-less : tie.Need-loop-less Inv-loop μ-loop
-loop-less c = ?
+loop-less c = let e = c .before .before .before .before .before .before .before .before .before .before .size .ensures in omega arith
 
--- src/lib.rt:135:5
 loop-again : tie.Need-loop-again Inv-loop μ-loop
-loop-again c = ?
+loop-again c =
+    let a = c .before .before .before .before .before .before .before .before .before .before .before .before .before .args in
+    let P = held (now (a .t)) in
+    let l = c .before .before .before .before .before .before .loop in
+    let e = c .before .before .before .before .before .before .before .before .before .before .size .ensures in
+    let k : l .a < P .size (a .i) = omega arith in
+    let N = rowNumber P (a .i) (a .j) (l .a) in
+    let u = rw (rows-step layout (a .v) P (a .i) (a .j) (P .size (a .i)) (l .a) k) at (l .inv .1) in
+    let o = wrote-number _ _ _ (c .before .before .before .before .before .before .before .row-width .result) 2 (c .before .before .before .before .row-number .result) N (c .before .before .before .before .before .before .before .row-width .ensures .is) (c .before .before .before .before .row-number .ensures .is) (c .before .before .put-row .ensures) in
+    (omega arith, writes _ _ _ _ _ (numberBytes 2 N) (rowsBytes layout (a .v) P (a .i) (a .j) (P .size (a .i) - (l .a + 1)) (l .a + 1)) _ _ u o)
 
--- src/lib.rt:125:1
 same-length : tie.Need-same-length Inv-loop μ-loop
-same-length c = ?
+same-length c = c .before .loop .inv .1 .same
 
--- src/lib.rt:125:1
 returns : tie.Need-returns Inv-loop μ-loop
-returns c = ?
+returns c =
+    let a = c .before .before .before .before .before .before .before .before .args in
+    let P = held (now (a .t)) in
+    let l = c .before .loop in
+    let e = c .before .before .before .before .before .size .ensures in
+    ends _ _ _ _ _ (rw (rows-none layout (a .v) P (a .i) (a .j) (P .size (a .i)) (l .a) (omega arith)) at (l .inv .1))
 
 pub put-rows-spec : {M : Type 1} → statement M
 put-rows-spec =
