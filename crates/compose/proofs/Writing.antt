@@ -163,6 +163,10 @@ wrote-number b p c w w′ x x′ e f g =
     let l = length-number w′ x′ in
     record { is = g ∙ (λ i. written b p (numberBytes (e i) (f i))); next = omega arith }
 
+-- the two items of a block, stored
+pub pair-put : (b : List ℕ) (p i j : ℕ) → p + 2 ≤ length b → set (set b p i) (p + 1) j ≡ written b p (i ∷ j ∷ [])
+pair-put b p i j h = ap (λ (k : ℕ). set (set b p i) k j) (add-one p) ∙ sets-written b p (i ∷ j ∷ []) h
+
 -- the first eight bytes, stored
 pub front-stored : (b : List ℕ) (v len n m : ℕ) → 8 ≤ length b
     → sets b 0 (v ∷ len / 16777216 % 256 ∷ len / 65536 % 256 ∷ len / 256 % 256 ∷ len % 256 ∷ n ∷ m / 256 % 256 ∷ m % 256 ∷ []) ≡ written b 0 (frontBytes v len n m)
@@ -197,9 +201,9 @@ module _ (L : Layout) (v : ℕ) (P : Problem) where
   unfolding rowsBytes
   rows-none i j z a h = let e : z - a ≡ 0 = omega arith in ap (λ (k : ℕ). rowsBytes L v P i j k a) e
 
-  pub block-parts : (i j : ℕ) → blockBytes L v P i j ≡ (i ∷ j ∷ []) ++ rowsBytes L v P i j (P .size i) 0
+  pub block-parts : (i j : ℕ) → length (blockBytes L v P i j) ≡ 2 + length (rowsBytes L v P i j (P .size i) 0)
   unfolding blockBytes
-  block-parts i j = refl
+  block-parts i j = omega arith
 
   pub place-hit : (x : ℕ) → hasBlock P x ≡ true → placeBytes L v P x ≡ blockBytes L v P (x / 32) (x % 32)
   unfolding placeBytes

@@ -1,45 +1,59 @@
+-- `compose::put_block`: the two items, then the rows. Assumes nothing.
+use mathlib.Core.Path.{_≡_, refl, ap, _∙_}
+use mathlib.Core.List.{[], _∷_}
+use Prim.Native.Nat.{_+_, _≤_}
+use native.Mathlib.Omega.{arith}
+use denote.Ref.{now}
+use lib.ListN.{length, set, length-set}
+use Rattle.problem.specs.Held.{held}
+use Rattle.problem.proofs.HeldTable.{held-few}
+use Rattle.sheet.specs.Sheet.{layout}
+use Rattle.trace.proofs.Written.{length-written}
+use Rattle.compose.specs.Compose.{rowsBytes, blockBytes}
+use Rattle.compose.proofs.Writing.{block-parts, pair-put, wrote-both}
 use borrow.Author.Needs.{needs}
 use Rattle.compose.proofs.put_block.Statement.{statement}
 use Rattle.compose.proofs.put_block.Tie as tie
-use Rattle.compose.proofs.put_block.Reads as reads
-use Rattle.compose.proofs.put_block.Lts as lts
-use Rattle.compose.proofs.put_rows.Reads as put-rows-reads
 
--- src/lib.rt:149:15
+-- room for the items and the rows
+room : (c : tie.Start) → let a = c .args in
+    a .at + 2 + length (rowsBytes layout (a .v) (held (now (a .t))) (a .i) (a .j) ((held (now (a .t))) .size (a .i)) 0) ≤ length (a .out .now)
+room c = let a = c .args in let e = block-parts layout (a .v) (held (now (a .t))) (a .i) (a .j) in let h = c .pre .1 .1 in omega arith
+
 cast-out : tie.Need-cast-out
-cast-out c = ?
+cast-out c = let few = held-few (now (c .before .before .args .t)) in let p = c .before .before .pre .0 in omega arith
 
--- src/lib.rt:149:5
 slice-write-out : tie.Need-slice-write-out
-slice-write-out c = ?
+slice-write-out c = let h = room (c .before .before) in omega arith
 
--- src/lib.rt:150:19
 cast-out-2 : tie.Need-cast-out-2
-cast-out-2 c = ?
+cast-out-2 c = let few = held-few (now (c .before .before .args .t)) in let p = c .before .before .pre .0 in omega arith
 
--- src/lib.rt:150:9
 add-out : tie.Need-add-out
 add-out c = search needs
 
--- src/lib.rt:150:5
 slice-write-out-2 : tie.Need-slice-write-out-2
-slice-write-out-2 c = ?
+slice-write-out-2 c = let h = room (c .before .before) in simp length-set (omega arith)
 
--- src/lib.rt:151:25
 add-put-rows : tie.Need-add-put-rows
 add-put-rows c = search needs
 
--- src/lib.rt:151:5
 put-rows-requires : tie.Need-put-rows-requires
-put-rows-requires c κs = ?
+put-rows-requires c κs = let h = room (c .before .before .before) in (c .before .before .before .pre .0, (c .before .before .before .pre .1 .0, simp length-set (omega arith)))
 
--- src/lib.rt:145:1
 same-length : tie.Need-same-length
-same-length c = ?
+same-length c =
+    let a = c .before .before .before .before .before .before .args in
+    let h = room (c .before .before .before .before .before .before) in
+    ap length (c .before .before .put-rows .ensures .is) ∙ length-written (set (set (a .out .now) (a .at) (a .i)) (a .at + 1) (a .j)) (a .at + 2) _ (simp length-set (omega arith)) ∙ simp length-set
 
--- src/lib.rt:145:1
 returns : tie.Need-returns
-returns c = ?
+unfolding blockBytes
+returns c =
+    let a = c .before .before .before .before .before .before .args in
+    let h = room (c .before .before .before .before .before .before) in
+    wrote-both (a .out .now) (a .at) (a .i ∷ a .j ∷ []) (rowsBytes layout (a .v) (held (now (a .t))) (a .i) (a .j) ((held (now (a .t))) .size (a .i)) 0) _ _ (a .at + 2) _
+    (omega arith) (pair-put (a .out .now) (a .at) (a .i) (a .j) (omega arith)) refl (c .before .before .put-rows .ensures)
 
 pub put-block-spec : {M : Type 1} → statement M
 put-block-spec =

@@ -1,50 +1,72 @@
+-- `compose::put_blocks`: the blocks of the places so far are written, and the rest is underway. Assumes nothing.
+use Prim.Native.Nat.{_+_, _-_, _*_, _≤_, _<_}
+use native.Mathlib.Omega.{arith}
+use denote.Ref.{now}
+use Rattle.problem.specs.Held.{held}
+use Rattle.problem.proofs.HeldTable.{held-few}
+use Rattle.sheet.specs.Sheet.{layout}
+use Rattle.compose.specs.Compose.{placeBytes, blocksBytes}
+use Rattle.compose.specs.Parts.{Underway}
+use Rattle.compose.proofs.Writing.{begins, writes, part-room, ends, blocks-step, blocks-beyond}
+use borrow.Author.Needs.{needs}
 use Rattle.compose.proofs.put_blocks.Statement.{statement}
 use Rattle.compose.proofs.put_blocks.Tie as tie
-use Rattle.compose.proofs.put_blocks.Reads as reads
-use Rattle.compose.proofs.put_blocks.Lts as lts
-use Rattle.compose.proofs.put_place.Reads as put-place-reads
 
 abbrev Inv-loop : tie.InvT-loop
-Inv-loop t v n marks out₀ p₀ x₀ out p x = ?
+Inv-loop t v n marks out₀ p₀ x₀ out p x = (x ≤ 32 * n) × Underway out₀ (8 + n) (blocksBytes layout v (held t) 1024 0) out p (blocksBytes layout v (held t) (1024 - x) x)
 
 abbrev μ-loop : tie.MeasureT-loop
-μ-loop t v n marks out₀ p₀ x₀ out p x = ?
+μ-loop t v n marks out₀ p₀ x₀ out p x = 32 * n - x
 
--- src/lib.rt:170:17
 add-p : tie.Need-add-p Inv-loop μ-loop
-add-p c = ?
+add-p c = search needs
 
--- src/lib.rt:172:5
 loop-holds : tie.Need-loop-holds Inv-loop μ-loop
-loop-holds c = ?
+loop-holds c = (omega arith, begins _ _ _ (c .before .before .before .pre .1 .1 .1))
 
--- src/lib.rt:172:15
 mul-loop : tie.Need-mul-loop Inv-loop μ-loop
-mul-loop c = ?
+mul-loop c = let few = held-few (now (c .before .before .before .before .args .t)) in let e = c .before .before .before .before .pre .1 .0 in omega arith
 
--- src/lib.rt:173:9
 put-place-requires : tie.Need-put-place-requires Inv-loop μ-loop
-put-place-requires c κs = ?
+put-place-requires c κs =
+    let a = c .before .before .before .before .before .before .args in
+    let p = c .before .before .before .before .before .before .pre in
+    let P = held (now (a .t)) in
+    let few = held-few (now (a .t)) in
+    let e = p .1 .0 in
+    let l = c .before .before .loop in
+    let h : l .x < 1024 = omega arith in
+    let u = rw (blocks-step layout (a .v) P (l .x) h) at (l .inv .1) in
+    (p .0, (omega arith, (p .1 .1 .0, part-room _ _ _ _ _ (placeBytes layout (a .v) P (l .x)) _ u)))
 
--- src/lib.rt:174:9
 add-x : tie.Need-add-x Inv-loop μ-loop
-add-x c = ?
+add-x c = let few = held-few (now (c .before .before .before .before .before .before .before .before .before .args .t)) in let e = c .before .before .before .before .before .before .before .before .before .pre .1 .0 in omega arith
 
--- src/lib.rt:172:5
 loop-less : tie.Need-loop-less Inv-loop μ-loop
-loop-less c = ?
+loop-less c = search needs
 
--- src/lib.rt:172:5
 loop-again : tie.Need-loop-again Inv-loop μ-loop
-loop-again c = ?
+loop-again c =
+    let a = c .before .before .before .before .before .before .before .before .before .args in
+    let P = held (now (a .t)) in
+    let few = held-few (now (a .t)) in
+    let e = c .before .before .before .before .before .before .before .before .before .pre .1 .0 in
+    let l = c .before .before .before .before .before .loop in
+    let h : l .x < 1024 = omega arith in
+    let u = rw (blocks-step layout (a .v) P (l .x) h) at (l .inv .1) in
+    (omega arith, writes _ _ _ _ _ (placeBytes layout (a .v) P (l .x)) _ _ _ u (c .before .before .put-place .ensures))
 
--- src/lib.rt:166:1
 same-length : tie.Need-same-length Inv-loop μ-loop
-same-length c = ?
+same-length c = c .before .loop .inv .1 .same
 
--- src/lib.rt:166:1
 returns : tie.Need-returns Inv-loop μ-loop
-returns c = ?
+returns c =
+    let a = c .before .before .before .before .before .args in
+    let P = held (now (a .t)) in
+    let e = c .before .before .before .before .before .pre .1 .0 in
+    let l = c .before .loop in
+    let o = ends _ _ _ _ _ (rw (blocks-beyond layout (a .v) P (1024 - l .x) (l .x) (omega arith)) at (l .inv .1)) in
+    o .is
 
 pub put-blocks-spec : {M : Type 1} → statement M
 put-blocks-spec =
