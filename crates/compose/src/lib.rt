@@ -217,7 +217,14 @@ fn put_sheet(t: &[u16], v: usize, n: usize, blocks: usize, marks: &[u8], len: us
 }
 
 // The length first, then the sheet.
-fn write_marked(t: &[u16], v: usize, n: usize, blocks: usize, marks: &[u8], out: &mut [u8]) -> Composed
+fn write_marked(
+    t: &[u16],
+    v: usize,
+    n: usize,
+    blocks: usize,
+    marks: &[u8],
+    out: &mut [u8],
+) -> Composed
     requires { ⌜ Marked (now t) (now marks) × ((n ≡ (held (now t)) .n) × ((blocks ≡ blockCount (held (now t)) 1024 0) × Version v)) ⌝ }
     ensures { λ r. ⌜ (r ≡ (sheetOver layout v (held (now (t .entry))) (now (out .entry))) .answer) × (now (out .exit) ≡ (sheetOver layout v (held (now (t .entry))) (now (out .entry))) .buffer) ⌝ }
 {

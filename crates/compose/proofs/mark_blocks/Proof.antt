@@ -69,8 +69,7 @@ loop-again c =
     let g = l .inv .1 .1 .1 in
     let b = a .marks .now in
     let k = c .before .before .before .before .before .pre .1 .1 in
-    let h : l .x < length b = omega arith in
-    (
+    let h : l .x < length b = omega arith in (
       omega arith,
       (
         simp length-set (l .inv .1 .0),

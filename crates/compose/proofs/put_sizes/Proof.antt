@@ -47,8 +47,7 @@ loop-again c =
     let a = c .before .before .before .before .before .args in
     let f = (held (now (a .t))) .size in
     let b = a .out .now in
-    let h : 8 + l .i < length b = omega arith in
-    (
+    let h : 8 + l .i < length b = omega arith in (
       omega arith,
       (
         simp length-set (l .inv .1 .0),
