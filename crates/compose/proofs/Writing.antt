@@ -180,6 +180,10 @@ front-stored b v len n m h =
 pub wrote-none : (b : List ℕ) (p : ℕ) → Wrote b p [] b p
 wrote-none b p = record { is = sym (written-nil b p); next = omega arith }
 
+-- writing changes no length
+pub wrote-same : (b : List ℕ) {c w d : List ℕ} {p r : ℕ} → Wrote c p w d r → p + length w ≤ length c → length c ≡ length b → length d ≡ length b
+wrote-same b {c} {w} {d} {p} o h e = ap length (o .is) ∙ length-written c p w h ∙ e
+
 -- two parts, the second at the place after the first
 pub wrote-both : (b : List ℕ) (p : ℕ) (x y c d : List ℕ) (q r : ℕ) → p + length (x ++ y) ≤ length b → c ≡ written b p x → q ≡ p + length x → Wrote c q y d r → Wrote b p (x ++ y) d r
 wrote-both b p x y c d q r h e f o =

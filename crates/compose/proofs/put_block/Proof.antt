@@ -1,16 +1,15 @@
 -- `compose::put_block`: the two items, then the rows. Assumes nothing.
-use mathlib.Core.Path.{_≡_, refl, ap, _∙_}
+use mathlib.Core.Path.{refl}
 use mathlib.Core.List.{[], _∷_}
 use Prim.Native.Nat.{_+_, _≤_}
 use native.Mathlib.Omega.{arith}
 use denote.Ref.{now}
-use lib.ListN.{length, set, length-set}
+use lib.ListN.{length, length-set}
 use Rattle.problem.specs.Held.{held}
 use Rattle.problem.proofs.HeldTable.{held-few}
 use Rattle.sheet.specs.Sheet.{layout}
-use Rattle.trace.proofs.Written.{length-written}
 use Rattle.compose.specs.Compose.{rowsBytes, blockBytes}
-use Rattle.compose.proofs.Writing.{block-parts, pair-put, wrote-both}
+use Rattle.compose.proofs.Writing.{block-parts, pair-put, wrote-both, wrote-same}
 use borrow.Author.Needs.{needs}
 use Rattle.compose.proofs.put_block.Statement.{statement}
 use Rattle.compose.proofs.put_block.Tie as tie
@@ -42,10 +41,7 @@ put-rows-requires : tie.Need-put-rows-requires
 put-rows-requires c κs = let h = room (c .before .before .before) in (c .before .before .before .pre .0, (c .before .before .before .pre .1 .0, simp length-set (omega arith)))
 
 same-length : tie.Need-same-length
-same-length c =
-    let a = c .before .before .before .before .before .before .args in
-    let h = room (c .before .before .before .before .before .before) in
-    ap length (c .before .before .put-rows .ensures .is) ∙ length-written (set (set (a .out .now) (a .at) (a .i)) (a .at + 1) (a .j)) (a .at + 2) _ (simp length-set (omega arith)) ∙ simp length-set
+same-length c = let h = room (c .before .before .before .before .before .before) in wrote-same (c .before .before .before .before .before .before .args .out .now) (c .before .before .put-rows .ensures) (simp length-set (omega arith)) (simp length-set)
 
 returns : tie.Need-returns
 unfolding blockBytes
