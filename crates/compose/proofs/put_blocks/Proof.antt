@@ -1,5 +1,6 @@
 -- `compose::put_blocks`: the blocks of the places so far are written, and the rest is underway. Assumes nothing.
-use Prim.Native.Nat.{_+_, _-_, _*_, _≤_, _<_}
+use mathlib.Core.List.{_++_}
+use Prim.Native.Nat.{_+_, _-_, _*_, _≤_}
 use native.Mathlib.Omega.{arith}
 use denote.Ref.{now}
 use Rattle.problem.specs.Held.{held}
@@ -27,17 +28,22 @@ loop-holds c = (omega arith, begins _ _ _ (c .before .before .before .pre .1 .1 
 mul-loop : tie.Need-mul-loop Inv-loop μ-loop
 mul-loop c = let few = held-few (now (c .before .before .before .before .args .t)) in let e = c .before .before .before .before .pre .1 .0 in omega arith
 
+-- the block of place x is the next part
+next : (c : tie.In-loop Inv-loop μ-loop) → let a = c .before .before .before .before .before .args in let l = c .before .loop in let P = held (now (a .t)) in
+    Underway (a .out .now) (8 + a .n) (blocksBytes layout (a .v) P 1024 0) (l .out) (l .p) (placeBytes layout (a .v) P (l .x) ++ blocksBytes layout (a .v) P (1024 - (l .x + 1)) (l .x + 1))
+next c =
+    let a = c .before .before .before .before .before .args in
+    let l = c .before .loop in
+    let few = held-few (now (a .t)) in
+    let e = c .before .before .before .before .before .pre .1 .0 in
+    rw (blocks-step layout (a .v) (held (now (a .t))) (l .x) (omega arith)) at (l .inv .1)
+
 put-place-requires : tie.Need-put-place-requires Inv-loop μ-loop
 put-place-requires c κs =
     let a = c .before .before .before .before .before .before .args in
     let p = c .before .before .before .before .before .before .pre in
-    let P = held (now (a .t)) in
-    let few = held-few (now (a .t)) in
     let e = p .1 .0 in
-    let l = c .before .before .loop in
-    let h : l .x < 1024 = omega arith in
-    let u = rw (blocks-step layout (a .v) P (l .x) h) at (l .inv .1) in
-    (p .0, (omega arith, (p .1 .1 .0, part-room _ _ _ _ _ (placeBytes layout (a .v) P (l .x)) _ u)))
+    (p .0, (omega arith, (p .1 .1 .0, part-room _ _ _ _ _ (placeBytes layout (a .v) (held (now (a .t))) (c .before .before .loop .x)) _ (next (c .before)))))
 
 add-x : tie.Need-add-x Inv-loop μ-loop
 add-x c = let few = held-few (now (c .before .before .before .before .before .before .before .before .before .args .t)) in let e = c .before .before .before .before .before .before .before .before .before .pre .1 .0 in omega arith
@@ -48,13 +54,7 @@ loop-less c = search needs
 loop-again : tie.Need-loop-again Inv-loop μ-loop
 loop-again c =
     let a = c .before .before .before .before .before .before .before .before .before .args in
-    let P = held (now (a .t)) in
-    let few = held-few (now (a .t)) in
-    let e = c .before .before .before .before .before .before .before .before .before .pre .1 .0 in
-    let l = c .before .before .before .before .before .loop in
-    let h : l .x < 1024 = omega arith in
-    let u = rw (blocks-step layout (a .v) P (l .x) h) at (l .inv .1) in
-    (omega arith, writes _ _ _ _ _ (placeBytes layout (a .v) P (l .x)) _ _ _ u (c .before .before .put-place .ensures))
+    (omega arith, writes _ _ _ _ _ (placeBytes layout (a .v) (held (now (a .t))) (c .before .before .before .before .before .loop .x)) _ _ _ (next (c .before .before .before .before)) (c .before .before .put-place .ensures))
 
 same-length : tie.Need-same-length Inv-loop μ-loop
 same-length c = c .before .loop .inv .1 .same

@@ -1,6 +1,7 @@
 -- `compose::put_rows`: the rows so far are written, and the rest is underway. Assumes nothing.
-use mathlib.Core.Path.{_≡_, ap, _∙_}
-use Prim.Native.Nat.{ℕ, _+_, _-_, _^_, _≤_, _<_}
+use mathlib.Core.Path.{_≡_, ap}
+use mathlib.Core.List.{_++_}
+use Prim.Native.Nat.{ℕ, _+_, _-_, _^_, _≤_}
 use native.Mathlib.Omega.{arith}
 use denote.Ref.{now}
 use lib.ListN.{length}
@@ -10,8 +11,7 @@ use Rattle.problem.proofs.HeldTable.{held-few, held-narrow}
 use Rattle.sheet.specs.Bytes.{numberBytes}
 use Rattle.sheet.specs.Sheet.{layout}
 use Rattle.compose.specs.Compose.{rowNumber, rowsBytes}
-use Rattle.compose.specs.Parts.{Wrote, Underway}
-use Rattle.compose.proofs.Stands.{length-number}
+use Rattle.compose.specs.Parts.{Underway}
 use Rattle.compose.proofs.Blocks.{roomy-today}
 use Rattle.compose.proofs.Writing.{full-is, begins, writes, part-room, ends, wrote-number, rows-step, rows-none}
 use borrow.Author.Needs.{needs}
@@ -49,34 +49,32 @@ loop-holds c =
 row-number-requires : tie.Need-row-number-requires Inv-loop μ-loop
 row-number-requires c κs = let e = c .before .before .before .before .before .size .ensures in (c .before .before .before .before .before .before .before .before .pre .0, (omega arith, full-is _ _ _ (c .before .before .before .power .ensures) (c .before .before .before .before .size2 .ensures)))
 
+-- the row of a is the next part
+next : (c : tie.In-loop Inv-loop μ-loop) → let a = c .before .before .before .before .before .before .before .before .args in let l = c .before .loop in let P = held (now (a .t)) in
+    Underway (a .out .now) (a .at) (rowsBytes layout (a .v) P (a .i) (a .j) (P .size (a .i)) 0) (l .out) (l .p)
+    (numberBytes 2 (rowNumber P (a .i) (a .j) (l .a)) ++ rowsBytes layout (a .v) P (a .i) (a .j) (P .size (a .i) - (l .a + 1)) (l .a + 1))
+next c =
+    let a = c .before .before .before .before .before .before .before .before .args in
+    let l = c .before .loop in
+    let e = c .before .before .before .before .before .size .ensures in
+    rw (rows-step layout (a .v) (held (now (a .t))) (a .i) (a .j) ((held (now (a .t))) .size (a .i)) (l .a) (omega arith)) at (l .inv .1)
+
+room : (c : tie.In-loop Inv-loop μ-loop) → c .before .loop .p + 2 ≤ length (c .before .loop .out)
+room c = part-room _ _ _ _ _ (numberBytes 2 _) _ (next c)
+
 put-row-requires : tie.Need-put-row-requires Inv-loop μ-loop
 put-row-requires c κs =
     let a = c .before .before .before .before .before .before .before .before .before .before .args in
     let P = held (now (a .t)) in
-    let l = c .before .before .before .loop in
-    let e = c .before .before .before .before .before .before .before .size .ensures in
     let w = c .before .before .before .before .row-width .ensures in
-    let k : l .a < P .size (a .i) = omega arith in
-    let N = rowNumber P (a .i) (a .j) (l .a) in
-    let u = rw (rows-step layout (a .v) P (a .i) (a .j) (P .size (a .i)) (l .a) k) at (l .inv .1) in
-    let m : l .p + length (numberBytes 2 N) ≤ length (l .out) = part-room _ _ _ _ _ (numberBytes 2 N) (rowsBytes layout (a .v) P (a .i) (a .j) (P .size (a .i) - (l .a + 1)) (l .a + 1)) u in
+    let m = room (c .before .before) in
     let r = c .before .row-number .ensures .below in
     let x = roomy-today .room (a .v) (P .size (a .j)) (c .before .before .before .before .before .before .before .before .before .before .pre .1 .0 .taken) (held-narrow (c .before .before .before .before .before .before .before .before .before .before .pre .0 .table) (a .j)) in
     let g : 256 ^ c .before .before .before .before .row-width .result ≡ 256 ^ 2 = ap (λ (y : ℕ). 256 ^ y) (w .is) in
     (w .some, (w .few, (omega arith, omega arith)))
 
 add-p : tie.Need-add-p Inv-loop μ-loop
-add-p c =
-    let a = c .before .before .before .before .before .before .before .before .before .before .before .before .before .args in
-    let P = held (now (a .t)) in
-    let l = c .before .before .before .before .before .before .loop in
-    let e = c .before .before .before .before .before .before .before .before .before .before .size .ensures in
-    let w = c .before .before .before .before .before .before .before .row-width .ensures .is in
-    let k : l .a < P .size (a .i) = omega arith in
-    let N = rowNumber P (a .i) (a .j) (l .a) in
-    let u = rw (rows-step layout (a .v) P (a .i) (a .j) (P .size (a .i)) (l .a) k) at (l .inv .1) in
-    let m : l .p + length (numberBytes 2 N) ≤ length (l .out) = part-room _ _ _ _ _ (numberBytes 2 N) (rowsBytes layout (a .v) P (a .i) (a .j) (P .size (a .i) - (l .a + 1)) (l .a + 1)) u in
-    omega arith
+add-p c = let m = room (c .before .before .before .before .before) in let w = c .before .before .before .before .before .before .before .row-width .ensures .is in omega arith
 
 add-a : tie.Need-add-a Inv-loop μ-loop
 add-a c = search needs
@@ -87,14 +85,9 @@ loop-less c = let e = c .before .before .before .before .before .before .before 
 loop-again : tie.Need-loop-again Inv-loop μ-loop
 loop-again c =
     let a = c .before .before .before .before .before .before .before .before .before .before .before .before .before .args in
-    let P = held (now (a .t)) in
-    let l = c .before .before .before .before .before .before .loop in
     let e = c .before .before .before .before .before .before .before .before .before .before .size .ensures in
-    let k : l .a < P .size (a .i) = omega arith in
-    let N = rowNumber P (a .i) (a .j) (l .a) in
-    let u = rw (rows-step layout (a .v) P (a .i) (a .j) (P .size (a .i)) (l .a) k) at (l .inv .1) in
-    let o = wrote-number _ _ _ (c .before .before .before .before .before .before .before .row-width .result) 2 (c .before .before .before .before .row-number .result) N (c .before .before .before .before .before .before .before .row-width .ensures .is) (c .before .before .before .before .row-number .ensures .is) (c .before .before .put-row .ensures) in
-    (omega arith, writes _ _ _ _ _ (numberBytes 2 N) (rowsBytes layout (a .v) P (a .i) (a .j) (P .size (a .i) - (l .a + 1)) (l .a + 1)) _ _ u o)
+    let o = wrote-number _ _ _ (c .before .before .before .before .before .before .before .row-width .result) 2 (c .before .before .before .before .row-number .result) (rowNumber (held (now (a .t))) (a .i) (a .j) (c .before .before .before .before .before .before .loop .a)) (c .before .before .before .before .before .before .before .row-width .ensures .is) (c .before .before .before .before .row-number .ensures .is) (c .before .before .put-row .ensures) in
+    (omega arith, writes _ _ _ _ _ (numberBytes 2 (rowNumber (held (now (a .t))) (a .i) (a .j) (c .before .before .before .before .before .before .loop .a))) _ _ _ (next (c .before .before .before .before .before)) o)
 
 same-length : tie.Need-same-length Inv-loop μ-loop
 same-length c = c .before .loop .inv .1 .same
