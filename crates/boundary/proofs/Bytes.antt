@@ -4,12 +4,13 @@ use mathlib.Core.List.{List, [], _∷_, _++_, append-nil}
 use Prim.Native.Nat.{ℕ, _+_, _*_, _/_, _%_, _^_, _≤_, _<_}
 use native.Mathlib.Numerals.{add-one}
 use native.Mathlib.Omega.{arith}
-use lib.ListN.{length, getD, set, take, length-append, drop-of-length-le}
+use lib.ListN.{length, getD, take, length-append, drop-of-length-le}
 use lib.Seq.{take-suc, take-all, length-take-le}
 use Rattle.problem.specs.declared.Masks.{Masks}
+use Rattle.sheet.specs.Bytes.{numberBytes}
 use Rattle.trace.specs.Written.{written}
-use Rattle.trace.proofs.Written.{sets-written, written-nil, written-more}
-use Rattle.boundary.specs.State.{numberBytes, wordsBytes, masksBytes}
+use Rattle.trace.proofs.Written.{written-nil, written-more}
+use Rattle.boundary.specs.State.{wordsBytes, masksBytes}
 
 -- ---- words
 
@@ -45,13 +46,6 @@ long-words x h =
     λ i. a i ∷ b i ∷ c i ∷ d i ∷ []
 
 -- ---- writing
-
--- two bytes stored are a word written
-pub word-put : (b : List ℕ) (p x : ℕ) → x < 65536 → p + 2 ≤ length b → set (set b p (x / 256)) (p + 1) (x % 256) ≡ written b p (numberBytes 2 x)
-word-put b p x l h =
-    let e : x / 256 ≡ x / 256 ^ 1 % 256 = omega arith in
-    let f : x % 256 ≡ x / 256 ^ 0 % 256 = omega arith in
-    (λ i. set (set b p (e i)) (p + 1) (f i)) ∙ ap (λ (k : ℕ). set (set b p (x / 256 ^ 1 % 256)) k (x / 256 ^ 0 % 256)) (add-one p) ∙ sets-written b p (numberBytes 2 x) h
 
 -- the words from the place 4 on: none, and one more
 pub words-none : (b : List ℕ) → written b 4 (wordsBytes []) ≡ b

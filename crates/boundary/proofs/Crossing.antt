@@ -12,9 +12,9 @@ use Rattle.bounded.proofs.Table.{length-tab, getD-tab}
 use Rattle.bounded.proofs.Truth.{lt-dec}
 use Rattle.problem.specs.Masks.{Proper}
 use Rattle.problem.specs.declared.Masks.{Masks}
-use Rattle.sheet.specs.Bytes.{byteAt, numberAt}
+use Rattle.sheet.specs.Bytes.{byteAt, numberAt, numberBytes}
 use Rattle.jobs.specs.declared.ManualState.{ManualState}
-use Rattle.boundary.specs.State.{numberBytes, wordsBytes, stateLength, masksBytes, masksIn, handStateLength, handBytes, handIn}
+use Rattle.boundary.specs.State.{wordsBytes, stateLength, masksBytes, masksIn, handStateLength, handBytes, handIn}
 use Rattle.boundary.proofs.Bytes.{length-words}
 
 -- ---- the bytes of one number

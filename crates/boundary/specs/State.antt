@@ -1,15 +1,10 @@
 -- A state as bytes, as it crosses to C and Rust: the active variables in 4 bytes, then 32 domains in 2 bytes each, big-endian.
 use mathlib.Core.List.{List, [], _∷_, _++_}
-use Prim.Native.Nat.{ℕ, zero, suc, _+_, _*_, _/_, _%_, _^_}
+use Prim.Native.Nat.{ℕ, _+_, _*_}
 use Rattle.bounded.specs.Table.{tab}
 use Rattle.problem.specs.declared.Masks.{Masks}
-use Rattle.sheet.specs.Bytes.{numberAt}
+use Rattle.sheet.specs.Bytes.{numberAt, numberBytes}
 use Rattle.jobs.specs.declared.ManualState.{ManualState}
-
--- the w bytes of x, the first worth the most; `numberAt` reads them back
-abbrev pub numberBytes : ℕ → ℕ → List ℕ
-numberBytes zero x = []
-numberBytes (suc w) x = x / 256 ^ w % 256 ∷ numberBytes w x
 
 -- the 2 bytes of each number of a list
 unfoldable pub wordsBytes : List ℕ → List ℕ

@@ -2,9 +2,9 @@
 ghost use mathlib.Core.Path.{_≡_};
 ghost use Prim.Native.Nat.{_+_, _*_, _≤_};
 ghost use lib.ListN.{length};
-ghost use Rattle.sheet.specs.Bytes.{numberAt};
+ghost use Rattle.sheet.specs.Bytes.{numberAt, numberBytes};
 ghost use Rattle.trace.specs.Written.{written};
-ghost use Rattle.boundary.specs.State.{stateLength, numberBytes, masksBytes, masksIn};
+ghost use Rattle.boundary.specs.State.{stateLength, masksBytes, masksIn};
 use problem::Masks;
 
 // ---- the state's bytes

@@ -1,7 +1,7 @@
 -- Numbers in a list of bytes. "Numbers are big-endian."
 use mathlib.Core.Path.{_≡_}
-use mathlib.Core.List.{List}
-use Prim.Native.Nat.{ℕ, zero, suc, _+_, _*_, _^_, _<_}
+use mathlib.Core.List.{List, [], _∷_}
+use Prim.Native.Nat.{ℕ, zero, suc, _+_, _*_, _/_, _%_, _^_, _<_}
 use lib.ListN.{getD}
 
 -- the byte at k, or 0 past the end
@@ -12,6 +12,11 @@ byteAt s k = getD s k 0
 abbrev pub numberAt : List ℕ → ℕ → ℕ → ℕ
 numberAt s zero p = 0
 numberAt s (suc w) p = byteAt s p * 256 ^ w + numberAt s w (p + 1)
+
+-- the w bytes of x, the first worth the most; `numberAt` reads them back
+abbrev pub numberBytes : ℕ → ℕ → List ℕ
+numberBytes zero x = []
+numberBytes (suc w) x = x / 256 ^ w % 256 ∷ numberBytes w x
 
 -- r is the number x, and is below lim
 pub record Is (x lim r : ℕ) : Type 0 where

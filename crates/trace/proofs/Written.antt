@@ -1,11 +1,13 @@
 -- Laws of a list written over a list. Assumes nothing.
 use mathlib.Core.Path.{_≡_, sym, ap, _∙_}
 use mathlib.Core.List.{List, [], _∷_, _++_, append-assoc}
-use Prim.Native.Nat.{ℕ, _+_, _≤_, _<_}
+use Prim.Native.Nat.{ℕ, _+_, _/_, _%_, _^_, _≤_, _<_}
 use native.Mathlib.Nat.{zero-add, add-zero, add-assoc}
+use native.Mathlib.Numerals.{add-one}
 use native.Mathlib.Omega.{arith}
 use lib.ListN.{length, take, drop, set, length-append, length-drop, take-append-drop}
 use lib.Seq.{sets, sets-eq, length-take-le, take-at, drop-at, drop-drop}
+use Rattle.sheet.specs.Bytes.{numberBytes}
 use Rattle.jobs.specs.Trace.{fronted}
 use Rattle.trace.specs.Written.{written}
 
@@ -13,6 +15,13 @@ use Rattle.trace.specs.Written.{written}
 pub sets-written : (l : List ℕ) (p : ℕ) (w : List ℕ) → p + length w ≤ length l → sets l p w ≡ written l p w
 unfolding written
 sets-written l p w h = sets-eq w l p h ∙ append-assoc (take p l) w (drop (p + length w) l)
+
+-- two bytes stored are a word written
+pub word-put : (b : List ℕ) (p x : ℕ) → x < 65536 → p + 2 ≤ length b → set (set b p (x / 256)) (p + 1) (x % 256) ≡ written b p (numberBytes 2 x)
+word-put b p x l h =
+    let e : x / 256 ≡ x / 256 ^ 1 % 256 = omega arith in
+    let f : x % 256 ≡ x / 256 ^ 0 % 256 = omega arith in
+    (λ i. set (set b p (e i)) (p + 1) (f i)) ∙ ap (λ (k : ℕ). set (set b p (x / 256 ^ 1 % 256)) k (x / 256 ^ 0 % 256)) (add-one p) ∙ sets-written b p (numberBytes 2 x) h
 
 module _ (b : List ℕ) (p : ℕ) where
   pub written-nil : written b p [] ≡ b

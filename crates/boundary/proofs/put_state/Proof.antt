@@ -6,8 +6,9 @@ use native.Mathlib.Omega.{arith}
 use lib.ListN.{length, getD, take}
 use mir.Val.{Fits}
 use mir.Syntax.{w32}
+use Rattle.sheet.specs.Bytes.{numberBytes}
 use Rattle.trace.specs.Written.{written}
-use Rattle.boundary.specs.State.{numberBytes, wordsBytes}
+use Rattle.boundary.specs.State.{wordsBytes}
 use Rattle.boundary.proofs.Bytes.{words-none, words-put, state-put}
 use borrow.Author.Needs.{needs}
 use Rattle.boundary.proofs.put_state.Statement.{statement}

@@ -1,7 +1,7 @@
 -- `boundary::put_word`: two bytes stored are a word written. Assumes nothing.
 use native.Mathlib.Omega.{arith}
 use lib.ListN.{length-set}
-use Rattle.boundary.proofs.Bytes.{word-put}
+use Rattle.trace.proofs.Written.{word-put}
 use borrow.Author.Needs.{needs}
 use Rattle.boundary.proofs.put_word.Statement.{statement}
 use Rattle.boundary.proofs.put_word.Tie as tie

@@ -1,0 +1,283 @@
+-- Laws for the code: the rows of the table, the marks, one step of each loop, and writing in turn. Assumes nothing.
+use mathlib.Core.Path.{_≡_, refl, sym, ap, _∙_, subst}
+use mathlib.Core.Bool.{Bool, true, false, and-true, _&&_}
+use mathlib.Core.List.{List, [], _∷_, _++_, append-nil, append-assoc}
+use mathlib.Core.Logic.{⊎-elim}
+use Prim.Native.Nat.{ℕ, zero, suc, _+_, _-_, _*_, _/_, _%_, _^_, _≤_, _<_}
+use native.Mathlib.Numerals.{add-one}
+use native.Mathlib.Omega.{arith}
+use lib.Bits.{bitAnd, and-le-r}
+use lib.Dec.{T, eqb}
+use lib.ListN.{length, getD, set, length-append, List·getD-append}
+use lib.Pow.{pow-pos}
+use lib.Seq.{sets}
+use borrow.Author.Tests.{lt-ltb, le-ltb, eqb-true}
+use Rattle.bounded.specs.Bounded.{oneIf}
+use Rattle.bounded.specs.Mask.{bit, maskOf}
+use Rattle.bounded.specs.Table.{tab, filled}
+use Rattle.bounded.proofs.Truth.{lt-dec}
+use Rattle.bounded.proofs.Mask.{mask-is, bit-and, full-bit}
+use Rattle.bounded.proofs.Table.{length-tab, getD-tab}
+use Rattle.problem.specs.Problem.{Problem}
+use Rattle.problem.specs.Held.{rowPlace, heldValue, rowAllows, held, RowTable}
+use Rattle.problem.proofs.HeldTable.{heldValue-iff, row-tells}
+use Rattle.sheet.specs.Bytes.{byteAt, numberBytes}
+use Rattle.sheet.specs.Sheet.{Layout, layout}
+use Rattle.trace.specs.Written.{written}
+use Rattle.trace.proofs.Written.{sets-written, word-put, written-nil, written-one, written-more, written-front, length-written}
+use Rattle.jobs.specs.Trace.{fronted}
+use Rattle.compose.specs.Compose.{rowNumber, pairBars, hasBlock, blockCount, rowsBytes, blockBytes, placeBytes, blocksBytes, sheetLength, sheetBytes}
+use Rattle.compose.specs.Parts.{markOf, Marked, Wrote, Underway, frontBytes}
+use Rattle.compose.proofs.Stands.{length-number}
+
+-- ---- the table
+
+value : (t : List ℕ) (i a : ℕ) → i < (held t) .n → a < (held t) .size i → T (heldValue t i a)
+unfolding held
+value t i a h l = heldValue-iff t i a .1 (h, l)
+
+row-says : {t : List ℕ} → RowTable t → (i j a b : ℕ) → i < j → T (heldValue t i a) → T (heldValue t j b) → (held t) .allowed i a j b ≡ bit (getD t (rowPlace i j a) 0) b
+unfolding rowAllows
+row-says R i j a b h p q = row-tells R i a j b p q (λ e. omega arith)
+
+-- a word of the table, met with the settings of j, is the row
+pub row-held : {t : List ℕ} → RowTable t → (i j a full : ℕ) → i < j → j < (held t) .n → a < (held t) .size i → full + 1 ≡ 2 ^ (held t) .size j
+    → bitAnd (getD t (rowPlace i j a) 0) full ≡ rowNumber (held t) i j a
+row-held {t} R i j a full h l m e =
+    let x = getD t (rowPlace i j a) 0 in
+    let k = and-le-r x full in
+    let q : full ≡ 2 ^ (held t) .size j - 1 = omega arith in
+    mask-is ((held t) .size j) (bitAnd x full) (λ b. (held t) .allowed i a j b) (omega arith)
+    (λ b o.
+    bit-and x full b
+    ∙ ap (λ (y : ℕ). bit x b && bit y b) q
+    ∙ ap (λ (y : Bool). bit x b && y) (full-bit ((held t) .size j) b o)
+    ∙ and-true (bit x b)
+    ∙ sym (row-says R i j a b h (value t i a (omega arith) m) (value t j b l o)))
+
+-- the settings of j, as the code counts them
+pub full-is : (p y z : ℕ) → p ≡ 2 ^ y → y ≡ z → p - 1 + 1 ≡ 2 ^ z
+full-is p y z e f = let q = pow-pos y in let g = ap (λ (x : ℕ). 2 ^ x) f in omega arith
+
+-- ---- the marks
+
+module _ (P : Problem) where
+  -- where a pair is not in order or not of the problem it has no block
+  pub block-low : (x : ℕ) → x % 32 ≤ x / 32 → hasBlock P x ≡ false
+  unfolding hasBlock
+  block-low x h = simp (le-ltb _ _ h)
+
+  pub block-out : (x : ℕ) → x / 32 < x % 32 → P .n ≤ x % 32 → hasBlock P x ≡ false
+  unfolding hasBlock
+  block-out x h l = simp (lt-ltb _ _ h, le-ltb _ _ l)
+
+  pub block-in : (x : ℕ) → x / 32 < x % 32 → x % 32 < P .n → hasBlock P x ≡ pairBars P (x / 32) (x % 32)
+  unfolding hasBlock
+  block-in x h l = simp (lt-ltb _ _ h, lt-ltb _ _ l)
+
+  -- the places from 32 n on have none
+  block-beyond : (x : ℕ) → 32 * P .n ≤ x → hasBlock P x ≡ false
+  block-beyond x h = ⊎-elim (λ (l : x / 32 < x % 32). block-out x l (omega arith)) (λ (l : x % 32 ≤ x / 32). block-low x l) (lt-dec (x / 32) (x % 32))
+
+  pub count-step : (x : ℕ) → x < 1024 → blockCount P (1024 - x) x ≡ markOf P x + blockCount P (1024 - (x + 1)) (x + 1)
+  unfolding blockCount
+  count-step x h = let e : 1024 - x ≡ suc (1024 - (x + 1)) = omega arith in ap (λ (k : ℕ). blockCount P k x) e
+
+  pub count-beyond : (k x : ℕ) → 32 * P .n ≤ x → blockCount P k x ≡ 0
+  unfolding blockCount
+  count-beyond zero x h = refl
+  count-beyond (suc k) x h =
+      let e : oneIf (hasBlock P x) ≡ 0 = ap oneIf (block-beyond x h) in
+      let i = count-beyond k (x + 1) (omega arith) in
+      omega arith
+
+-- a mark tells
+pub marked-not : (b : Bool) → oneIf b ≡ 0 → b ≡ false
+marked-not true e = let z : _≡_ {A = ℕ} 1 0 = e in absurd (omega arith)
+marked-not false e = refl
+
+pub marked-true : (b : Bool) → (oneIf b ≡ 0 → ⊥) → b ≡ true
+marked-true true d = refl
+marked-true false d = absurd (d refl)
+
+-- what was marked, as those who read the marks know it
+pub marked : {t : List ℕ} → RowTable t → (n : ℕ) (b c : List ℕ) → n ≡ (held t) .n → n ≤ 32 → length b ≡ 1024 → length c ≡ length b → c ≡ filled (32 * n) (markOf (held t)) b → Marked t c
+unfolding filled
+marked {t} R n b c e few l m f =
+    record {
+      table = R;
+      long = m ∙ l;
+      says = λ x h.
+          let k = length-tab (32 * n) (markOf (held t)) in
+          let h' : x < 32 * n = omega arith in
+          ap (λ (y : List ℕ). getD y x 0) f ∙ List·getD-append (tab (32 * n) (markOf (held t))) _ 0 x (omega arith) ∙ getD-tab (32 * n) (markOf (held t)) x 0 h';
+    }
+
+-- ---- writing in turn
+
+pub begins : (b : List ℕ) (p : ℕ) (w : List ℕ) → p + length w ≤ length b → Underway b p w b p w
+begins b p w h = record { rest = refl; place = refl; room = h; same = refl }
+
+-- by another name of what is to be written
+pub begins-as : (b : List ℕ) (p : ℕ) (w r : List ℕ) → w ≡ r → p + length w ≤ length b → Underway b p w b p r
+begins-as b p w r e h = subst (λ (x : List ℕ). Underway b p w b p x) e (begins b p w h)
+
+module _ (b : List ℕ) (p : ℕ) (w b′ : List ℕ) (q : ℕ) where
+  -- the next part is written
+  pub writes : (x r c : List ℕ) (n : ℕ) → Underway b p w b′ q (x ++ r) → Wrote b′ q x c n → Underway b p w c n r
+  writes x r c n u o =
+      let l = length-append x r in
+      let m = u .room in
+      let e = u .place in
+      let f = u .same in
+      let s = length-written b′ q x (omega arith) in
+      let k = o .next in
+      let g = ap length (o .is) in
+      record {
+        rest = ap (λ (y : List ℕ). written y n r) (o .is) ∙ ap (λ (y : ℕ). written (written b′ q x) y r) k ∙ written-more b′ q x r (omega arith) ∙ u .rest;
+        place = omega arith;
+        room = omega arith;
+        same = omega arith;
+      }
+
+  -- room for the next part
+  pub part-room : (x r : List ℕ) → Underway b p w b′ q (x ++ r) → q + length x ≤ length b′
+  part-room x r u = let l = length-append x r in let m = u .room in omega arith
+
+  -- nothing is left
+  pub ends : Underway b p w b′ q [] → Wrote b p w b′ q
+  ends u = let e = u .place in record { is = sym (written-nil b′ q) ∙ u .rest; next = omega arith }
+
+-- the bytes of a number, stored
+pub put-byte : (b : List ℕ) (p w x : ℕ) → w ≡ 1 → x < 256 → p < length b → set b p x ≡ written b p (numberBytes w x)
+put-byte b p w x e l h =
+    let f : x ≡ x / 256 ^ 0 % 256 = omega arith in
+    written-one b p x h ∙ ap (λ (y : ℕ). written b p (y ∷ [])) f ∙ ap (λ (k : ℕ). written b p (numberBytes k x)) (sym e)
+
+pub put-word : (b : List ℕ) (p w x : ℕ) → w ≡ 2 → x < 65536 → p + 2 ≤ length b → set (set b p (x / 256)) (p + 1) (x % 256) ≡ written b p (numberBytes w x)
+put-word b p w x e l h = word-put b p x l h ∙ ap (λ (k : ℕ). written b p (numberBytes k x)) (sym e)
+
+-- a number written, by another name of its width and of itself
+pub wrote-number : (b : List ℕ) (p : ℕ) (c : List ℕ) (w w′ x x′ : ℕ) → w ≡ w′ → x ≡ x′ → c ≡ written b p (numberBytes w x) → Wrote b p (numberBytes w′ x′) c (p + w)
+wrote-number b p c w w′ x x′ e f g =
+    let l = length-number w′ x′ in
+    record { is = g ∙ (λ i. written b p (numberBytes (e i) (f i))); next = omega arith }
+
+-- the two items of a block, stored
+pub pair-put : (b : List ℕ) (p i j : ℕ) → p + 2 ≤ length b → set (set b p i) (p + 1) j ≡ written b p (i ∷ j ∷ [])
+pair-put b p i j h = ap (λ (k : ℕ). set (set b p i) k j) (add-one p) ∙ sets-written b p (i ∷ j ∷ []) h
+
+-- the first eight bytes, stored
+pub front-stored : (b : List ℕ) (v len n m : ℕ) → 8 ≤ length b
+    → sets b 0 (v ∷ len / 16777216 % 256 ∷ len / 65536 % 256 ∷ len / 256 % 256 ∷ len % 256 ∷ n ∷ m / 256 % 256 ∷ m % 256 ∷ []) ≡ written b 0 (frontBytes v len n m)
+front-stored b v len n m h =
+    let e : len % 256 ≡ len / 256 ^ 0 % 256 = omega arith in
+    let f : m % 256 ≡ m / 256 ^ 0 % 256 = omega arith in
+    sets-written b 0 (v ∷ len / 16777216 % 256 ∷ len / 65536 % 256 ∷ len / 256 % 256 ∷ len % 256 ∷ n ∷ m / 256 % 256 ∷ m % 256 ∷ []) (omega arith)
+    ∙ (λ i. written b 0 (v ∷ len / 16777216 % 256 ∷ len / 65536 % 256 ∷ len / 256 % 256 ∷ e i ∷ n ∷ m / 256 % 256 ∷ f i ∷ []))
+
+-- nothing to write
+pub wrote-none : (b : List ℕ) (p : ℕ) → Wrote b p [] b p
+wrote-none b p = record { is = sym (written-nil b p); next = omega arith }
+
+-- writing changes no length
+pub wrote-same : (b : List ℕ) {c w d : List ℕ} {p r : ℕ} → Wrote c p w d r → p + length w ≤ length c → length c ≡ length b → length d ≡ length b
+wrote-same b {c} {w} {d} {p} o h e = ap length (o .is) ∙ length-written c p w h ∙ e
+
+-- two parts, the second at the place after the first
+pub wrote-both : (b : List ℕ) (p : ℕ) (x y c d : List ℕ) (q r : ℕ) → p + length (x ++ y) ≤ length b → c ≡ written b p x → q ≡ p + length x → Wrote c q y d r → Wrote b p (x ++ y) d r
+wrote-both b p x y c d q r h e f o =
+    let l = length-append x y in
+    let n = o .next in
+    record {
+      is = o .is ∙ ap (λ (z : List ℕ). written z q y) e ∙ ap (λ (k : ℕ). written (written b p x) k y) f ∙ written-more b p x y (omega arith);
+      next = omega arith;
+    }
+
+-- ---- the definitions, one step on
+
+module _ (L : Layout) (v : ℕ) (P : Problem) where
+  pub rows-step : (i j z a : ℕ) → a < z → rowsBytes L v P i j (z - a) a ≡ numberBytes (L .width v (P .size j)) (rowNumber P i j a) ++ rowsBytes L v P i j (z - (a + 1)) (a + 1)
+  unfolding rowsBytes
+  rows-step i j z a h = let e : z - a ≡ suc (z - (a + 1)) = omega arith in ap (λ (k : ℕ). rowsBytes L v P i j k a) e
+
+  pub rows-none : (i j z a : ℕ) → z ≤ a → rowsBytes L v P i j (z - a) a ≡ []
+  unfolding rowsBytes
+  rows-none i j z a h = let e : z - a ≡ 0 = omega arith in ap (λ (k : ℕ). rowsBytes L v P i j k a) e
+
+  pub block-parts : (i j : ℕ) → length (blockBytes L v P i j) ≡ 2 + length (rowsBytes L v P i j (P .size i) 0)
+  unfolding blockBytes
+  block-parts i j = omega arith
+
+  pub place-hit : (x : ℕ) → hasBlock P x ≡ true → placeBytes L v P x ≡ blockBytes L v P (x / 32) (x % 32)
+  unfolding placeBytes
+  place-hit x e = simp e
+
+  pub place-miss : (x : ℕ) → hasBlock P x ≡ false → placeBytes L v P x ≡ []
+  unfolding placeBytes
+  place-miss x e = simp e
+
+  pub blocks-step : (x : ℕ) → x < 1024 → blocksBytes L v P (1024 - x) x ≡ placeBytes L v P x ++ blocksBytes L v P (1024 - (x + 1)) (x + 1)
+  unfolding blocksBytes
+  blocks-step x h = let e : 1024 - x ≡ suc (1024 - (x + 1)) = omega arith in ap (λ (k : ℕ). blocksBytes L v P k x) e
+
+  -- and its length
+  pub length-step : (x : ℕ) → x < 1024 → length (blocksBytes L v P (1024 - x) x) ≡ length (placeBytes L v P x) + length (blocksBytes L v P (1024 - (x + 1)) (x + 1))
+  length-step x h = ap length (blocks-step x h) ∙ length-append (placeBytes L v P x) (blocksBytes L v P (1024 - (x + 1)) (x + 1))
+
+  pub blocks-beyond : (k x : ℕ) → 32 * P .n ≤ x → blocksBytes L v P k x ≡ []
+  unfolding blocksBytes
+  blocks-beyond zero x h = refl
+  blocks-beyond (suc k) x h =
+      ap (λ (y : List ℕ). y ++ blocksBytes L v P k (x + 1)) (place-miss x (block-beyond P x h)) ∙ blocks-beyond k (x + 1) (omega arith)
+
+  -- the sheet in the parts in which the code writes it
+  pub sheet-parts : sheetBytes L v P ≡ frontBytes v (sheetLength L v P) (P .n) (blockCount P 1024 0) ++ (tab (P .n) (P .size) ++ blocksBytes L v P 1024 0)
+  unfolding sheetBytes
+  sheet-parts = refl
+
+-- a list given by its entries, one more
+tab-suc : (f : ℕ → ℕ) (i : ℕ) → tab i f ++ (f i ∷ []) ≡ tab (suc i) f
+unfolding tab
+tab-suc f zero = refl
+tab-suc f (suc i) = ap {B = List ℕ} (λ l. f zero ∷ l) (tab-suc (λ k. f (suc k)) i)
+
+tab-more : (f : ℕ → ℕ) (i : ℕ) → tab i f ++ (f i ∷ []) ≡ tab (i + 1) f
+tab-more f i = tab-suc f i ∙ ap (λ (k : ℕ). tab k f) (sym (add-one i))
+
+-- entries written one after the other
+pub tab-none : (b : List ℕ) (p : ℕ) (f : ℕ → ℕ) → written b p (tab 0 f) ≡ b
+unfolding tab
+tab-none b p f = written-nil b p
+
+pub tab-next : (b : List ℕ) (p : ℕ) (f : ℕ → ℕ) (i : ℕ) → p + i < length b → set (written b p (tab i f)) (p + i) (f i) ≡ written b p (tab (i + 1) f)
+tab-next b p f i h =
+    let l = length-tab i f in
+    let m = length-written b p (tab i f) (omega arith) in
+    let e : p + i ≡ p + length (tab i f) = omega arith in
+    written-one (written b p (tab i f)) (p + i) (f i) (omega arith)
+    ∙ ap (λ (k : ℕ). written (written b p (tab i f)) k (f i ∷ [])) e
+    ∙ written-more b p (tab i f) (f i ∷ []) (omega arith)
+    ∙ ap (written b p) (tab-more f i)
+
+-- a version is a byte
+pub version-byte : (v : ℕ) → layout .takes v ≡ true → v < 256
+version-byte v t = let e = eqb-true v 1 t in omega arith
+
+-- the front, the sizes and the blocks make the sheet
+pub length-front : (v len n m : ℕ) → length (frontBytes v len n m) ≡ 8
+length-front v len n m = refl
+
+module _ (L : Layout) (v : ℕ) (P : Problem) (b : List ℕ) where
+  pub sheet-written : (len n m : ℕ) (c d e : List ℕ) → sheetLength L v P ≤ length b → len ≡ sheetLength L v P → n ≡ P .n → m ≡ blockCount P 1024 0
+      → c ≡ written b 0 (frontBytes v len n m) → d ≡ written c 8 (tab n (P .size)) → e ≡ written d (8 + n) (blocksBytes L v P 1024 0) → e ≡ fronted (sheetBytes L v P) b
+  sheet-written len n m c d e h el en em ec ed ee =
+      let F = frontBytes v len n m in
+      let S = tab n (P .size) in
+      let B = blocksBytes L v P 1024 0 in
+      let ls = length-tab n (P .size) in
+      let la = length-append F S in
+      let k : 8 + n ≡ 0 + length (F ++ S) = omega arith in
+      let d' : d ≡ written b 0 (F ++ S) = ed ∙ ap (λ (y : List ℕ). written y 8 S) ec ∙ written-more b 0 F S (omega arith) in
+      let e' : e ≡ written b 0 ((F ++ S) ++ B) = ee ∙ ap (λ (y : List ℕ). written y (8 + n) B) d' ∙ ap (λ (y : ℕ). written (written b 0 (F ++ S)) y B) k ∙ written-more b 0 (F ++ S) B (omega arith) in
+      e' ∙ ap (written b 0) (append-assoc F S B ∙ (λ i. frontBytes v (el i) (en i) (em i) ++ (tab (en i) (P .size) ++ B)) ∙ sym (sheet-parts L v P)) ∙ written-front b (sheetBytes L v P)
