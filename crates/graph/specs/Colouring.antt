@@ -1,8 +1,7 @@
 -- The colouring problem of a graph: "vertex v is item v − 1, each edge's block bars equal settings only, and no other pair has a block".
-use mathlib.Core.Path.{_≡_, refl, sym, ap, _∙_}
-use mathlib.Core.Bool.{Bool, true, false, not, cond, _&&_, _||_}
-use mathlib.Core.List.{List, [], _∷_}
-use Prim.Native.Nat.{ℕ, suc, _+_, _≤_}
+use mathlib.Core.Bool.{Bool, false, not, cond, _&&_, _||_}
+use mathlib.Core.List.{List}
+use Prim.Native.Nat.{ℕ, _+_}
 use lib.Dec.{eqb, ltb}
 use Rattle.problem.specs.Problem.{Problem, bothWays, both-ways-symmetric}
 use Rattle.graph.specs.Graph.{anyLine}
@@ -20,7 +19,7 @@ joins i j Bad = false
 unfoldable pub adjacent : List Line → (i j : ℕ) → Bool
 adjacent m i j = anyLine (joins i j) m
 
-module _ (v k : ℕ) (m : List Line) where
+module _ (v k : ℕ) (joined : ℕ → ℕ → Bool) where
   -- every vertex has k channels
   unfoldable pub channelsAt : ℕ → ℕ
   channelsAt i = cond (ltb i v) k 0
@@ -30,15 +29,9 @@ module _ (v k : ℕ) (m : List Line) where
   isChannel i a = ltb i v && ltb a k
 
   -- of two vertices in order: equal channels are barred where an edge joins them, and nothing else is
-  unfoldable pub differ : (i a j b : ℕ) → Bool
-  differ i a j b = isChannel i a && (isChannel j b && not (adjacent m i j && eqb a b))
+  unfoldable pub mayStand : (i a j b : ℕ) → Bool
+  mayStand i a j b = isChannel i a && (isChannel j b && not (joined i j && eqb a b))
 
-  -- v vertices with k channels, joined by the edges of the lines m
+  -- the colouring problem of v vertices with k channels, joined by edges
   unfoldable pub colouring : Problem
-  colouring =
-      record {
-        n = v;
-        size = channelsAt;
-        allowed = bothWays differ;
-        symmetric = both-ways-symmetric differ;
-      }
+  colouring = record { n = v; size = channelsAt; allowed = bothWays mayStand; symmetric = both-ways-symmetric mayStand }

@@ -1,0 +1,2 @@
+pub mod Colour
+pub mod Parts
