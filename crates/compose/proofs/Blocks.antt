@@ -4,17 +4,15 @@ use mathlib.Core.Path.{_≡_, refl, sym, ap, _∙_}
 use mathlib.Core.Bool.{Bool, true, false, not}
 use mathlib.Core.List.{List}
 use mathlib.Core.Logic.{_↔_}
-use Prim.Native.Nat.{ℕ, _+_, _^_, _≤_, _<_}
+use Prim.Native.Nat.{ℕ, _+_, _^_, _<_}
 use native.Mathlib.Omega.{arith}
-use lib.Dec.{T}
 use lib.Pow.{pow-mono}
-use Rattle.bounded.specs.Bounded.{anyBelow}
 use Rattle.bounded.specs.Mask.{bit}
 use Rattle.bounded.proofs.Truth.{T-of, T-false, clash, not-iff}
 use Rattle.bounded.proofs.Bounded.{any-iff}
 use Rattle.bounded.proofs.Mask.{mask-is}
 use Rattle.problem.specs.Problem.{Problem}
-use Rattle.sheet.specs.Sheet.{Layout, layout, variablesOf, sizeAt, rowWidth, allowsAll, Keeps}
+use Rattle.sheet.specs.Sheet.{Layout, layout, variablesOf, sizeAt, rowWidth, Keeps}
 use Rattle.sheet.specs.Relation.{rowsOf, rowIn, problemOf}
 use Rattle.sheet.specs.declared.Rows.{Rows}
 use Rattle.sheet.specs.declared.Rows.the-variants.{At, Unconstrained}
@@ -40,11 +38,8 @@ unfolding problemOf
 sized L s i h = size-in L s i h
 
 module _ (L : Layout) (s : List ℕ) (K : Keeps L s) (i j : ℕ) where
-  abbrev P : Problem
-  P = problemOf L s
-
   -- a row of the sheet says which settings are allowed
-  pub row-allows : (r : ℕ) → rowsOf L s i j ≡ At r → (a c : ℕ) → a < P .size i → c < P .size j → bit (rowIn L s j r a) c ≡ P .allowed i a j c
+  pub row-allows : (r : ℕ) → rowsOf L s i j ≡ At r → (a c : ℕ) → a < (problemOf L s) .size i → c < (problemOf L s) .size j → bit (rowIn L s j r a) c ≡ (problemOf L s) .allowed i a j c
   unfolding problemOf
   row-allows r e a c h l =
       let f = found L s i j r K e in
@@ -55,7 +50,7 @@ module _ (L : Layout) (s : List ℕ) (K : Keeps L s) (i j : ℕ) where
       sym (row-tells L s i a j c rises (listed-of L s i a (omega arith) (omega arith)) (listed-of L s j c ends (omega arith)) r e)
 
   -- and is the set of them
-  row-is : (r : ℕ) → rowsOf L s i j ≡ At r → (a : ℕ) → a < P .size i → rowIn L s j r a ≡ rowNumber P i j a
+  row-is : (r : ℕ) → rowsOf L s i j ≡ At r → (a : ℕ) → a < (problemOf L s) .size i → rowIn L s j r a ≡ rowNumber (problemOf L s) i j a
   row-is r e a h =
       let f = found L s i j r K e in
       let rises = f .rises in
@@ -63,16 +58,16 @@ module _ (L : Layout) (s : List ℕ) (K : Keeps L s) (i j : ℕ) where
       let zi = sized L s i (omega arith) in
       let zj = sized L s j ends in
       let low = f .low a (omega arith) in
-      mask-is (P .size j) (rowIn L s j r a) (λ b. P .allowed i a j b) (rw zj low) (λ b l. row-allows r e a b h l)
+      mask-is ((problemOf L s) .size j) (rowIn L s j r a) (λ b. (problemOf L s) .allowed i a j b) (rw zj low) (λ b l. row-allows r e a b h l)
 
   -- a block bars something
-  block-some : (r : ℕ) → rowsOf L s i j ≡ At r → pairBars P i j ≡ true
-  block-some r e = go (pairBars P i j) refl
+  block-some : (r : ℕ) → rowsOf L s i j ≡ At r → pairBars (problemOf L s) i j ≡ true
+  block-some r e = go (pairBars (problemOf L s) i j) refl
     where
       f : Found L s i j r
       f = found L s i j r K e
 
-      go : (t : Bool) → pairBars P i j ≡ t → t ≡ true
+      go : (t : Bool) → pairBars (problemOf L s) i j ≡ t → t ≡ true
       go true q = refl
       go false q =
           let rises = f .rises in
@@ -84,17 +79,17 @@ module _ (L : Layout) (s : List ℕ) (K : Keeps L s) (i j : ℕ) where
           (all-full L s (rowWidth L s j) (sizeAt s j) (sizeAt s i) r
           (λ a m.
           ap (λ (x : ℕ). x + 1) (row-is r e a (omega arith))
-          ∙ full-mask (P .size j) (λ b. P .allowed i a j b) (λ b o. bars-none P i j q a b (omega arith) o)
+          ∙ full-mask ((problemOf L s) .size j) (λ b. (problemOf L s) .allowed i a j b) (λ b o. bars-none (problemOf L s) i j q a b (omega arith) o)
           ∙ ap (λ (x : ℕ). 2 ^ x) zj))
           (f .bars))
 
   -- "A pair with no block allows everything; so a block that bars nothing is refused.": two items have a block exactly where some two of their
   -- settings are barred
-  pub block-bars : i < j → j < P .n → ((r : ℕ) × (rowsOf L s i j ≡ At r)) ↔ ((a : ℕ) × (b : ℕ) × (a < P .size i) × (b < P .size j) × (P .allowed i a j b ≡ false))
+  pub block-bars : i < j → j < (problemOf L s) .n → ((r : ℕ) × (rowsOf L s i j ≡ At r)) ↔ ((a : ℕ) × (b : ℕ) × (a < (problemOf L s) .size i) × (b < (problemOf L s) .size j) × ((problemOf L s) .allowed i a j b ≡ false))
   unfolding problemOf
-  block-bars h l = (λ x. bars-some P i j (block-some (x .0) (x .1)), λ x. go (rowsOf L s i j) refl x)
+  block-bars h l = (λ x. bars-some (problemOf L s) i j (block-some (x .0) (x .1)), λ x. go (rowsOf L s i j) refl x)
     where
-      go : (x : Rows) → rowsOf L s i j ≡ x → ((a : ℕ) × (b : ℕ) × (a < P .size i) × (b < P .size j) × (P .allowed i a j b ≡ false)) → (r : ℕ) × (rowsOf L s i j ≡ At r)
+      go : (x : Rows) → rowsOf L s i j ≡ x → ((a : ℕ) × (b : ℕ) × (a < (problemOf L s) .size i) × (b < (problemOf L s) .size j) × ((problemOf L s) .allowed i a j b ≡ false)) → (r : ℕ) × (rowsOf L s i j ≡ At r)
       go (At r) e x = (r, e)
       go Unconstrained e x =
           let zi = size-in L s i (omega arith) in

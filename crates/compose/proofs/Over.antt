@@ -1,14 +1,16 @@
 -- What a caller of the writer finds in its buffer. Assumes nothing.
-use mathlib.Core.Path.{_≡_, refl}
+use mathlib.Core.Path.{_≡_, ap, _∙_}
 use mathlib.Core.List.{List}
 use Prim.Native.Nat.{ℕ, _≤_, _<_}
 use lib.ListN.{length, take, drop}
 use lib.Seq.{take-append-seam}
 use borrow.Author.Tests.{lt-ltb, le-ltb}
 use Rattle.problem.specs.Problem.{Problem}
+use Rattle.problem.specs.Held.{held, tableOf, Bounded}
+use Rattle.problem.proofs.HeldTable.{held-same}
 use Rattle.sheet.specs.Sheet.{Layout}
 use Rattle.jobs.specs.Trace.{fronted}
-use Rattle.compose.specs.Compose.{sheetBytes, SheetResult, sheetOver}
+use Rattle.compose.specs.Compose.{sheetBytes, sheetOver}
 use Rattle.compose.specs.declared.Composed.the-variants.{Written, TooShort}
 
 module _ (L : Layout) (v : ℕ) (P : Problem) (b : List ℕ) where
@@ -24,3 +26,7 @@ module _ (L : Layout) (v : ℕ) (P : Problem) (b : List ℕ) where
   -- the sheet is what stands there
   pub sheet-stands : take (length (sheetBytes L v P)) (fronted (sheetBytes L v P) b) ≡ sheetBytes L v P
   sheet-stands = take-append-seam (sheetBytes L v P) (drop (length (sheetBytes L v P)) b)
+
+  -- over a table that was filled with the problem
+  pub sheet-over-table : Bounded P → (t : List ℕ) → t ≡ tableOf P → sheetOver L v (held t) b ≡ sheetOver L v P b
+  sheet-over-table B t e = ap (λ (Q : Problem). sheetOver L v Q b) (ap held e ∙ held-same P B)

@@ -1,19 +1,19 @@
 -- Laws for the code: the rows of the table, the marks, one step of each loop, and writing in turn. Assumes nothing.
-use mathlib.Core.Path.{_≡_, refl, sym, ap, _∙_, subst}
+use mathlib.Core.Path.{_≡_, refl, sym, ap, _∙_}
 use mathlib.Core.Bool.{Bool, true, false, and-true, _&&_}
-use mathlib.Core.List.{List, [], _∷_, _++_, append-nil, append-assoc}
+use mathlib.Core.List.{List, [], _∷_, _++_, append-assoc}
 use mathlib.Core.Logic.{⊎-elim}
 use Prim.Native.Nat.{ℕ, zero, suc, _+_, _-_, _*_, _/_, _%_, _^_, _≤_, _<_}
 use native.Mathlib.Numerals.{add-one}
 use native.Mathlib.Omega.{arith}
 use lib.Bits.{bitAnd, and-le-r}
-use lib.Dec.{T, eqb}
+use lib.Dec.{T}
 use lib.ListN.{length, getD, set, length-append, List·getD-append}
 use lib.Pow.{pow-pos}
 use lib.Seq.{sets}
 use borrow.Author.Tests.{lt-ltb, le-ltb, eqb-true}
 use Rattle.bounded.specs.Bounded.{oneIf}
-use Rattle.bounded.specs.Mask.{bit, maskOf}
+use Rattle.bounded.specs.Mask.{bit}
 use Rattle.bounded.specs.Table.{tab, filled}
 use Rattle.bounded.proofs.Truth.{lt-dec}
 use Rattle.bounded.proofs.Mask.{mask-is, bit-and, full-bit}
@@ -21,7 +21,7 @@ use Rattle.bounded.proofs.Table.{length-tab, getD-tab}
 use Rattle.problem.specs.Problem.{Problem}
 use Rattle.problem.specs.Held.{rowPlace, heldValue, rowAllows, held, RowTable}
 use Rattle.problem.proofs.HeldTable.{heldValue-iff, row-tells}
-use Rattle.sheet.specs.Bytes.{byteAt, numberBytes}
+use Rattle.sheet.specs.Bytes.{numberBytes}
 use Rattle.sheet.specs.Sheet.{Layout, layout}
 use Rattle.trace.specs.Written.{written}
 use Rattle.trace.proofs.Written.{sets-written, word-put, written-nil, written-one, written-more, written-front, length-written}
@@ -117,10 +117,6 @@ marked {t} R n b c e few l m f =
 
 pub begins : (b : List ℕ) (p : ℕ) (w : List ℕ) → p + length w ≤ length b → Underway b p w b p w
 begins b p w h = record { rest = refl; place = refl; room = h; same = refl }
-
--- by another name of what is to be written
-pub begins-as : (b : List ℕ) (p : ℕ) (w r : List ℕ) → w ≡ r → p + length w ≤ length b → Underway b p w b p r
-begins-as b p w r e h = subst (λ (x : List ℕ). Underway b p w b p x) e (begins b p w h)
 
 module _ (b : List ℕ) (p : ℕ) (w b′ : List ℕ) (q : ℕ) where
   -- the next part is written
@@ -265,9 +261,6 @@ pub version-byte : (v : ℕ) → layout .takes v ≡ true → v < 256
 version-byte v t = let e = eqb-true v 1 t in omega arith
 
 -- the front, the sizes and the blocks make the sheet
-pub length-front : (v len n m : ℕ) → length (frontBytes v len n m) ≡ 8
-length-front v len n m = refl
-
 module _ (L : Layout) (v : ℕ) (P : Problem) (b : List ℕ) where
   pub sheet-written : (len n m : ℕ) (c d e : List ℕ) → sheetLength L v P ≤ length b → len ≡ sheetLength L v P → n ≡ P .n → m ≡ blockCount P 1024 0
       → c ≡ written b 0 (frontBytes v len n m) → d ≡ written c 8 (tab n (P .size)) → e ≡ written d (8 + n) (blocksBytes L v P 1024 0) → e ≡ fronted (sheetBytes L v P) b

@@ -1,13 +1,13 @@
 -- `compose::blocks_length`: the length so far and that of the rest. Assumes nothing.
 use mathlib.Core.Path.{_≡_, ap}
-use Prim.Native.Nat.{_+_, _-_, _*_, _≤_, _<_}
+use Prim.Native.Nat.{_+_, _-_, _*_, _≤_}
 use native.Mathlib.Omega.{arith}
 use denote.Ref.{now}
 use lib.ListN.{length}
 use Rattle.problem.specs.Held.{held}
 use Rattle.problem.proofs.HeldTable.{held-few, held-bounded}
 use Rattle.sheet.specs.Sheet.{layout}
-use Rattle.compose.specs.Compose.{placeBytes, blocksBytes}
+use Rattle.compose.specs.Compose.{blocksBytes}
 use Rattle.compose.proofs.Lengths.{blocks-short}
 use Rattle.compose.proofs.Blocks.{roomy-today}
 use Rattle.compose.proofs.Writing.{length-step, blocks-beyond}

@@ -9,9 +9,9 @@ use Rattle.bounded.specs.Table.{filled}
 use Rattle.bounded.proofs.Table.{filled-none, filled-more}
 use Rattle.problem.specs.Held.{held}
 use Rattle.problem.proofs.HeldTable.{held-few}
-use Rattle.compose.specs.Compose.{hasBlock, blockCount}
+use Rattle.compose.specs.Compose.{blockCount}
 use Rattle.compose.specs.Parts.{markOf}
-use Rattle.compose.proofs.Lengths.{one-few, count-few}
+use Rattle.compose.proofs.Lengths.{count-few}
 use Rattle.compose.proofs.Writing.{count-step, count-beyond}
 use borrow.Author.Needs.{needs}
 use Rattle.compose.proofs.mark_blocks.Statement.{statement}

@@ -1,6 +1,6 @@
 -- `compose::put_row`: a width is 1 or 2. Assumes nothing.
 use mathlib.Core.Path.{_≡_, ap}
-use Prim.Native.Nat.{ℕ, _^_, _<_}
+use Prim.Native.Nat.{ℕ, _^_}
 use native.Mathlib.Omega.{arith}
 use lib.ListN.{length-set}
 use Rattle.compose.proofs.Writing.{put-byte, put-word}

@@ -1,5 +1,4 @@
 -- `compose::put_sheet`: the front, the sizes and the blocks in turn. Assumes nothing.
-use mathlib.Core.Path.{_≡_}
 use Prim.Native.Nat.{_≤_}
 use native.Mathlib.Omega.{arith}
 use denote.Ref.{now}
