@@ -1,17 +1,26 @@
 -- The digits of an argument, one after the other. Assumes nothing.
 use mathlib.Core.Path.{_≡_, refl, sym, ap, _∙_}
-use mathlib.Core.Bool.{Bool, true, false, cond, _&&_, and-false}
+use mathlib.Core.Bool.{true, false, and-false}
 use mathlib.Core.List.{List, [], _∷_}
-use Prim.Native.Nat.{ℕ, zero, suc, _+_, _-_, _*_, _^_, _≤_, _<_}
+use Prim.Native.Nat.{ℕ, _+_, _-_, _*_, _^_, _≤_, _<_}
 use native.Mathlib.Nat.{pow-suc, pow-le-pow-right}
 use native.Mathlib.Numerals.{add-one}
 use native.Mathlib.Omega.{arith}
-use lib.Dec.{leb}
 use lib.ListN.{length, drop, getD}
 use lib.Seq.{drop-cons, drop-length}
 use borrow.Author.Tests.{le-leb, lt-leb}
 use Rattle.graph.specs.Graph.{isDigit, allDigits, isNumber, decimalFrom, decimalOf}
 use Rattle.colour_sheet.specs.Argument.{channelsOf}
+
+-- the arguments `16`, `007`, nothing, `3x`, and ten digits
+pub worked-arguments :
+    (channelsOf (49 ∷ 54 ∷ []) ≡ 16)
+    × (channelsOf (48 ∷ 48 ∷ 55 ∷ []) ≡ 7)
+    × (channelsOf [] ≡ 0)
+    × (channelsOf (51 ∷ 120 ∷ []) ≡ 0)
+    × (channelsOf (48 ∷ 48 ∷ 48 ∷ 48 ∷ 48 ∷ 48 ∷ 48 ∷ 48 ∷ 48 ∷ 51 ∷ []) ≡ 0)
+unfolding channelsOf isNumber allDigits decimalFrom
+worked-arguments = (refl, refl, refl, refl, refl)
 
 -- k digits of the argument are passed and say x
 pub record Passed (w : List ℕ) (x k : ℕ) : Type 0 where
@@ -24,7 +33,7 @@ pub record Passed (w : List ℕ) (x k : ℕ) : Type 0 where
 pub passed-start : (w : List ℕ) → length w ≤ 9 → Passed w 0 0
 passed-start w h = record { few = h; within = omega arith; small = omega arith; value = refl; digits = refl }
 
--- what was passed fits, and so does one digit more
+-- nine digits say less than 10 ^ 9
 pub passed-fits : (w : List ℕ) (x k : ℕ) → Passed w x k → x < 1000000000
 passed-fits w x k I =
     let few = I .few in
@@ -60,7 +69,8 @@ module _ (w : List ℕ) (x k : ℕ) (I : Passed w x k) where
     passed-turn a b =
         let small = I .small in
         let p : 10 ^ (k + 1) ≡ 10 ^ k * 10 = ap (λ (n : ℕ). 10 ^ n) (add-one k) ∙ pow-suc 10 k in
-        let e : allDigits (getD w k 0 ∷ drop (k + 1) w) ≡ allDigits (drop (k + 1) w) = rw (allDigits, le-leb 48 (getD w k 0) a, le-leb (getD w k 0) 57 b) in
+        let e : allDigits (getD w k 0 ∷ drop (k + 1) w) ≡ allDigits (drop (k + 1) w) =
+        rw (allDigits, le-leb 48 (getD w k 0) a, le-leb (getD w k 0) 57 b) in
         record {
           few = I .few;
           within = omega arith;

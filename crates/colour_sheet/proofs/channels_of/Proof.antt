@@ -23,10 +23,14 @@ shared-slice-read-b : tie.Need-shared-slice-read-b Inv-loop μ-loop
 shared-slice-read-b c = search needs
 
 returns-2 : tie.Need-returns-2 Inv-loop μ-loop
-returns-2 c = none-low _ _ _ (c .before .before .before .loop .inv) (c .before .before .loop-test .taken) (c .if2 .taken)
+returns-2 c =
+    let t = c .before .before in
+    none-low _ _ _ (t .before .loop .inv) (t .loop-test .taken) (c .if2 .taken)
 
 returns-3 : tie.Need-returns-3 Inv-loop μ-loop
-returns-3 c = none-high _ _ _ (c .before .before .before .before .loop .inv) (c .before .before .before .loop-test .taken) (c .if3 .taken)
+returns-3 c =
+    let t = c .before .before .before in
+    none-high _ _ _ (t .before .loop .inv) (t .loop-test .taken) (c .if3 .taken)
 
 mul-x : tie.Need-mul-x Inv-loop μ-loop
 mul-x c = omega (arith, passed-fits _ _ _ (c .before .before .before .before .loop .inv))
@@ -44,7 +48,9 @@ loop-less : tie.Need-loop-less Inv-loop μ-loop
 loop-less c = search needs
 
 loop-again : tie.Need-loop-again Inv-loop μ-loop
-loop-again c = passed-turn _ _ _ (c .before .before .before .before .loop .inv) (c .before .before .before .loop-test .taken) (c .before .if2 .left) (c .if3 .left)
+loop-again c =
+    let t = c .before .before .before in
+    passed-turn _ _ _ (t .before .loop .inv) (t .loop-test .taken) (c .before .if2 .left) (c .if3 .left)
 
 returns-4 : tie.Need-returns-4 Inv-loop μ-loop
 returns-4 c = passed-end _ _ _ (c .before .loop .inv) (c .loop-test .left)
