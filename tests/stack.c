@@ -1,7 +1,7 @@
 /* Measures the stack that each exported function uses and fails above the limits that include/zomuwedli.h states: no contract speaks of
  * the stack. Each call runs in a thread whose stack was filled with a pattern; what is no longer the pattern was used. A job is measured
- * on several sheets, or on files of which these are the sheets, and the most counts. A thread that does not start, a call that does not answer as expected, and a figure too small to
- * be one of a call that was made are failures. */
+ * on several sheets, or on files of which these are the sheets, and the most counts. A thread that does not start, a call that does not
+ * answer as expected, and a figure too small to be one of a call that was made are failures. */
 #define _POSIX_C_SOURCE 200809L
 #include <pthread.h>
 #include <stdio.h>
