@@ -14,13 +14,14 @@
  * are 0 where the call was refused; the functions after each declaration take them out.
  *
  * Stack. No contract speaks of it. Leave each call as much as its constant says, which is above what tests/stack.c measures on sheets of
- * 32 items of 16 settings and a trace of 512 records:
+ * 32 items of 16 settings, a trace of 512 records and colouring files of 64 KiB:
  *
  *     zomuwedli_read         ZOMUWEDLI_READ_STACK         4 KiB
  *     zomuwedli_run          ZOMUWEDLI_RUN_STACK         40 KiB
  *     zomuwedli_start        ZOMUWEDLI_START_STACK       40 KiB
  *     zomuwedli_hand_call    ZOMUWEDLI_HAND_CALL_STACK   40 KiB
  *     zomuwedli_put_back     ZOMUWEDLI_PUT_BACK_STACK   320 KiB, since it keeps a state for each record of the trace
+ *     zomuwedli_colour       ZOMUWEDLI_COLOUR_STACK      40 KiB
  */
 #ifndef ZOMUWEDLI_H
 #define ZOMUWEDLI_H
@@ -47,6 +48,9 @@ extern "C" {
 /* A trace buffer that is long enough for every sheet: 1 + 5 x 512 bytes. */
 #define ZOMUWEDLI_MAX_TRACE 2561
 
+/* The longest colouring file. */
+#define ZOMUWEDLI_MAX_FILE 65536
+
 /* The bytes of a run's state, big-endian: the items in (4 bytes, bit i for item i), then the settings on of items 0 to 31 (2 bytes each,
  * bit c for setting c). */
 #define ZOMUWEDLI_STATE_LENGTH 68
@@ -63,12 +67,13 @@ extern "C" {
 #define ZOMUWEDLI_START_STACK (40 * 1024)
 #define ZOMUWEDLI_HAND_CALL_STACK (40 * 1024)
 #define ZOMUWEDLI_PUT_BACK_STACK (320 * 1024)
+#define ZOMUWEDLI_COLOUR_STACK (40 * 1024)
 #define ZOMUWEDLI_STACK (40 * 1024)
 
 /* ---- The refusals: the constant, the number and the text of each. The numbers are those of docs/FORMAT.md, "Where each thing is turned
  * away"; in which order they are looked for stands with each call. A new number is one line here. */
 #define ZOMUWEDLI_REFUSALS(ROW) \
-    /* the sheet, in every call */ \
+    /* the sheet, in every call that is lent one */ \
     ROW(ZOMUWEDLI_REFUSED_SHEET_FRONT, 1, "the sheet has fewer than 8 bytes") \
     ROW(ZOMUWEDLI_REFUSED_SHEET_VERSION, 2, "byte 0 of the sheet is not 1") \
     ROW(ZOMUWEDLI_REFUSED_SHEET_LENGTH, 3, "the sheet's stated length is not the length lent") \
@@ -92,6 +97,12 @@ extern "C" {
     ROW(ZOMUWEDLI_REFUSED_PLAN_LENGTH, 18, "the plan does not have one byte for each item") \
     ROW(ZOMUWEDLI_REFUSED_PLAN_UNFIT, 19, "the plan has an item out that is not 255, a setting not on, or a barred pair") \
     ROW(ZOMUWEDLI_REFUSED_RESULT_LENGTH, 20, "the result buffer does not have one byte for each item") \
+    /* the sheet of a colouring file */ \
+    ROW(ZOMUWEDLI_REFUSED_GRAPH_FILE, 21, "the colouring file is over 64 KiB, has a line of no known form, has no p line or a second one or one after an e line, or names a vertex outside the stated range") \
+    ROW(ZOMUWEDLI_REFUSED_GRAPH_LOOP, 22, "both ends of an edge are one vertex") \
+    ROW(ZOMUWEDLI_REFUSED_EDGE_COUNT, 23, "the e lines are not as many as the p line states") \
+    ROW(ZOMUWEDLI_REFUSED_COLOUR_RANGE, 24, "the vertices are not 1 to 32, or the channels not 1 to 16") \
+    ROW(ZOMUWEDLI_REFUSED_SHEET_BUFFER, 25, "the sheet buffer is shorter than the sheet") \
     /* the boundary's own, before every other of their calls */ \
     ROW(ZOMUWEDLI_REFUSED_RUN_STATE_LENGTH, 200, "the buffer for the run's state is not 68 bytes") \
     ROW(ZOMUWEDLI_REFUSED_HAND_STATE_LENGTH, 201, "the buffer for the hand state is not 68 bytes")
@@ -159,6 +170,16 @@ static inline unsigned zomuwedli_setting(uint64_t answer) { return (unsigned)(an
  * out; the result has as many. */
 uint64_t zomuwedli_put_back(const uint8_t *sheet, size_t sheet_length, const uint8_t *trace, size_t trace_length, const uint8_t *plan,
                             size_t plan_length, uint8_t *result, size_t result_length);
+
+/* ---- The sheet of a colouring file: from a DIMACS graph colouring file and a number of channels, the sheet whose plans are the proper
+ * colourings. Vertex v is item v - 1, each item's settings are the channels, and each edge's block bars equal settings and nothing else.
+ * Refused, each over the whole file before the next: 21, 22, 23, 24, 25. The channels may be any number.
+ * Writes the sheet at the front of its buffer, which keeps its old bytes after that. A buffer of ZOMUWEDLI_MAX_SHEET bytes is long enough
+ * for every file. */
+uint64_t zomuwedli_colour(const uint8_t *file, size_t file_length, uint64_t channels, uint8_t *sheet, size_t sheet_length);
+
+/* How many bytes of sheet a call wrote. */
+static inline unsigned zomuwedli_sheet_written(uint64_t answer) { return (unsigned)(answer >> 8 & 0xffffff); }
 
 /* ---- What a state's bytes say: which items are in, and which settings of item i (below 32) are on. */
 static inline uint32_t zomuwedli_items_in(const uint8_t *state)

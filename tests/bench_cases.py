@@ -1,15 +1,17 @@
 #!/usr/bin/env python3
-"""Writes the bench cases and the answers that docs/FORMAT.md gives for them: crates/bench_sheets/stdin and stdout.
-usage: bench_cases.py [DIRECTORY], which writes the two files there instead.
+"""Writes the bench cases and the answers that docs/FORMAT.md gives for them: stdin and stdout of crates/bench_sheets and crates/bench_jobs.
+usage: bench_cases.py [DIRECTORY], which writes the files below that directory instead of crates/.
 
-For the read check the answers come from how each case is built (which faults were put in), and are held against the reader written here;
-for the other jobs they come from the jobs written here. Both follow docs/FORMAT.md alone. The gate runs the program bench_sheets on the
-committed files; tests/tidy compares them with what this script writes."""
+For the read check and the colouring file the answers come from how each case is built (which faults were put in), and are held against the
+readers written here; for the other jobs they come from the jobs written here. All follow docs/FORMAT.md alone. The gate runs the programs
+bench_sheets and bench_jobs on the committed files; tests/tidy compares them with what this script writes."""
+import itertools
 import os
 import random
+import re
 import sys
 
-ROOT = sys.argv[1] if len(sys.argv) == 2 else os.path.join(os.path.dirname(os.path.abspath(__file__)), "..", "crates", "bench_sheets")
+ROOT = sys.argv[1] if len(sys.argv) == 2 else os.path.join(os.path.dirname(os.path.abspath(__file__)), "..", "crates")
 
 
 def sheet(sizes, blocks, version=1, stated=None, n=None, m=None, extra=b""):
@@ -59,11 +61,12 @@ def read(s):
     return (n, m)
 
 
-cases = []
+cases = {"bench_sheets": [], "bench_jobs": []}
 
 
 def case(name, job, expected, *fields):
-    cases.append((name, job, [f.hex() for f in fields], expected))
+    program = "bench_jobs" if job == "colo" else "bench_sheets"
+    cases[program].append((name, job, [f.hex() for f in fields], expected))
 
 
 def reading(name, s, expected):
@@ -583,8 +586,342 @@ for k in range(60):
         back(f"random {k}, a plan of what is left", s, trace_bytes(trace), bytes(p), expected="done")
     back(f"random {k}, any bytes", s, trace_bytes(trace), bytes(rng.randint(0, 3) for _ in range(P.n)))
 
-with open(os.path.join(ROOT, "stdin"), "w") as f, open(os.path.join(ROOT, "stdout"), "w") as g:
-    for name, job, fields, expected in cases:
-        f.write(f"# {name}\n{job} {' '.join(fields)}\n")
-        g.write(expected + "\n")
-print(len(cases), "cases")
+# ---- the sheet of a colouring file
+
+MOST_BYTES = 65536
+VERTICES, CHANNELS = range(1, 33), range(1, 17)
+
+
+def lines_of(file):
+    """Each line ends in a newline, which the last may lack."""
+    pieces = file.split(b"\n")
+    return pieces if pieces[-1] else pieces[:-1]
+
+
+def form_of(line):
+    """c, ("p", vertices, edges), ("e", vertex, vertex), or None for a line of none of these forms."""
+    if line[:1] == b"c":
+        return "c"
+    m = re.fullmatch(rb"(?:(p) edge|(e)) ([0-9]{1,9}) ([0-9]{1,9})", line)
+    return m and ((m[1] or m[2]).decode(), int(m[3]), int(m[4]))
+
+
+def colouring_sheet(vertices, edges, channels):
+    """All edges as lines give them: either way round, and again."""
+    pairs = sorted({(min(e) - 1, max(e) - 1) for e in edges})
+    return sheet([channels] * vertices, [(i, j, [(1 << channels) - 1 - (1 << x) for x in range(channels)]) for i, j in pairs])
+
+
+def colour(file, channels, buffer):
+    """The number of the first refusal, or the bytes written, and the buffer afterwards."""
+    if len(file) > MOST_BYTES:
+        return 21, None, buffer
+    forms = [form_of(line) for line in lines_of(file)]
+    if None in forms:
+        return 21, None, buffer
+    told = [f for f in forms if f != "c"]
+    if [f[0] for f in told if f[0] == "p"] != ["p"] or told[0][0] != "p":
+        return 21, None, buffer
+    (_, vertices, count), *edges = told
+    ends = [(a, b) for _, a, b in edges]
+    if any(not 1 <= v <= vertices for e in ends for v in e):
+        return 21, None, buffer
+    if any(a == b for a, b in ends):
+        return 22, None, buffer
+    if len(ends) != count:
+        return 23, None, buffer
+    if vertices not in VERTICES or channels not in CHANNELS:
+        return 24, None, buffer
+    written = colouring_sheet(vertices, ends, channels)
+    if len(buffer) < len(written):
+        return 25, None, buffer
+    return 0, len(written), written + buffer[len(written):]
+
+
+def plans_are_colourings(file, channels, written):
+    """Whether the plans of the sheet are the proper colourings, read off the lines of the file; for small ones, by trying all."""
+    P = Problem(written)
+    ends = [tuple(int(x) - 1 for x in line.split(b" ")[1:]) for line in file.split(b"\n") if line[:1] == b"e"]
+    return P.sizes == [channels] * P.n and all(
+        all(p[a] != p[b] for a, b in ends) == all(P.ok(i, p[i], j, p[j]) for i in range(P.n) for j in range(i))
+        for p in itertools.product(range(channels), repeat=P.n))
+
+
+def colouring(name, expected, head, channels=3, long=None, again=b"", total=None):
+    """`expected` is the number of a refusal, or None where a sheet is written. A buffer has nine bytes more than the sheet, or `long`. The
+    file is its head and then, up to `total` bytes, other bytes again and again: so a long one makes a short line."""
+    file = head if total is None else (head + again * total)[:total]
+    if long is None:
+        long = 9 + (colour(file, channels, bytes(1 << 15))[1] or 31)
+    number, written, after = colour(file, channels, pattern(long))
+    assert number == (expected or 0), (name, number, expected)
+    if number == 0:
+        assert read(after[:written]) == (after[5], int.from_bytes(after[6:8], "big")), name
+        assert channels ** after[5] > 300 or plans_are_colourings(file, channels, after[:written]), name
+    case(name, "colo", f"refused {number} {after.hex()}" if number else f"written {written} {after.hex()}", channels.to_bytes(8, "big"),
+         long.to_bytes(2, "big"), len(file).to_bytes(4, "big"), head, again)
+
+
+def text_of(*lines):
+    return b"".join(line + b"\n" for line in lines)
+
+
+def p_line(vertices, count):
+    return b"p edge %d %d" % (vertices, count)
+
+
+def e_line(e):
+    return b"e %d %d" % e
+
+
+def file_of(vertices, edges, count=None):
+    return text_of(p_line(vertices, len(edges) if count is None else count), *map(e_line, edges))
+
+
+TRIANGLE = [(1, 2), (1, 3), (2, 3)]
+COMPLETE = [(a, b) for a in range(1, 33) for b in range(a + 1, 33)]
+
+# what is written
+colouring("colour: a triangle", None, file_of(3, TRIANGLE))
+colouring("colour: one vertex and no edge", None, file_of(1, []))
+colouring("colour: one vertex, one channel", None, file_of(1, []), 1)
+colouring("colour: three vertices and no edge", None, file_of(3, []))
+colouring("colour: 32 vertices and no edge, 16 channels", None, file_of(32, []), 16)
+colouring("colour: one channel and no edge", None, file_of(4, []), 1)
+colouring("colour: one channel and an edge, a block that bars everything", None, file_of(2, [(1, 2)]), 1)
+colouring("colour: 16 channels", None, file_of(2, [(1, 2)]), 16)
+colouring("colour: edges between the lowest and the highest", None, file_of(32, [(1, 32), (31, 32), (1, 2)]), 2)
+colouring("colour: edges in no order, larger ends first", None, file_of(5, [(5, 4), (2, 1), (5, 1), (3, 2), (4, 1)]))
+colouring("colour: an edge given again", None, file_of(3, [(1, 2), (2, 3), (1, 2), (1, 2)]))
+colouring("colour: an edge given again, the other way round", None, file_of(3, [(1, 2), (2, 3), (2, 1), (3, 2)]))
+colouring("colour: the last line without its newline", None, file_of(3, TRIANGLE)[:-1])
+colouring("colour: the p line is the last and lacks its newline", None, file_of(3, [])[:-1])
+colouring("colour: a c line is the last and lacks its newline", None, file_of(3, TRIANGLE) + b"c")
+colouring("colour: a number of nine digits with leading zeros", None, text_of(b"p edge 000000003 000000001", b"e 000000001 000000003"))
+colouring("colour: leading zeros of all lengths", None, text_of(b"p edge 03 00000003", b"e 01 002", b"e 0001 00003", b"e 000002 0000003"))
+for name, comment in (("c alone", b"c"), ("cat", b"cat"), ("c and a space", b"c "), ("c with CR at its end", b"c a comment\r"),
+                      ("c and CR", b"c\r"), ("c with CR inside", b"c a\rp edge 1 1"), ("c with NUL", b"c\0\0"),
+                      ("c with bytes over 127", b"c\x80\xc3\xa9\xff"), ("c with a tab", b"c\t\t"), ("a p line behind c", b"cp edge 9 9"),
+                      ("an e line behind c", b"c e 9 9"), ("every byte but newline", bytes([99]) + bytes(x for x in range(256) if x != 10))):
+    p, *es = lines_of(file_of(3, TRIANGLE))
+    colouring(f"colour: {name}, before the p line", None, text_of(comment, comment, p, *es))
+    colouring(f"colour: {name}, after the p line", None, text_of(p, comment, *es))
+    colouring(f"colour: {name}, between e lines", None, text_of(p, es[0], comment, es[1], comment, es[2]))
+    colouring(f"colour: {name}, after the e lines", None, text_of(p, *es, comment))
+    colouring(f"colour: {name}, last and without its newline", None, text_of(p, *es) + comment)
+
+# The faults that can stand in one call, in the order of their numbers: a file of four vertices and three edges has a loop in its second e
+# line (22), states another number of them (23), states 33 vertices (24), and is coloured with 17 channels (24) and into a buffer that is too
+# short (25). Each cause of 21 is put in afterwards.
+LATER = [22, 23, 24, 24, 25]
+PATH = [(1, 2), (2, 3), (3, 4)]
+PATH_SHEET = len(colouring_sheet(4, PATH, 2))
+NAMES = ["a loop", "another count", "33 vertices", "17 channels", "a short buffer"]
+
+
+def later(faults):
+    """The lines of the file, the channels and the length of the buffer."""
+    edges = [(1, 2), (2, 2) if 0 in faults else (2, 3), (3, 4)]
+    return ([p_line(33 if 2 in faults else 4, 4 if 1 in faults else 3), *map(e_line, edges)], 17 if 3 in faults else 2,
+            PATH_SHEET - 1 if 4 in faults else PATH_SHEET + 3)
+
+
+for k in range(len(LATER) + 1):
+    for faults in itertools.combinations(range(len(LATER)), k):
+        lines, channels, long = later(faults)
+        colouring("colour: " + (" and ".join(NAMES[f] for f in faults) or "no fault"), LATER[faults[0]] if faults else None, text_of(*lines),
+                  channels, long)
+
+# each cause of 21: what becomes of the lines
+ON_LINES = {
+    "the empty file": lambda ls: [],
+    "only comments": lambda ls: [b"c", b"c no p line"],
+    "no p line": lambda ls: ls[1:],
+    "a second p line behind the first": lambda ls: [ls[0], *ls],
+    "a second p line at the end": lambda ls: [*ls, ls[0]],
+    "p after e": lambda ls: [ls[1], ls[0], *ls[2:]],
+    "p after all e": lambda ls: [*ls[1:], ls[0]],
+    "p between e, and a first p": lambda ls: [*ls[:2], ls[0], *ls[2:]],
+    "a blank line first": lambda ls: [b"", *ls],
+    "a blank line between": lambda ls: [*ls[:2], b"", *ls[2:]],
+    "two newlines at the end": lambda ls: [*ls, b""],
+    "vertex 0": lambda ls: [*ls, b"e 0 1"],
+    "vertex 0 as the second end": lambda ls: [*ls, b"e 1 0"],
+    "vertex 0 at both ends": lambda ls: [*ls, b"e 0 0"],
+    "vertex 0 with zeros": lambda ls: [*ls, b"e 000 1"],
+    "a vertex above the range": lambda ls: [*ls, b"e 34 1"],
+    "a vertex above the range as the second end": lambda ls: [*ls, b"e 1 34"],
+    "a vertex far above the range": lambda ls: [*ls, b"e 1 999999999"],
+    "a vertex above the range in the first e line": lambda ls: [ls[0], b"e 1 100", *ls[1:]],
+    "a line of one space": lambda ls: [*ls, b" "],
+    "a line of CR": lambda ls: [*ls, b"\r"],
+    "CR at the end of p": lambda ls: [ls[0] + b"\r", *ls[1:]],
+    "CR at the end of e": lambda ls: [*ls[:-1], ls[-1] + b"\r"],
+    "CR at the start of e": lambda ls: [*ls[:-1], b"\r" + ls[-1]],
+    "a space before c": lambda ls: [b" c", *ls],
+    "a space before p": lambda ls: [b" " + ls[0], *ls[1:]],
+    "a space before e": lambda ls: [*ls[:-1], b" " + ls[-1]],
+    "a space after p": lambda ls: [ls[0] + b" ", *ls[1:]],
+    "a space after e": lambda ls: [*ls[:-1], ls[-1] + b" "],
+    "two spaces in p, first": lambda ls: [ls[0].replace(b"p edge", b"p  edge"), *ls[1:]],
+    "two spaces in p, second": lambda ls: [ls[0].replace(b"edge", b"edge "), *ls[1:]],
+    "two spaces in p, third": lambda ls: [b"  ".join(ls[0].rsplit(b" ", 1)), *ls[1:]],
+    "two spaces in e, first": lambda ls: [*ls[:-1], b"e  3 4"],
+    "two spaces in e, second": lambda ls: [*ls[:-1], b"e 3  4"],
+    "a tab in p": lambda ls: [ls[0].replace(b"edge ", b"edge\t"), *ls[1:]],
+    "a tab after p": lambda ls: [ls[0].replace(b"p ", b"p\t"), *ls[1:]],
+    "a tab in e": lambda ls: [*ls[:-1], b"e 3\t4"],
+    "a tab after e": lambda ls: [*ls[:-1], b"e\t3 4"],
+    "a plus sign": lambda ls: [*ls[:-1], b"e +3 4"],
+    "a minus sign": lambda ls: [*ls[:-1], b"e 3 -4"],
+    "a sign in p": lambda ls: [ls[0].replace(b"edge ", b"edge +"), *ls[1:]],
+    "ten digits": lambda ls: [*ls[:-1], b"e 0000000003 4"],
+    "ten digits as the second end": lambda ls: [*ls[:-1], b"e 3 0000000004"],
+    "ten digits in p": lambda ls: [ls[0].replace(b"edge ", b"edge 000000000"), *ls[1:]],
+    "ten digits as p's count": lambda ls: [b" 000000000".join(ls[0].rsplit(b" ", 1)), *ls[1:]],
+    "more digits than any number holds": lambda ls: [*ls[:-1], b"e 3 " + b"9" * 40],
+    "p col": lambda ls: [ls[0].replace(b"edge", b"col"), *ls[1:]],
+    "p edges": lambda ls: [ls[0].replace(b"edge", b"edges"), *ls[1:]],
+    "p Edge": lambda ls: [ls[0].replace(b"edge", b"Edge"), *ls[1:]],
+    "P": lambda ls: [ls[0].replace(b"p", b"P"), *ls[1:]],
+    "C": lambda ls: [b"C a comment", *ls],
+    "E": lambda ls: [*ls[:-1], b"E 3 4"],
+    "p alone": lambda ls: [b"p", *ls],
+    "p edge alone": lambda ls: [*ls, b"p edge"],
+    "p edge and a space": lambda ls: [*ls, b"p edge "],
+    "p with one number": lambda ls: [ls[0].rsplit(b" ", 1)[0], *ls[1:]],
+    "p with one number and a space": lambda ls: [ls[0].rsplit(b" ", 1)[0] + b" ", *ls[1:]],
+    "p with three numbers": lambda ls: [ls[0] + b" 2", *ls[1:]],
+    "e alone": lambda ls: [*ls, b"e"],
+    "e and a space": lambda ls: [*ls, b"e "],
+    "e and two spaces": lambda ls: [*ls, b"e  "],
+    "e with one number": lambda ls: [*ls, b"e 3"],
+    "e with one number and a space": lambda ls: [*ls, b"e 3 "],
+    "e with three numbers": lambda ls: [*ls, b"e 3 4 1"],
+    "e without a space": lambda ls: [*ls, b"e3 4"],
+    "edge for e": lambda ls: [*ls, b"edge 3 4"],
+    "a letter among the digits": lambda ls: [*ls, b"e 3 4a"],
+    "a letter for a number": lambda ls: [*ls, b"e x 4"],
+    "the byte before 0": lambda ls: [*ls, b"e 3 /"],
+    "the byte after 9": lambda ls: [*ls, b"e 3 :"],
+    "a digit over 127": lambda ls: [*ls, b"e 3 \xb4"],
+    "a hexadecimal number": lambda ls: [*ls, b"e 0x3 4"],
+    "a comma between": lambda ls: [*ls, b"e 3,4"],
+    "NUL for a space": lambda ls: [*ls, b"e 3\x004"],
+    "NUL at the end": lambda ls: [*ls, b"e 3 4\0"],
+    "a node line": lambda ls: [ls[0], b"n 1 2", *ls[1:]],
+    "another first letter": lambda ls: [*ls, b"d 1 2"],
+    "a line of 0": lambda ls: [*ls, b"0"],
+    "a line of NUL": lambda ls: [*ls, b"\0"],
+}
+for name, change in ON_LINES.items():
+    for faults in [(), *((f,) for f in range(len(LATER))), range(len(LATER))]:
+        lines, channels, long = later(faults)
+        colouring(f"colour: {name}" + ("" if not faults else " with every later fault" if len(faults) > 1 else " with " + NAMES[faults[0]]), 21,
+                  text_of(*change(lines)), channels, long)
+colouring("colour: 21 in the last line, without its newline, after a loop in the second", 21, b"p edge 3 2\ne 1 1\ne 1 2 ", 3)
+colouring("colour: a blank line alone", 21, b"\n")
+colouring("colour: two newlines alone", 21, b"\n\n")
+colouring("colour: p alone without its newline", 21, b"p edge 3")
+
+# the range is the one that is stated, whatever it is
+colouring("colour: 100 vertices are 24, not 21", 24, text_of(b"p edge 100 1", b"e 99 100"))
+colouring("colour: 100 vertices and vertex 101", 21, text_of(b"p edge 100 1", b"e 99 101"))
+colouring("colour: 100 vertices, a loop at one above 32", 22, text_of(b"p edge 100 1", b"e 99 99"))
+colouring("colour: 999999999 vertices", 24, text_of(b"p edge 999999999 1", b"e 999999999 999999998"))
+colouring("colour: 33 vertices", 24, file_of(33, [(1, 33)]))
+colouring("colour: 32 vertices", None, file_of(32, [(1, 32)]), 2)
+colouring("colour: no vertex", 24, text_of(b"p edge 0 0"))
+colouring("colour: no vertex and another count", 23, text_of(b"p edge 0 1"))
+colouring("colour: no vertex and an edge", 21, text_of(b"p edge 0 1", b"e 1 2"))
+colouring("colour: a loop by leading zeros", 22, text_of(b"p edge 7 1", b"e 7 007"))
+colouring("colour: two loops", 22, file_of(3, [(1, 1), (2, 2)]))
+colouring("colour: a loop in the last line, without its newline", 22, file_of(3, [(1, 2), (3, 3)])[:-1])
+
+# 23 counts lines
+colouring("colour: an edge given again and not counted again", 23, file_of(3, [(1, 2), (2, 3), (2, 1)], 2))
+colouring("colour: one edge line missing", 23, file_of(3, TRIANGLE, 4))
+colouring("colour: one edge line too many", 23, file_of(3, TRIANGLE, 2))
+colouring("colour: no edge line, one stated", 23, file_of(3, [], 1))
+colouring("colour: the last edge line lacks its newline and counts", None, file_of(3, TRIANGLE, 3)[:-1])
+colouring("colour: the most edge lines that can be stated", 23, file_of(3, TRIANGLE, 999999999))
+colouring("colour: edge lines 2^32 and three more cannot be stated", 21, file_of(3, TRIANGLE, (1 << 32) + 3))
+for n, other in ((255, 256), (256, 0), (257, 1)):
+    front = file_of(2, [], n)
+    colouring(f"colour: {n} edge lines", None, front, again=b"e 2 1\n", total=len(front) + 6 * n)
+    front = file_of(2, [], other)
+    colouring(f"colour: {n} edge lines, {other} stated", 23, front, again=b"e 2 1\n", total=len(front) + 6 * n)
+
+# channels
+for channels in (0, 17, 255, 256, 257, 1 << 16, (1 << 16) + 3, 1 << 32, (1 << 32) + 3, 1 << 40, (1 << 63) + 3, (1 << 64) - 1):
+    colouring(f"colour: {channels} channels", 24, file_of(3, TRIANGLE), channels)
+for channels in CHANNELS:
+    colouring(f"colour: {channels} channels", None, file_of(2, [(2, 1)]), channels)
+
+# the buffer
+for name, vertices, edges, channels in (("a triangle", 3, TRIANGLE, 3), ("no edge", 2, [], 2),
+                                        ("an edge given again", 3, TRIANGLE + TRIANGLE, 2)):
+    need = len(colouring_sheet(vertices, edges, channels))
+    colouring(f"colour: {name}, a buffer just long enough", None, file_of(vertices, edges), channels, need)
+    colouring(f"colour: {name}, a buffer one byte too short", 25, file_of(vertices, edges), channels, need - 1)
+    colouring(f"colour: {name}, a buffer one byte longer", None, file_of(vertices, edges), channels, need + 1)
+    colouring(f"colour: {name}, no buffer", 25, file_of(vertices, edges), channels, 0)
+colouring("colour: no buffer and a bad line", 21, b"x", 3, 0)
+colouring("colour: a buffer of the sizes only", 25, file_of(3, TRIANGLE), 3, 11)
+
+# the longest file, and one byte more
+def filled(name, expected, lines, total, channels=3, long=None, ends=True):
+    """These lines, and comments up to so many bytes, the last of them without its newline where the file is not to end in one."""
+    front = text_of(*lines)
+    again = b"c\n" if (total - len(front)) % 2 == (0 if ends else 1) else b"\nc"
+    colouring(f"colour: {total} bytes{name}", expected, front if again == b"c\n" else front + b"c", channels, long, again, total)
+
+
+for total, expected in ((65535, None), (65536, None), (65537, 21)):
+    filled("", expected, lines_of(file_of(3, TRIANGLE)), total)
+    filled(", the last line without its newline", expected, lines_of(file_of(3, TRIANGLE)), total, ends=False)
+    colouring(f"colour: {total} bytes, one comment", expected, file_of(3, TRIANGLE), again=b"c", total=total)
+    colouring(f"colour: {total} bytes, all but the p line edges", expected, text_of(p_line(2, 10919), b"c" * (total - 65530)), 2, None,
+              b"e 1 2\n", total)
+for faults in [*((f,) for f in range(len(LATER))), range(len(LATER))]:
+    for total in (65536, 65537):
+        lines, channels, long = later(faults)
+        filled("".join(" with " + NAMES[f] for f in faults), LATER[faults[0]] if total == 65536 else 21, lines, total, channels, long)
+colouring("colour: 65536 newlines", 21, b"", again=b"\n", total=65536)
+colouring("colour: 65536 c without a newline", 21, b"", again=b"c", total=65536)
+# 32 vertices complete with 16 channels: 16,904 bytes, the longest sheet
+assert colour(file_of(32, COMPLETE), 16, bytes(16904))[2] == longest
+filled(" and the longest sheet", None, lines_of(file_of(32, COMPLETE)), 65536, 16, 16904)
+colouring("colour: the longest sheet, and old bytes after it", None, file_of(32, [(b, a) for a, b in reversed(COMPLETE)]), 16, 16911)
+colouring("colour: the longest sheet, a buffer one byte too short", 25, file_of(32, COMPLETE), 16, 16903)
+
+# graphs at random, and with a byte changed, put in or left out
+rng = random.Random(20261116)
+
+
+def random_graph(vertices, share):
+    edges = [(a, b) for a in range(1, vertices + 1) for b in range(1, vertices + 1) if a != b and rng.random() < share]
+    rng.shuffle(edges)
+    lines = [p_line(vertices, len(edges)), *map(e_line, edges)]
+    for _ in range(rng.randint(0, 3)):
+        lines.insert(rng.randint(0, len(lines)), b"c" + bytes(rng.choice(b" ce12p\r\0\xff") for _ in range(rng.randint(0, 5))))
+    file = text_of(*lines)
+    return file if rng.random() < 0.7 else file[:-1]
+
+
+for k in range(60):
+    colouring(f"colour: random {k}", None, random_graph(rng.randint(1, 9), rng.choice([0.1, 0.3, 0.6])), rng.choice([1, 2, 3, 4, 5, 9]))
+for k in range(160):
+    file = random_graph(rng.randint(2, 5), 0.4)
+    at, change = rng.randrange(len(file)), bytes([rng.choice(b"0123456789 \n\rcep\t-")])
+    file = rng.choice([file[:at] + change + file[at:], file[:at] + change + file[at + 1:], file[:at] + file[at + 1:]])
+    colouring(f"colour: random {k}, damaged", colour(file, 2, bytes(999))[0] or None, file, 2)
+
+for program, of_program in cases.items():
+    folder = os.path.join(ROOT, program)
+    os.makedirs(folder, exist_ok=True)
+    with open(os.path.join(folder, "stdin"), "w") as f, open(os.path.join(folder, "stdout"), "w") as g:
+        for name, job, fields, expected in of_program:
+            f.write(f"# {name}\n{job} {' '.join(fields)}\n")
+            g.write(expected + "\n")
+    print(len(of_program), "cases of", program)

@@ -171,6 +171,83 @@ static void longest_trace(void)
     free(result);
 }
 
+/* A path of four vertices, the second edge given again the other way round, and its sheet for 2 channels. */
+static const char path[] = "c a path\np edge 4 4\ne 2 1\ne 2 3\ne 3 2\ne 3 4\n";
+static const uint8_t path_sheet[] = {1, 0, 0, 0, 30, 4, 0, 3, 2, 2, 2, 2, 0, 1, 0, 2, 0, 1, 1, 2, 0, 2, 0, 1, 2, 3, 0, 2, 0, 1};
+
+/* The call with a file of exactly so many bytes on the heap, so that memcheck sees a byte beyond it. */
+static uint64_t coloured(const char *text, size_t length, uint64_t channels, uint8_t *sheet, size_t sheet_length)
+{
+    uint8_t *file = lent(length);
+    memcpy(file, text, length);
+    uint64_t answer = zomuwedli_colour(file, length, channels, sheet, sheet_length);
+    EXPECT(memcmp(file, text, length) == 0);
+    free(file);
+    return answer;
+}
+
+static void colour_done(size_t sheet_length)
+{
+    uint8_t *sheet = lent(sheet_length), *old = lent(sheet_length);
+    uint64_t answer = coloured(path, strlen(path), 2, sheet, sheet_length);
+    EXPECT(zomuwedli_number(answer) == ZOMUWEDLI_DONE);
+    EXPECT(zomuwedli_sheet_written(answer) == sizeof path_sheet);
+    EXPECT(answer >> 32 == 0);
+    EXPECT(memcmp(sheet, path_sheet, sizeof path_sheet) == 0);
+    EXPECT(memcmp(sheet + sizeof path_sheet, old + sizeof path_sheet, sheet_length - sizeof path_sheet) == 0);
+    EXPECT(zomuwedli_items(zomuwedli_read(sheet, sizeof path_sheet)) == 4);
+    free(sheet);
+    free(old);
+}
+
+/* The whole answer is the number, and no byte of the buffer is changed. */
+static void colour_refused(const char *text, size_t length, uint64_t channels, size_t sheet_length, uint64_t number)
+{
+    uint8_t *sheet = lent(sheet_length);
+    expect(coloured(text, length, channels, sheet, sheet_length) == number, text);
+    EXPECT(as_lent(sheet, sheet_length));
+    free(sheet);
+}
+
+/* A text that is refused, for 2 channels and a buffer that is long enough. */
+static void text_refused(const char *text, uint64_t number) { colour_refused(text, strlen(text), 2, sizeof path_sheet, number); }
+
+/* Each number by its causes, and before the later ones: what comes later stands in the text, the channels or the buffer. */
+static void colour_causes(void)
+{
+    text_refused("", ZOMUWEDLI_REFUSED_GRAPH_FILE);
+    text_refused("p col 2 1\ne 1 2\n", ZOMUWEDLI_REFUSED_GRAPH_FILE);
+    text_refused("p edge 2 1\ne 1 2\n\n", ZOMUWEDLI_REFUSED_GRAPH_FILE);
+    text_refused("p edge 2 2\ne 1 2\np edge 2 2\ne 1 2\n", ZOMUWEDLI_REFUSED_GRAPH_FILE);
+    text_refused("e 1 2\np edge 2 1\n", ZOMUWEDLI_REFUSED_GRAPH_FILE);
+    text_refused("p edge 2 1\ne 1 3\n", ZOMUWEDLI_REFUSED_GRAPH_FILE);
+    text_refused("p edge 40 3\ne 1 1\ne 0 1\n", ZOMUWEDLI_REFUSED_GRAPH_FILE);
+    text_refused("p edge 40 3\ne 1 2\ne 1 01\n", ZOMUWEDLI_REFUSED_GRAPH_LOOP);
+    text_refused("p edge 40 3\ne 1 2\ne 1 40\n", ZOMUWEDLI_REFUSED_EDGE_COUNT);
+    text_refused("p edge 33 1\ne 1 33\n", ZOMUWEDLI_REFUSED_COLOUR_RANGE);
+    text_refused("p edge 0 0", ZOMUWEDLI_REFUSED_COLOUR_RANGE);
+    colour_refused(path, strlen(path), 0, 0, ZOMUWEDLI_REFUSED_COLOUR_RANGE);
+    colour_refused(path, strlen(path), 17, 0, ZOMUWEDLI_REFUSED_COLOUR_RANGE);
+    colour_refused(path, strlen(path), UINT64_C(1) << 40 | 2, 0, ZOMUWEDLI_REFUSED_COLOUR_RANGE);
+    colour_refused(path, strlen(path), 2, 0, ZOMUWEDLI_REFUSED_SHEET_BUFFER);
+    colour_refused(path, strlen(path), 2, sizeof path_sheet - 1, ZOMUWEDLI_REFUSED_SHEET_BUFFER);
+    EXPECT(zomuwedli_colour(NULL, 0, 2, NULL, 0) == ZOMUWEDLI_REFUSED_GRAPH_FILE);
+    EXPECT(zomuwedli_colour((const uint8_t *)path, sizeof path - 1, 2, NULL, 0) == ZOMUWEDLI_REFUSED_SHEET_BUFFER);
+}
+
+/* A file of 64 KiB, and one byte more: the path, and one long comment after it. */
+static void longest_file(void)
+{
+    static char text[ZOMUWEDLI_MAX_FILE + 2];
+    uint8_t *sheet = lent(sizeof path_sheet);
+    memset(text, 'c', ZOMUWEDLI_MAX_FILE + 1);
+    memcpy(text, path, strlen(path));
+    colour_refused(text, ZOMUWEDLI_MAX_FILE + 1, 2, sizeof path_sheet, ZOMUWEDLI_REFUSED_GRAPH_FILE);
+    EXPECT(zomuwedli_sheet_written(coloured(text, ZOMUWEDLI_MAX_FILE, 2, sheet, sizeof path_sheet)) == sizeof path_sheet);
+    EXPECT(memcmp(sheet, path_sheet, sizeof path_sheet) == 0);
+    free(sheet);
+}
+
 static void version(void)
 {
     char text[32];
@@ -180,7 +257,7 @@ static void version(void)
 }
 
 /* The numbers that the format has. They stand here again, so that one that the header lacks is missed. */
-static int is_refusal(unsigned number) { return (number >= 1 && number <= 20) || number == 200 || number == 201; }
+static int is_refusal(unsigned number) { return (number >= 1 && number <= 25) || number == 200 || number == 201; }
 
 /* Each refusal has a text of its own, 0 has "done", and every other number has one text, which is none of these. */
 static void texts(void)
@@ -334,5 +411,9 @@ int main(void)
     hand_state_refused(ZOMUWEDLI_HAND_STATE_LENGTH + 1);
     put_back();
     longest_trace();
+    colour_done(sizeof path_sheet);
+    colour_done(ZOMUWEDLI_MAX_SHEET);
+    colour_causes();
+    longest_file();
     return failures == 0 ? 0 : 1;
 }

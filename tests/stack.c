@@ -1,7 +1,7 @@
 /* Measures the stack that each exported function uses and fails above the limits that include/zomuwedli.h states: no contract speaks of
  * the stack. Each call runs in a thread whose stack was filled with a pattern; what is no longer the pattern was used. A job is measured
- * on several sheets and the most counts. A thread that does not start, a call that does not answer as expected, and a figure too small to
- * be one of a call that was made are failures. */
+ * on several sheets, or on files of which these are the sheets, and the most counts. A thread that does not start, a call that does not
+ * answer as expected, and a figure too small to be one of a call that was made are failures. */
 #define _POSIX_C_SOURCE 200809L
 #include <pthread.h>
 #include <stdio.h>
@@ -60,6 +60,12 @@ static void fill_pairs(struct sheet *sheet, unsigned (*allowed)(unsigned, unsign
 static uint8_t trace[ZOMUWEDLI_MAX_TRACE], state[ZOMUWEDLI_STATE_LENGTH], plan[ITEMS], result[ITEMS];
 static uint8_t long_trace[LONGEST_TRACE];
 static size_t written;
+
+/* A colouring file of 64 KiB has a p line and so many lines after it. */
+enum { FRONT = 16, LINE = 8, LINES = (ZOMUWEDLI_MAX_FILE - FRONT) / LINE };
+
+static uint8_t file[FRONT + LINES * LINE], coloured[ZOMUWEDLI_MAX_SHEET];
+_Static_assert(sizeof file == ZOMUWEDLI_MAX_FILE, "the lines do not fill the file");
 
 static void prepare_nothing(const struct sheet *sheet) { (void)sheet; }
 
@@ -124,14 +130,45 @@ static uint64_t put_back(const struct sheet *sheet)
     return answer | sum << 32;
 }
 
+/* A line of the file: an edge, or, where the sheet has no block, a comment of as many bytes. */
+static void fill_line(uint8_t *at, char form, unsigned a, unsigned b)
+{
+    char line[LINE + 1];
+    snprintf(line, sizeof line, "%c %02u %02u\n", form, a % 100, b % 100);
+    memcpy(at, line, LINE);
+}
+
+/* A file of 64 KiB whose sheet this one is: the p line, and the pairs again and again. */
+static void prepare_colour(const struct sheet *sheet)
+{
+    const char form = sheet == &no_block ? 'c' : 'e';
+    char front[FRONT + 1];
+    snprintf(front, sizeof front, "p edge 32 %05u\n", form == 'e' ? (unsigned)LINES : 0u);
+    memcpy(file, front, FRONT);
+    for (unsigned k = 0; k < LINES; k++) {
+        unsigned a = k / ITEMS % ITEMS, b = (a + 1 + k % (ITEMS - 1)) % ITEMS;
+        fill_line(file + FRONT + LINE * k, form, a + 1, b + 1);
+    }
+    memset(coloured, PATTERN, sizeof coloured);
+}
+
+/* Whether the sheet is this one stands above the answer. */
+static uint64_t colour(const struct sheet *sheet)
+{
+    uint64_t answer = zomuwedli_colour(file, sizeof file, SETTINGS, coloured, sizeof coloured);
+    return answer | (uint64_t)(memcmp(coloured, sheet->bytes, sheet->length) == 0) << 32;
+}
+
 /* ---- What is measured, and what each call answers. */
 #define READ_ANSWER(blocks) ((uint64_t)ITEMS << 8 | (uint64_t)(blocks) << 16)
 #define RUN_ANSWER(end, steps, bytes) ((uint64_t)(end) << 8 | (uint64_t)(steps) << 16 | (uint64_t)(bytes) << 32)
+#define COLOUR_ANSWER(bytes) ((uint64_t)(bytes) << 8)
 #define AND(answer, figure) ((uint64_t)(answer) | (uint64_t)(figure) << 32)
 
 /* What is enough for any call but putting back is enough for each of them. */
 _Static_assert(ZOMUWEDLI_READ_STACK <= ZOMUWEDLI_STACK && ZOMUWEDLI_RUN_STACK <= ZOMUWEDLI_STACK
-                   && ZOMUWEDLI_START_STACK <= ZOMUWEDLI_STACK && ZOMUWEDLI_HAND_CALL_STACK <= ZOMUWEDLI_STACK,
+                   && ZOMUWEDLI_START_STACK <= ZOMUWEDLI_STACK && ZOMUWEDLI_HAND_CALL_STACK <= ZOMUWEDLI_STACK
+                   && ZOMUWEDLI_COLOUR_STACK <= ZOMUWEDLI_STACK,
                "ZOMUWEDLI_STACK is less than some call's own");
 
 enum { MOST_CALLS = 5 };
@@ -176,6 +213,11 @@ static const struct job jobs[] = {
      prepare_put_back,
      put_back,
      {{&no_block, AND(0, 0)}, {&parity, AND(19, ITEMS * PATTERN)}, {&equal, AND(0, 0)}}},
+    {"colour",
+     ZOMUWEDLI_COLOUR_STACK,
+     prepare_colour,
+     colour,
+     {{&no_block, AND(COLOUR_ANSWER(LONGEST_SHEET), 1)}, {&unequal, AND(COLOUR_ANSWER(ZOMUWEDLI_MAX_SHEET), 1)}}},
 };
 
 /* ---- Measuring. */

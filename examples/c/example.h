@@ -1,4 +1,4 @@
-/* What the four examples share: the exit status, reading files and numbers, and saying why a call was refused. */
+/* What the five examples share: the exit status, reading files and numbers, and saying why a call was refused. */
 #ifndef EXAMPLE_H
 #define EXAMPLE_H
 
@@ -53,7 +53,7 @@ static inline int usage(const char *program, const char *arguments)
     return USAGE;
 }
 
-/* Says on standard error why a call was refused; what it was made for is a sheet or an item, by its name. */
+/* Says on standard error why a call was refused; what it was made for is a sheet, a file or an item, by its name. */
 static inline int explain(const char *what, const char *name, unsigned number)
 {
     fprintf(stderr, "%s %s: refused %u: %s\n", what, name, number, zomuwedli_text(number));

@@ -41,7 +41,8 @@ fn do_work(fields: &[u8]) {
     let long = cases::number(fields, 0, 4);
     let mut sheet = io::large_buffer();
     let n = cases::bytes(&fields[cases::next_field(fields)..], &mut sheet);
-    let mut b = cases::pattern();
+    let mut b = io::buffer();
+    cases::fill_pattern(&mut b);
     run_part(&sheet[..n], &mut b, long as usize);
 }
 
@@ -72,14 +73,7 @@ fn show_run(a: Reduced, b: &[u8]) {
             cases::show_masks(a.state);
         }
     }
-    show_buffer(b);
-}
-
-// The buffer at the end of an answer's line.
-fn show_buffer(b: &[u8]) {
-    cases::show(b" ");
-    cases::show_bytes(b);
-    cases::show(b"\n");
+    cases::show_buffer(b);
 }
 
 // A line `star SHEET`: the start.
@@ -166,7 +160,7 @@ fn show_back(a: Extended, out: &[u8]) {
             cases::show(b"done");
         }
     }
-    show_buffer(out);
+    cases::show_buffer(out);
 }
 
 // A line: its first letter names the job, and the fields stand behind the first space. One too short for a job's word is passed over.

@@ -190,15 +190,20 @@ pub fn show_masks(m: Masks) {
     }
 }
 
-// A buffer of a pattern, so that a byte that changes shows.
-pub fn pattern() -> [u8; 4096]
-    ensures { λ r. ⌜ 4096 ≡ length r ⌝ }
-{
-    let mut b = io::buffer();
+// The buffer at the end of an answer's line.
+pub fn show_buffer(b: &[u8]) {
+    show(b" ");
+    show_bytes(b);
+    show(b"\n");
+}
+
+// Fills a buffer with a pattern, so that a byte that changes shows.
+pub fn fill_pattern(b: &mut [u8]) {
+    let mut x: usize = 11;
     let mut k: usize = 0;
-    while k < 4096 {
-        b[k] = ((37 * k + 11) % 251) as u8;
+    while k < b.len() {
+        b[k] = x as u8;
+        x = (x + 37) % 251;
         k += 1;
     }
-    b
 }
