@@ -62,7 +62,7 @@ pub fn plan_of(sheet: &[u8]) -> Result<Option<Vec<u8>>, Refusal> {
     Ok(Some(full))
 }
 
-fn work(arguments: &[OsString], text: &mut String) -> Result<(), Status> {
+fn work(arguments: &[OsString], text: &mut Vec<u8>) -> Result<(), Status> {
     let [name] = arguments else { return Err(usage("SHEET")) };
     let sheet = read_sheet(name)?;
     match plan_of(&sheet).map_err(|refusal| refuse(name, refusal, text))? {

@@ -751,7 +751,8 @@ pub fn faulty_colouring(random: &mut Random, faults: &[u8]) -> (Vec<u8>, u64) {
     if faults.contains(&21) {
         spoil_lines(random, &mut lines, graph.vertices);
         if random.chance(1) {
-            return (long_file(random, &graph, MAX_FILE + random.between(1, 9)), channels);
+            let length = MAX_FILE + random.between(1, 9);
+            return (long_file(random, &graph, length), channels);
         }
     }
     (joined(&lines, ended), channels)
@@ -779,13 +780,11 @@ fn spoil_range(random: &mut Random, graph: &mut Graph, channels: &mut u64, loope
 
 /// 21 by one thing, whatever else the lines say: a line too many, one changed, the `p` line, or a vertex.
 fn spoil_lines(random: &mut Random, lines: &mut Vec<Vec<u8>>, vertices: usize) {
-    const BAD: [&[u8]; 22] = [
-        b"", b"", b" ", b"\r", b"x", b"E 1 2", b"e", b"e ", b"e 1", b"e 1 ", b"e1 2", b"p", b"p edge", b"p col 1 0", b"P edge 1 0",
-        b" c", b"\tc", b"1 2", b"n 1 2", b"\0", b"\xffc", b"edge 1 2",
-    ];
+    const BAD: &[u8] = b"|| |\r|x|E 1 2|e|e |e 1|e 1 |e1 2|p|p edge|p col 1 0|P edge 1 0| c|\tc|1 2|n 1 2|\0|\xffc|edge 1 2";
+    let bad: Vec<&[u8]> = BAD.split(|&byte| byte == b'|').collect();
     let size = lines.iter().position(|line| line[0] == b'p').expect("a p line");
     match random.below(6) {
-        0 => lines.insert(random.below(lines.len() + 1), random.pick(&BAD).to_vec()),
+        0 => lines.insert(random.below(lines.len() + 1), random.pick(&bad).to_vec()),
         1 => {
             let outside = random.pick(&[0, vertices + 1, vertices + 32, vertices + 256, 999_999_999]);
             let outside = if (1..=vertices).contains(&outside) { 0 } else { outside };

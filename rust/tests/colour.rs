@@ -94,15 +94,26 @@ fn the_plans_of_the_sheet_are_the_proper_colourings() {
         }
     }
     if part() == 1 {
-        // 4 to the 5th, 2 to the 10th: the numbers of proper colourings of all these graphs, summed.
         assert_eq!(graphs, 1 + 2 + 8 + 64 + 1024);
-        assert!(colourings > 100_000, "only {colourings}");
+        assert_eq!(colourings, colourings_of_all_graphs());
     }
+}
+
+/// Counted the other way round: an assignment is proper in a graph that links no two vertices with one channel, so that each two vertices
+/// with different channels double the number of graphs.
+fn colourings_of_all_graphs() -> usize {
+    let graphs = |assignment: Vec<usize>| {
+        let unlike = |a: usize| assignment[..a].iter().filter(|&&channel| channel != assignment[a]).count();
+        1 << (0..assignment.len()).map(unlike).sum::<usize>()
+    };
+    let of_size = |vertices: usize| (1..=4).flat_map(move |channels| assignments(vertices, channels)).map(graphs).sum::<usize>();
+    (1..=5).map(of_size).sum()
 }
 
 /// The number of proper colourings, which are the plans of the sheet and no other; and what the other jobs say of the sheet.
 fn check_plans(random: &mut Random, graph: &Graph, channels: usize) -> usize {
-    let file = generate::colouring_file(random, &either_way(random, graph));
+    let written = either_way(random, graph);
+    let file = generate::colouring_file(random, &written);
     let sheet = sheet_of(&file, channels as u64);
     let (problem, blocks) = reference::read_sheet(&sheet).expect("a written sheet keeps the layout");
     assert_eq!(proved::read(&sheet), Ok(Accepted { items: graph.vertices, blocks: graph.edges.len() }));

@@ -184,7 +184,7 @@ impl Counts {
             ("colouring files".to_string(), self.files, LEAST_FILES),
             ("colouring files of 64 KiB".to_string(), self.longest_files, LEAST_FULLEST),
             ("edges given again".to_string(), self.repeated_edges, LEAST_OF_EACH_FILE),
-            ("longest sheets written".to_string(), self.longest_written, LEAST_FULLEST),
+            ("longest sheets written".to_string(), self.longest_written, LEAST_LONG),
             ("blocks written that bar everything".to_string(), self.bars_everything, LEAST_OF_EACH),
         ];
         let all = jobs.into_iter().chain(answers).chain(ends).chain(steps).chain(records).chain(decoded).chain(others);
@@ -655,7 +655,8 @@ fn colour_calls(comparison: &mut Comparison, random: &mut Random, file: &[u8], c
     match answer {
         Some(exact) => {
             comparison.count_written(file, &sheet[..exact]);
-            let length = random.pick(&[exact, exact, exact - 1, exact - 1, exact + random.between(1, 40), 0, 8]);
+            let longer = exact + random.between(1, 40);
+            let length = random.pick(&[exact, exact, exact - 1, exact - 1, longer, 0, 8]);
             comparison.colour(file, channels, length);
         }
         // Every other fault is told before a short buffer.
