@@ -1,5 +1,6 @@
-//! Times the seven families of sheets of 32 items of 16 settings: the proved library, the reference and the fast implementation, side by
-//! side in one run. `families --count NAME IMPLEMENTATION REPETITIONS` runs one of them only, for counting instructions.
+//! Times the seven families of sheets of 32 items of 16 settings, and colouring files: the proved library, the reference and the fast
+//! implementation, side by side in one run. `families --count NAME IMPLEMENTATION REPETITIONS` does one of them only, for counting
+//! instructions: a run of a family, or the sheet of a colouring file.
 
 #[path = "../tests/support/mod.rs"]
 mod support;
@@ -7,12 +8,12 @@ mod support;
 use std::hint::black_box;
 use std::time::{Duration, Instant};
 
-use support::fast::Workspace;
+use support::fast::{self, Workspace};
 use support::generate::{self, Random};
 use support::proved::raw;
 use support::reference::{self, State};
 use support::{Answer, Done};
-use zomuwedli::{Taken, HAND_STATE_LENGTH, MAX_ITEMS, MAX_TRACE, OUT, STATE_LENGTH};
+use zomuwedli::{Taken, Written, HAND_STATE_LENGTH, MAX_ITEMS, MAX_SHEET, MAX_TRACE, OUT, STATE_LENGTH};
 
 const ROUNDS: usize = 7;
 /// A round repeats a call until it has taken about this long.
@@ -20,7 +21,7 @@ const ROUND: Duration = Duration::from_millis(4);
 
 const NAMES: [&str; 3] = ["proved", "reference", "fast"];
 
-/// The five jobs of one implementation.
+/// The timed jobs of one implementation.
 enum Implementation {
     Proved,
     Reference,
@@ -68,6 +69,14 @@ impl Implementation {
             Implementation::Fast(workspace) => workspace.put_back(sheet, trace, plan, result),
         }
     }
+
+    fn colour(&mut self, file: &[u8], channels: u64, sheet: &mut [u8]) -> Answer<Written> {
+        match self {
+            Implementation::Proved => raw::colour(file, channels, sheet),
+            Implementation::Reference => reference::colour(file, channels, sheet),
+            Implementation::Fast(_) => fast::colour(file, channels, sheet),
+        }
+    }
 }
 
 /// The buffers that a job writes, cleared before each call and outside the time.
@@ -75,17 +84,19 @@ struct Buffers {
     trace: Vec<u8>,
     state: Vec<u8>,
     result: Vec<u8>,
+    sheet: Vec<u8>,
 }
 
 impl Buffers {
     fn new() -> Buffers {
-        Buffers { trace: vec![0; MAX_TRACE], state: vec![0; STATE_LENGTH], result: vec![0; MAX_ITEMS] }
+        Buffers { trace: vec![0; MAX_TRACE], state: vec![0; STATE_LENGTH], result: vec![0; MAX_ITEMS], sheet: vec![0; MAX_SHEET] }
     }
 
     fn clear(&mut self) {
         self.trace.fill(0);
         self.state.fill(0);
         self.result.fill(0);
+        self.sheet.fill(0);
     }
 }
 
@@ -96,6 +107,7 @@ enum Timed {
     Start(Answer<()>),
     TakenOut(usize),
     PutBack(Answer<()>),
+    Colour(Answer<Written>),
 }
 
 /// One call to be timed: its answer and the buffers must be the same for all implementations.
@@ -134,7 +146,7 @@ fn agreed(name: &str, call: Call) -> Timed {
     });
     for (other, (answer, buffers)) in [("reference", &reference), ("fast", &fast)] {
         let same = *answer == proved.0 && buffers.trace == proved.1.trace && buffers.state == proved.1.state;
-        if !same || buffers.result != proved.1.result {
+        if !same || buffers.result != proved.1.result || buffers.sheet != proved.1.sheet {
             println!("{name}: proved and {other} differ: {:?} and {answer:?}", proved.0);
             std::process::exit(1);
         }
@@ -148,9 +160,11 @@ fn print_row(name: &str, call: Call) {
         Timed::TakenOut(count) => format!("{count} taken out"),
         Timed::Start(Ok(())) => "Start(Started)".to_string(),
         Timed::PutBack(Ok(())) => "PutBack(Done)".to_string(),
+        Timed::Colour(Ok(Written { bytes })) => format!("{bytes} bytes written"),
         Timed::Run(Err(fault)) => format!("Run({fault:?})"),
         Timed::Start(Err(fault)) => format!("Start({fault:?})"),
         Timed::PutBack(Err(fault)) => format!("PutBack({fault:?})"),
+        Timed::Colour(Err(fault)) => format!("Colour({fault:?})"),
     };
     let [proved, reference, fast] = best(call).map(|time| time.as_nanos() as f64 / 1000.0);
     println!("{name:<40} {proved:>11.1} {:>11.3} {:>11.3}  {answer}", reference / proved, fast / proved);
@@ -199,6 +213,10 @@ fn print_start(name: &str, sheet: &[u8]) {
     print_row(name, &|implementation, buffers| Timed::Start(implementation.start(sheet, &mut buffers.state)));
 }
 
+fn print_colour(name: &str, file: &[u8], channels: u64) {
+    print_row(name, &|implementation, buffers| Timed::Colour(implementation.colour(file, channels, &mut buffers.sheet)));
+}
+
 /// Prints the row of one family, by its name and its sheet.
 type PrintRow = fn(&str, &[u8]);
 
@@ -213,19 +231,38 @@ fn print_tables() {
         ("a hand call for each item from the start", |name, sheet| print_row(name, &hand_list(sheet))),
     ];
     for (job, print) in tables {
-        println!("\n{job:<40} {:>11} {:>11} {:>11}  answer", "proved us", "ref/proved", "fast/proved");
+        print_head(job);
         generate::families().iter().for_each(|(name, sheet)| print(name, sheet));
+    }
+    // The reference reads a file as one would first write it, by splitting it into lines and these into fields.
+    print_head("the sheet of a colouring file");
+    generate::timed_files().iter().for_each(|(name, file, channels)| print_colour(name, file, *channels));
+}
+
+fn print_head(job: &str) {
+    println!("\n{job:<40} {:>11} {:>11} {:>11}  answer", "proved us", "ref/proved", "fast/proved");
+}
+
+/// Has one implementation do one family, or one colouring file, so many times.
+fn count(name: &str, implementation: &str, repetitions: usize) {
+    let (families, files) = (generate::families(), generate::timed_files());
+    let (mut implementation, mut buffers) = (Implementation::named(implementation), Buffers::new());
+    if let Some((_, sheet)) = families.iter().find(|(family, _)| *family == name) {
+        for _ in 0..repetitions {
+            let _ = black_box(implementation.run(black_box(sheet), &mut buffers.trace, &mut buffers.state));
+        }
+    } else if let Some((_, file, channels)) = files.iter().find(|(file, ..)| *file == name) {
+        for _ in 0..repetitions {
+            let _ = black_box(implementation.colour(black_box(file), *channels, &mut buffers.sheet));
+        }
+    } else {
+        panic!("no family and no colouring file {name}");
     }
 }
 
-/// Runs one implementation on one family so many times.
-fn count(family: &str, implementation: &str, repetitions: usize) {
-    let families = generate::families();
-    let (_, sheet) = families.iter().find(|(name, _)| *name == family).unwrap_or_else(|| panic!("no family {family}"));
-    let (mut implementation, mut buffers) = (Implementation::named(implementation), Buffers::new());
-    for _ in 0..repetitions {
-        let _ = black_box(implementation.run(black_box(sheet), &mut buffers.trace, &mut buffers.state));
-    }
+fn print_names() {
+    generate::families().iter().for_each(|(name, _)| println!("{name}"));
+    generate::timed_files().iter().for_each(|(name, ..)| println!("{name}"));
 }
 
 fn main() {
@@ -233,9 +270,9 @@ fn main() {
     let arguments: Vec<&str> = arguments.iter().map(String::as_str).collect();
     match arguments[..] {
         [] => print_tables(),
-        ["--names"] => generate::families().iter().for_each(|(name, _)| println!("{name}")),
-        ["--count", family, implementation] => count(family, implementation, 10),
-        ["--count", family, implementation, repetitions] => count(family, implementation, repetitions.parse().expect("a number")),
+        ["--names"] => print_names(),
+        ["--count", name, implementation] => count(name, implementation, 10),
+        ["--count", name, implementation, repetitions] => count(name, implementation, repetitions.parse().expect("a number")),
         _ => panic!("families [--names | --count NAME IMPLEMENTATION [REPETITIONS]]"),
     }
 }

@@ -881,9 +881,9 @@ pub fn timed_files() -> Vec<(&'static str, Vec<u8>, u64)> {
     let long = long_file(&mut random, &complete, MAX_FILE);
     let comments = long_file(&mut random, &Graph::new(MAX_ITEMS, Vec::new()), MAX_FILE);
     vec![
-        ("colour 64 KiB, 32 vertices, 16 channels", long, MAX_SETTINGS as u64),
-        ("colour 64 KiB of comments, 16 channels", comments, MAX_SETTINGS as u64),
-        ("colour complete, 32 vertices, 16 channels", complete.file(), MAX_SETTINGS as u64),
-        ("colour Petersen, 3 channels", petersen().file(), 3),
+        ("64 KiB: 32 vertices, 16 channels", long, MAX_SETTINGS as u64),
+        ("64 KiB of comments, 16 channels", comments, MAX_SETTINGS as u64),
+        ("32 vertices, each edge once, 16 channels", complete.file(), MAX_SETTINGS as u64),
+        ("Petersen's graph, 3 channels", petersen().file(), 3),
     ]
 }
