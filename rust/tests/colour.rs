@@ -121,6 +121,12 @@ fn check_plans(random: &mut Random, graph: &Graph, channels: usize) -> usize {
     let mut proper = 0;
     for assignment in assignments(graph.vertices, channels) {
         assert_eq!(is_plan(&problem, &assignment), is_proper(graph, &assignment), "{assignment:?}: {:?}", graph.edges);
+        // A trace of no record puts back every plan of the full sheet and nothing else. Five vertices would take seconds.
+        if graph.vertices < 5 {
+            let plan: Vec<u8> = assignment.iter().map(|&channel| channel as u8).collect();
+            let answer = proved::put_back(&sheet, &[1], &plan, &mut vec![0; plan.len()]);
+            assert_eq!(answer.is_ok(), is_proper(graph, &assignment), "{assignment:?}: {:?}", graph.edges);
+        }
         proper += usize::from(is_proper(graph, &assignment));
     }
     let end = zomuwedli::run(&sheet, &mut [0; MAX_TRACE]).expect("a written sheet is run").end;
