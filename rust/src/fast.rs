@@ -722,19 +722,13 @@ impl Edges {
     fn read(&mut self, file: &[u8]) -> Option<()> {
         let mut rest = file;
         while let Some(&first) = rest.first() {
-            if let Some((a, b, length)) = short_edge(rest) {
-                self.add(a, b)?;
-                rest = &rest[length..];
-                continue;
-            }
             rest = match first {
-                b'c' => after_newline(rest),
                 b'e' => {
-                    let (a, middle) = digits(rest.strip_prefix(b"e ")?)?;
-                    let (b, end) = digits(middle.strip_prefix(b" ")?)?;
+                    let (a, b, after) = short_edge(rest).or_else(|| any_edge(rest))?;
                     self.add(a, b)?;
-                    line_end(end)?
+                    after
                 }
+                b'c' => after_newline(rest),
                 _ if self.stated.is_some() => return None,
                 _ => {
                     let (vertices, middle) = digits(rest.strip_prefix(b"p edge ")?)?;
@@ -767,24 +761,31 @@ fn after_newline(bytes: &[u8]) -> &[u8] {
     newline.map_or(&[], |place| &bytes[from + place + 1..])
 }
 
-/// An `e` line with vertices of one or two digits, taken from one word without a branch on its shape: its ends and its length. Such a line
-/// has at most eight bytes with its newline. Any other line, and one of the last seven bytes, is left to the slow way.
-fn short_edge(bytes: &[u8]) -> Option<(u32, u32, usize)> {
-    let word = u64::from_le_bytes(bytes.get(..8)?.try_into().expect("eight bytes"));
-    // A 0 is put before a number of one digit, so that both have two.
-    let widened = |number: u64, end: u8| {
-        let one = u64::from(number as u16 >> 8 == u16::from(end));
-        (number << (8 * one) | u64::from(b'0') * one, one)
+/// An `e` line with vertices of one or two digits, without a branch on its shape: its two vertices, and what follows. Such a line has at
+/// most eight bytes with its newline. Any other line, and one of the last seven bytes, is left to `any_edge`.
+fn short_edge(bytes: &[u8]) -> Option<(u32, u32, &[u8])> {
+    let line = <&[u8; 8]>::try_from(bytes.get(..8)?).expect("eight bytes");
+    let byte = |place: usize| line[place % 8];
+    let digit = |place: usize| u32::from(byte(place).wrapping_sub(b'0'));
+    // The number at this place, the place after it, and whether it is one.
+    let number = |place: usize| {
+        let (first, second) = (digit(place), digit(place + 1));
+        let two = second < 10;
+        (if two { 10 * first + second } else { first }, place + 1 + usize::from(two), first < 10)
     };
-    let (first, short) = widened(word >> 16, b' ');
-    let (second, shorter) = widened(first >> 24, b'\n');
-    let shape = word as u16 == u16::from_le_bytes(*b"e ") && (first >> 16) as u8 == b' ' && (second >> 16) as u8 == b'\n';
-    let digits = first as u32 & 0xffff | (second as u32) << 16;
-    // The upper half of a digit is 3, and stays so with 6 more.
-    let upper = |four: u32| four & 0xf0f0_f0f0 == 0x3030_3030;
-    let number = |at: u32| (digits >> at & 15) * 10 + (digits >> (at + 8) & 15);
-    let is_short = shape && upper(digits) && upper(digits.wrapping_add(0x0606_0606));
-    is_short.then(|| (number(0), number(16), (8 - short - shorter) as usize))
+    let (a, space, is_first) = number(2);
+    let (b, newline, is_second) = number(space + 1);
+    // The newline's place by itself, so that the next line need not wait for the numbers of this one.
+    let length = 8 - usize::from(line[6] == b'\n') - 2 * usize::from(line[5] == b'\n');
+    let marks = line[0] == b'e' && line[1] == b' ' && byte(space) == b' ' && byte(newline) == b'\n';
+    (marks && is_first && is_second && newline + 1 == length).then(|| (a, b, &bytes[length..]))
+}
+
+/// Any `e` line: its two vertices, and what follows.
+fn any_edge(bytes: &[u8]) -> Option<(u32, u32, &[u8])> {
+    let (a, middle) = digits(bytes.strip_prefix(b"e ")?)?;
+    let (b, end) = digits(middle.strip_prefix(b" ")?)?;
+    Some((a, b, line_end(end)?))
 }
 
 /// A number of one to nine digits at the front, and what follows.
