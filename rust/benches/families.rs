@@ -1,6 +1,7 @@
 //! Times the seven families of sheets of 32 items of 16 settings, and colouring files: the proved library, the reference and the fast
-//! implementation, side by side in one run, and for colouring files a plain reader beside them. `families --count NAME IMPLEMENTATION REPETITIONS` does one of them only, for counting
-//! instructions: a run of a family, or the sheet of a colouring file.
+//! implementation, side by side in one run, and for colouring files a plain reader beside them.
+//! `families --count NAME IMPLEMENTATION REPETITIONS` does one of them only, for counting instructions: a run of a family, or the sheet of
+//! a colouring file.
 
 mod plain;
 #[path = "../tests/support/mod.rs"]

@@ -1,5 +1,5 @@
-//! Sheets, states, traces, plans and colouring files for the comparisons, from a seed: lawful ones, and ones with a fault or several. No part of the
-//! library: tests/support has it.
+//! Sheets, states, traces, plans and colouring files for the comparisons, from a seed: lawful ones, and ones with a fault or several. No
+//! part of the library: tests/support has it.
 
 use zomuwedli::{MAX_FILE, MAX_ITEMS, MAX_SETTINGS, OUT, STATE_LENGTH};
 

@@ -246,8 +246,8 @@ pub struct Written {
 /// the next.
 ///
 /// The file is a DIMACS graph colouring file of at most [`MAX_FILE`](crate::MAX_FILE) bytes: lines that begin with `c`, one line
-/// `p edge VERTICES EDGES`, and after it a line `e A B` for each edge, with vertices counted from 1. Vertex v is item v - 1 of the sheet, and
-/// its settings are the channels. The sheet goes to the front of the buffer, which keeps its old bytes after it. A buffer of
+/// `p edge VERTICES EDGES`, and after it a line `e A B` for each edge, with vertices counted from 1. Vertex v is item v - 1 of the sheet,
+/// and its settings are the channels. The sheet goes to the front of the buffer, which keeps its old bytes after it. A buffer of
 /// [`MAX_SHEET`](crate::MAX_SHEET) bytes is long enough for every file.
 ///
 /// ```

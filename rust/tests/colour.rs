@@ -167,8 +167,9 @@ fn is_colourable(graph: &Graph, channels: usize, colouring: &mut Vec<usize>) -> 
     let vertex = colouring.len() + 1;
     let unused = colouring.iter().map(|channel| channel + 1).max().unwrap_or(0);
     for channel in 0..channels.min(unused + 1) {
-        let clashes = |other: usize| other < vertex && colouring[other - 1] == channel;
-        if graph.edges.iter().all(|&(a, b)| !(a == vertex && clashes(b)) && !(b == vertex && clashes(a))) {
+        let has_it = |other: usize| other < vertex && colouring[other - 1] == channel;
+        let clashes = |&(a, b): &(usize, usize)| (a == vertex && has_it(b)) || (b == vertex && has_it(a));
+        if !graph.edges.iter().any(clashes) {
             colouring.push(channel);
             if is_colourable(graph, channels, colouring) {
                 return true;
