@@ -1,29 +1,35 @@
-//! Times the seven families of sheets of 32 items of 16 settings: the proved library, the reference and the fast implementation, side by
-//! side in one run. `families --count NAME IMPLEMENTATION REPETITIONS` runs one of them only, for counting instructions.
+//! Times the seven families of sheets of 32 items of 16 settings, and colouring files: the proved library, the reference and the fast
+//! implementation, side by side in one run, and for colouring files a plain reader beside them.
+//! `families --count NAME IMPLEMENTATION REPETITIONS` does one of them only, for counting instructions: a run of a family, or the sheet of
+//! a colouring file.
 
+mod plain;
 #[path = "../tests/support/mod.rs"]
 mod support;
 
 use std::hint::black_box;
 use std::time::{Duration, Instant};
 
-use support::fast::Workspace;
+use support::fast::{self, Workspace};
 use support::generate::{self, Random};
 use support::proved::raw;
 use support::reference::{self, State};
 use support::{Answer, Done};
-use zomuwedli::{Taken, HAND_STATE_LENGTH, MAX_ITEMS, MAX_TRACE, OUT, STATE_LENGTH};
+use zomuwedli::{Taken, Written, HAND_STATE_LENGTH, MAX_ITEMS, MAX_SHEET, MAX_TRACE, OUT, STATE_LENGTH};
 
 const ROUNDS: usize = 7;
 /// A round repeats a call until it has taken about this long.
 const ROUND: Duration = Duration::from_millis(4);
 
+/// The proved library first; the plain reader has colouring files only.
 const NAMES: [&str; 3] = ["proved", "reference", "fast"];
+const FILE_NAMES: [&str; 4] = ["proved", "reference", "plain", "fast"];
 
-/// The five jobs of one implementation.
+/// The timed jobs of one implementation.
 enum Implementation {
     Proved,
     Reference,
+    Plain,
     Fast(Workspace),
 }
 
@@ -32,8 +38,9 @@ impl Implementation {
         match name {
             "proved" => Implementation::Proved,
             "reference" => Implementation::Reference,
+            "plain" => Implementation::Plain,
             "fast" => Implementation::Fast(Workspace::new()),
-            _ => panic!("no implementation {name}: one of {NAMES:?}"),
+            _ => panic!("no implementation {name}: one of {FILE_NAMES:?}"),
         }
     }
 
@@ -41,6 +48,7 @@ impl Implementation {
         match self {
             Implementation::Proved => raw::run(sheet, trace, state),
             Implementation::Reference => reference::run(sheet, trace, state),
+            Implementation::Plain => no_such_job(),
             Implementation::Fast(workspace) => workspace.run(sheet, trace, state),
         }
     }
@@ -49,6 +57,7 @@ impl Implementation {
         match self {
             Implementation::Proved => raw::start(sheet, state),
             Implementation::Reference => reference::start(sheet, state),
+            Implementation::Plain => no_such_job(),
             Implementation::Fast(workspace) => workspace.start(sheet, state),
         }
     }
@@ -57,6 +66,7 @@ impl Implementation {
         match self {
             Implementation::Proved => raw::hand_call(sheet, state, item),
             Implementation::Reference => reference::hand_call(sheet, state, item),
+            Implementation::Plain => no_such_job(),
             Implementation::Fast(workspace) => workspace.hand_call(sheet, state, item),
         }
     }
@@ -65,9 +75,23 @@ impl Implementation {
         match self {
             Implementation::Proved => raw::put_back(sheet, trace, plan, result),
             Implementation::Reference => reference::put_back(sheet, trace, plan, result),
+            Implementation::Plain => no_such_job(),
             Implementation::Fast(workspace) => workspace.put_back(sheet, trace, plan, result),
         }
     }
+
+    fn colour(&mut self, file: &[u8], channels: u64, sheet: &mut [u8]) -> Answer<Written> {
+        match self {
+            Implementation::Proved => raw::colour(file, channels, sheet),
+            Implementation::Reference => reference::colour(file, channels, sheet),
+            Implementation::Plain => plain::colour(file, channels, sheet),
+            Implementation::Fast(_) => fast::colour(file, channels, sheet),
+        }
+    }
+}
+
+fn no_such_job() -> ! {
+    panic!("the plain reader reads colouring files only")
 }
 
 /// The buffers that a job writes, cleared before each call and outside the time.
@@ -75,17 +99,19 @@ struct Buffers {
     trace: Vec<u8>,
     state: Vec<u8>,
     result: Vec<u8>,
+    sheet: Vec<u8>,
 }
 
 impl Buffers {
     fn new() -> Buffers {
-        Buffers { trace: vec![0; MAX_TRACE], state: vec![0; STATE_LENGTH], result: vec![0; MAX_ITEMS] }
+        Buffers { trace: vec![0; MAX_TRACE], state: vec![0; STATE_LENGTH], result: vec![0; MAX_ITEMS], sheet: vec![0; MAX_SHEET] }
     }
 
     fn clear(&mut self) {
         self.trace.fill(0);
         self.state.fill(0);
         self.result.fill(0);
+        self.sheet.fill(0);
     }
 }
 
@@ -96,6 +122,7 @@ enum Timed {
     Start(Answer<()>),
     TakenOut(usize),
     PutBack(Answer<()>),
+    Colour(Answer<Written>),
 }
 
 /// One call to be timed: its answer and the buffers must be the same for all implementations.
@@ -110,14 +137,13 @@ fn once(call: Call, implementation: &mut Implementation, buffers: &mut Buffers) 
 }
 
 /// The best time of each implementation, over rounds in which they take turns.
-fn best(call: Call) -> [Duration; 3] {
-    let mut implementations = NAMES.map(Implementation::named);
+fn best<const N: usize>(names: [&str; N], call: Call) -> [Duration; N] {
+    let mut implementations = names.map(Implementation::named);
     let mut buffers = Buffers::new();
-    let first = [0, 1, 2].map(|which| once(call, &mut implementations[which], &mut buffers));
-    let calls = first.map(|time| (ROUND.as_nanos() / time.as_nanos().max(1)).clamp(1, 500));
-    let mut best = first;
+    let mut best: [Duration; N] = std::array::from_fn(|which| once(call, &mut implementations[which], &mut buffers));
+    let calls = best.map(|time| (ROUND.as_nanos() / time.as_nanos().max(1)).clamp(1, 500));
     for _ in 0..ROUNDS {
-        for which in 0..3 {
+        for which in 0..N {
             let times = (0..calls[which]).map(|_| once(call, &mut implementations[which], &mut buffers));
             best[which] = times.min().into_iter().chain([best[which]]).min().expect("one at least");
         }
@@ -125,16 +151,17 @@ fn best(call: Call) -> [Duration; 3] {
     best
 }
 
-/// What all three answer and write; stops where they differ.
-fn agreed(name: &str, call: Call) -> Timed {
-    let [proved, reference, fast] = NAMES.map(|implementation| {
+/// What all answer and write; stops where they differ.
+fn agreed<const N: usize>(names: [&str; N], name: &str, call: Call) -> Timed {
+    let results = names.map(|implementation| {
         let mut buffers = Buffers::new();
         let answer = call(&mut Implementation::named(implementation), &mut buffers);
         (answer, buffers)
     });
-    for (other, (answer, buffers)) in [("reference", &reference), ("fast", &fast)] {
+    let proved = &results[0];
+    for (other, (answer, buffers)) in names.iter().zip(&results) {
         let same = *answer == proved.0 && buffers.trace == proved.1.trace && buffers.state == proved.1.state;
-        if !same || buffers.result != proved.1.result {
+        if !same || buffers.result != proved.1.result || buffers.sheet != proved.1.sheet {
             println!("{name}: proved and {other} differ: {:?} and {answer:?}", proved.0);
             std::process::exit(1);
         }
@@ -142,18 +169,22 @@ fn agreed(name: &str, call: Call) -> Timed {
     proved.0
 }
 
-fn print_row(name: &str, call: Call) {
-    let answer = match agreed(name, call) {
+/// The proved library's time, and the others' over it.
+fn print_row<const N: usize>(names: [&str; N], name: &str, call: Call) {
+    let answer = match agreed(names, name, call) {
         Timed::Run(Ok(Done { end, steps, .. })) => format!("{end:?}, {steps} steps"),
         Timed::TakenOut(count) => format!("{count} taken out"),
         Timed::Start(Ok(())) => "Start(Started)".to_string(),
         Timed::PutBack(Ok(())) => "PutBack(Done)".to_string(),
+        Timed::Colour(Ok(Written { bytes })) => format!("{bytes} bytes written"),
         Timed::Run(Err(fault)) => format!("Run({fault:?})"),
         Timed::Start(Err(fault)) => format!("Start({fault:?})"),
         Timed::PutBack(Err(fault)) => format!("PutBack({fault:?})"),
+        Timed::Colour(Err(fault)) => format!("Colour({fault:?})"),
     };
-    let [proved, reference, fast] = best(call).map(|time| time.as_nanos() as f64 / 1000.0);
-    println!("{name:<40} {proved:>11.1} {:>11.3} {:>11.3}  {answer}", reference / proved, fast / proved);
+    let times = best(names, call).map(|time| time.as_nanos() as f64 / 1000.0);
+    let ratios: String = times[1..].iter().map(|time| format!(" {:>12.3}", time / times[0])).collect();
+    println!("{name:<40} {:>11.1}{ratios}  {answer}", times[0]);
 }
 
 fn run_call(sheet: &[u8]) -> impl Fn(&mut Implementation, &mut Buffers) -> Timed + '_ {
@@ -192,11 +223,15 @@ fn trace_and_plan(sheet: &[u8]) -> (Vec<u8>, Vec<u8>) {
 
 fn print_put_back(name: &str, sheet: &[u8]) {
     let (trace, plan) = trace_and_plan(sheet);
-    print_row(name, &|implementation, buffers| Timed::PutBack(implementation.put_back(sheet, &trace, &plan, &mut buffers.result)));
+    print_row(NAMES, name, &|implementation, buffers| Timed::PutBack(implementation.put_back(sheet, &trace, &plan, &mut buffers.result)));
 }
 
 fn print_start(name: &str, sheet: &[u8]) {
-    print_row(name, &|implementation, buffers| Timed::Start(implementation.start(sheet, &mut buffers.state)));
+    print_row(NAMES, name, &|implementation, buffers| Timed::Start(implementation.start(sheet, &mut buffers.state)));
+}
+
+fn print_colour(name: &str, file: &[u8], channels: u64) {
+    print_row(FILE_NAMES, name, &|implementation, buffers| Timed::Colour(implementation.colour(file, channels, &mut buffers.sheet)));
 }
 
 /// Prints the row of one family, by its name and its sheet.
@@ -205,27 +240,46 @@ type PrintRow = fn(&str, &[u8]);
 fn print_tables() {
     println!("Times of one call, best of {ROUNDS} rounds in which the implementations take turns. Ratios: the other's time over the");
     println!("proved library's; below 1 is faster than the proved library. Each call reads the sheet, fills its table and does the job;");
-    println!("the buffers are cleared before, outside the time. All three gave the same answer and the same bytes before they were timed.");
+    println!("the buffers are cleared before, outside the time. All gave the same answer and the same bytes before they were timed.");
     let tables: [(&str, PrintRow); 4] = [
-        ("run", |name, sheet| print_row(name, &run_call(sheet))),
+        ("run", |name, sheet| print_row(NAMES, name, &run_call(sheet))),
         ("put back (the run's own trace)", print_put_back),
         ("start", print_start),
-        ("a hand call for each item from the start", |name, sheet| print_row(name, &hand_list(sheet))),
+        ("a hand call for each item from the start", |name, sheet| print_row(NAMES, name, &hand_list(sheet))),
     ];
     for (job, print) in tables {
-        println!("\n{job:<40} {:>11} {:>11} {:>11}  answer", "proved us", "ref/proved", "fast/proved");
+        print_head(NAMES, job);
         generate::families().iter().for_each(|(name, sheet)| print(name, sheet));
+    }
+    print_head(FILE_NAMES, "the sheet of a colouring file");
+    generate::timed_files().iter().for_each(|(name, file, channels)| print_colour(name, file, *channels));
+}
+
+fn print_head<const N: usize>(names: [&str; N], job: &str) {
+    let heads: String = names[1..].iter().map(|name| format!(" {:>12}", format!("{}/proved", name.replace("reference", "ref")))).collect();
+    println!("\n{job:<40} {:>11}{heads}  answer", "proved us");
+}
+
+/// Has one implementation do one family, or one colouring file, so many times.
+fn count(name: &str, implementation: &str, repetitions: usize) {
+    let (families, files) = (generate::families(), generate::timed_files());
+    let (mut implementation, mut buffers) = (Implementation::named(implementation), Buffers::new());
+    if let Some((_, sheet)) = families.iter().find(|(family, _)| *family == name) {
+        for _ in 0..repetitions {
+            let _ = black_box(implementation.run(black_box(sheet), &mut buffers.trace, &mut buffers.state));
+        }
+    } else if let Some((_, file, channels)) = files.iter().find(|(file, ..)| *file == name) {
+        for _ in 0..repetitions {
+            let _ = black_box(implementation.colour(black_box(file), *channels, &mut buffers.sheet));
+        }
+    } else {
+        panic!("no family and no colouring file {name}");
     }
 }
 
-/// Runs one implementation on one family so many times.
-fn count(family: &str, implementation: &str, repetitions: usize) {
-    let families = generate::families();
-    let (_, sheet) = families.iter().find(|(name, _)| *name == family).unwrap_or_else(|| panic!("no family {family}"));
-    let (mut implementation, mut buffers) = (Implementation::named(implementation), Buffers::new());
-    for _ in 0..repetitions {
-        let _ = black_box(implementation.run(black_box(sheet), &mut buffers.trace, &mut buffers.state));
-    }
+fn print_names() {
+    generate::families().iter().for_each(|(name, _)| println!("{name}"));
+    generate::timed_files().iter().for_each(|(name, ..)| println!("{name}"));
 }
 
 fn main() {
@@ -233,9 +287,9 @@ fn main() {
     let arguments: Vec<&str> = arguments.iter().map(String::as_str).collect();
     match arguments[..] {
         [] => print_tables(),
-        ["--names"] => generate::families().iter().for_each(|(name, _)| println!("{name}")),
-        ["--count", family, implementation] => count(family, implementation, 10),
-        ["--count", family, implementation, repetitions] => count(family, implementation, repetitions.parse().expect("a number")),
+        ["--names"] => print_names(),
+        ["--count", name, implementation] => count(name, implementation, 10),
+        ["--count", name, implementation, repetitions] => count(name, implementation, repetitions.parse().expect("a number")),
         _ => panic!("families [--names | --count NAME IMPLEMENTATION [REPETITIONS]]"),
     }
 }

@@ -15,7 +15,7 @@ use common::{explain, line, number, read_sheet, refuse, usage, Status};
 use zomuwedli::{hand_call, start, HandState, State};
 
 /// The item is printed as it was named.
-fn print_call(sheet: &[u8], state: &mut HandState, name: &OsStr, item: u64, text: &mut String) -> Result<(), Status> {
+fn print_call(sheet: &[u8], state: &mut HandState, name: &OsStr, item: u64, text: &mut Vec<u8>) -> Result<(), Status> {
     let call = format!("hand {}", name.to_string_lossy());
     match hand_call(sheet, state, item) {
         Ok(taken) => {
@@ -29,14 +29,14 @@ fn print_call(sheet: &[u8], state: &mut HandState, name: &OsStr, item: u64, text
     }
 }
 
-fn print_left(state: &State, text: &mut String) {
+fn print_left(state: &State, text: &mut Vec<u8>) {
     line(text, "left", [state.count_items(), state.count_settings()]);
     for item in state.items() {
         line(text, format_args!("item {item} on"), state.settings(item));
     }
 }
 
-fn work(arguments: &[OsString], text: &mut String) -> Result<(), Status> {
+fn work(arguments: &[OsString], text: &mut Vec<u8>) -> Result<(), Status> {
     let usage = || usage("SHEET [ITEM]...");
     let [name, items @ ..] = arguments else { return Err(usage()) };
     let numbers: Vec<u64> = items.iter().map(|item| number(item)).collect::<Option<_>>().ok_or_else(usage)?;

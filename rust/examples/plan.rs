@@ -9,7 +9,7 @@ use std::ffi::OsString;
 use std::process::ExitCode;
 
 use common::{line, read_sheet, refuse, usage, Status};
-use zomuwedli::{put_back, run, State, MAX_ITEMS, MAX_SETTINGS, MAX_TRACE, OUT};
+use zomuwedli::{put_back, run, Refusal, State, MAX_ITEMS, MAX_SETTINGS, MAX_TRACE, OUT};
 
 /// Bit b of `rows[i][j][a]` is set where a of i and b of j, the higher item, may stand together.
 type Rows = [[[u16; MAX_SETTINGS]; MAX_ITEMS]; MAX_ITEMS];
@@ -49,19 +49,26 @@ fn search(state: &State, rows: &Rows, plan: &mut [u8], i: usize) -> bool {
     false
 }
 
-fn work(arguments: &[OsString], text: &mut String) -> Result<(), Status> {
-    let [name] = arguments else { return Err(usage("SHEET")) };
-    let sheet = read_sheet(name)?;
+/// A plan of the sheet, if there is one. The tests find plans by it too (tests/colour.rs).
+pub fn plan_of(sheet: &[u8]) -> Result<Option<Vec<u8>>, Refusal> {
     let mut trace = [0; MAX_TRACE];
-    let run = run(&sheet, &mut trace).map_err(|refusal| refuse(name, refusal, text))?;
+    let run = run(sheet, &mut trace)?;
     let mut plan = vec![OUT; usize::from(sheet[5])];
-    if !search(&run.state, &rows(&sheet), &mut plan, 0) {
-        line::<u8>(text, "no plan", []);
-        return Ok(());
+    if !search(&run.state, &rows(sheet), &mut plan, 0) {
+        return Ok(None);
     }
     let mut full = vec![0; plan.len()];
-    put_back(&sheet, &trace[..run.written], &plan, &mut full).map_err(|refusal| refuse(name, refusal, text))?;
-    line(text, "plan", full);
+    put_back(sheet, &trace[..run.written], &plan, &mut full)?;
+    Ok(Some(full))
+}
+
+fn work(arguments: &[OsString], text: &mut Vec<u8>) -> Result<(), Status> {
+    let [name] = arguments else { return Err(usage("SHEET")) };
+    let sheet = read_sheet(name)?;
+    match plan_of(&sheet).map_err(|refusal| refuse(name, refusal, text))? {
+        Some(plan) => line(text, "plan", plan),
+        None => line::<u8>(text, "no plan", []),
+    }
     Ok(())
 }
 

@@ -14,7 +14,7 @@ use zomuwedli::{put_back, MAX_TRACE};
 /// One record more than the longest lawful trace has: the first fault of a longer file stands within it.
 const TRACE_ROOM: usize = MAX_TRACE + 5;
 
-fn work(arguments: &[OsString], text: &mut String) -> Result<(), Status> {
+fn work(arguments: &[OsString], text: &mut Vec<u8>) -> Result<(), Status> {
     let usage = || usage("SHEET TRACE [SETTING]...");
     let [name, trace, plan @ ..] = arguments else { return Err(usage()) };
     let plan: Vec<u8> = plan.iter().map(|setting| number(setting)).collect::<Option<_>>().ok_or_else(usage)?;

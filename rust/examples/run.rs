@@ -10,7 +10,7 @@ use std::process::ExitCode;
 use common::{line, read_sheet, refuse, usage, Status};
 use zomuwedli::{records, run, MAX_TRACE};
 
-fn work(arguments: &[OsString], text: &mut String) -> Result<(), Status> {
+fn work(arguments: &[OsString], text: &mut Vec<u8>) -> Result<(), Status> {
     let [name] = arguments else { return Err(usage("SHEET")) };
     let sheet = read_sheet(name)?;
     let mut trace = [0; MAX_TRACE];

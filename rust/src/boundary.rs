@@ -1,4 +1,4 @@
-//! The five C functions of the proved library over slices: the one place with unsafe code.
+//! The six C functions of the proved library over slices: the one place with unsafe code.
 //!
 //! Each function answers one word (docs/FORMAT.md, "The state's bytes and the C boundary"): bits 0 to 7 hold 0 or the number of the
 //! refusal, the bits above what a call that was done answers. Here the word is taken apart and nothing more: a state is a slice of any
@@ -26,6 +26,7 @@ extern "C" {
         result: *mut u8,
         result_length: usize,
     ) -> u64;
+    fn zomuwedli_colour(file: *const u8, file_length: usize, channels: u64, sheet: *mut u8, sheet_length: usize) -> u64;
 }
 
 /// The number of items and the number of blocks.
@@ -74,6 +75,13 @@ pub fn put_back(sheet: &[u8], trace: &[u8], plan: &[u8], result: &mut [u8]) -> R
         )
     };
     taken(word, 8).map(|_| ())
+}
+
+/// The bytes written.
+pub fn colour(file: &[u8], channels: u64, sheet: &mut [u8]) -> Result<u32, u8> {
+    // SAFETY: each pointer and length are of one live slice; the one that is written is lent as mutable, so that none overlaps it.
+    let word = unsafe { zomuwedli_colour(file.as_ptr(), file.len(), channels, sheet.as_mut_ptr(), sheet.len()) };
+    taken(word, 32).map(|fields| fields as u32)
 }
 
 /// The fields of an answer above its low byte, none from bit `end` on; or the number of the refusal, which has no field beside it.

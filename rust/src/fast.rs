@@ -1,11 +1,11 @@
-//! The five jobs written for speed, from docs/FORMAT.md: sets as bit masks, and the rows of every pair both ways in one dense table. The
+//! The six jobs written for speed, from docs/FORMAT.md: sets as bit masks, and the rows of every pair both ways in one dense table. The
 //! answers' types and the limits are those of the library; all else is written here. No part of the library: tests/support has it.
 //!
 //! Two facts save most of the work, and neither changes the trace. A state only ever shrinks, so a value that covers another at an item
 //! covers it there for good: for each two values one mark, the lowest item at which the one may fail to cover the other, only moves up
 //! (`Reduction::gap`). And a rule that failed rests on a few items only: it is not tested again before one of them changes (`Failed`).
 
-use zomuwedli::{Accepted, End, Refusal, Taken, HAND_STATE_LENGTH, MAX_ITEMS, MAX_SETTINGS, OUT, STATE_LENGTH};
+use zomuwedli::{Accepted, End, Refusal, Taken, Written, HAND_STATE_LENGTH, MAX_FILE, MAX_ITEMS, MAX_SETTINGS, OUT, STATE_LENGTH};
 
 use super::{Answer, Done, Fault};
 
@@ -688,5 +688,163 @@ impl Workspace {
             place += length;
         }
         Ok(steps)
+    }
+}
+
+// ---- The colouring file -------------------------------------------------------------------------------------------------------------
+
+/// The edges of a colouring file, as its bytes are gone through once.
+struct Edges {
+    /// What the `p` line states, once it was met; without it no vertex is inside.
+    stated: Option<u32>,
+    vertices: u32,
+    lines: u32,
+    looped: bool,
+    /// Bit j of `higher[i]` for an edge of items i < j. Without meaning where there are more than 32 vertices.
+    higher: [u32; MAX_ITEMS],
+}
+
+impl Edges {
+    /// One `e` line. Without a `p` line before it every vertex is outside.
+    fn add(&mut self, a: u32, b: u32) -> Option<()> {
+        let (low, high) = (a.min(b).wrapping_sub(1), a.max(b).wrapping_sub(1));
+        // 0 wraps to the greatest number.
+        if low >= self.vertices || high >= self.vertices {
+            return None;
+        }
+        self.lines += 1;
+        self.looped |= low == high;
+        self.higher[low as usize % MAX_ITEMS] |= 1 << (high % 32);
+        Some(())
+    }
+
+    /// Goes through all lines; nothing where one is wrong.
+    fn read(&mut self, file: &[u8]) -> Option<()> {
+        let mut rest = file;
+        while let Some(&first) = rest.first() {
+            rest = match first {
+                b'e' => {
+                    let (a, b, after) = short_edge(rest).or_else(|| any_edge(rest))?;
+                    self.add(a, b)?;
+                    after
+                }
+                b'c' => after_newline(rest),
+                _ if self.stated.is_some() => return None,
+                _ => {
+                    let (vertices, middle) = digits(rest.strip_prefix(b"p edge ")?)?;
+                    let (stated, end) = digits(middle.strip_prefix(b" ")?)?;
+                    (self.vertices, self.stated) = (vertices, Some(stated));
+                    line_end(end)?
+                }
+            };
+        }
+        Some(())
+    }
+}
+
+/// A word with this byte at every place.
+const fn everywhere(byte: u8) -> u64 {
+    u64::from_ne_bytes([byte; 8])
+}
+
+/// Whether a byte of the word is 0.
+fn has_zero(word: u64) -> bool {
+    word.wrapping_sub(everywhere(1)) & !word & everywhere(0x80) != 0
+}
+
+/// What follows the first newline, or nothing: eight bytes at a time are looked at.
+fn after_newline(bytes: &[u8]) -> &[u8] {
+    let mut words = bytes.chunks_exact(8);
+    let clear = words.position(|word| has_zero(u64::from_le_bytes(word.try_into().expect("eight bytes")) ^ everywhere(b'\n')));
+    let from = 8 * clear.unwrap_or(bytes.len() / 8);
+    let newline = bytes[from..].iter().position(|&byte| byte == b'\n');
+    newline.map_or(&[], |place| &bytes[from + place + 1..])
+}
+
+/// An `e` line with vertices of one or two digits, without a branch on its shape: its two vertices, and what follows. Such a line has at
+/// most eight bytes with its newline. Any other line, and one of the last seven bytes, is left to `any_edge`.
+fn short_edge(bytes: &[u8]) -> Option<(u32, u32, &[u8])> {
+    let line = <&[u8; 8]>::try_from(bytes.get(..8)?).expect("eight bytes");
+    let byte = |place: usize| line[place % 8];
+    let digit = |place: usize| u32::from(byte(place).wrapping_sub(b'0'));
+    // The number at this place, the place after it, and whether it is one.
+    let number = |place: usize| {
+        let (first, second) = (digit(place), digit(place + 1));
+        let two = second < 10;
+        (if two { 10 * first + second } else { first }, place + 1 + usize::from(two), first < 10)
+    };
+    let (a, space, is_first) = number(2);
+    let (b, newline, is_second) = number(space + 1);
+    // The newline's place by itself, so that the next line need not wait for the numbers of this one.
+    let length = 8 - usize::from(line[6] == b'\n') - 2 * usize::from(line[5] == b'\n');
+    let marks = line[0] == b'e' && line[1] == b' ' && byte(space) == b' ' && byte(newline) == b'\n';
+    (marks && is_first && is_second && newline + 1 == length).then(|| (a, b, &bytes[length..]))
+}
+
+/// Any `e` line: its two vertices, and what follows.
+fn any_edge(bytes: &[u8]) -> Option<(u32, u32, &[u8])> {
+    let (a, middle) = digits(bytes.strip_prefix(b"e ")?)?;
+    let (b, end) = digits(middle.strip_prefix(b" ")?)?;
+    Some((a, b, line_end(end)?))
+}
+
+/// A number of one to nine digits at the front, and what follows.
+fn digits(bytes: &[u8]) -> Option<(u32, &[u8])> {
+    let digit = |byte: &u8| byte.wrapping_sub(b'0') < 10;
+    let length = bytes.iter().take(10).take_while(|&byte| digit(byte)).count();
+    let (number, rest) = bytes.split_at(length);
+    (1..=9).contains(&length).then(|| (number.iter().fold(0, |value, byte| 10 * value + u32::from(byte - b'0')), rest))
+}
+
+/// What follows a line that ends here.
+fn line_end(bytes: &[u8]) -> Option<&[u8]> {
+    match bytes {
+        [] => Some(bytes),
+        [b'\n', rest @ ..] => Some(rest),
+        _ => None,
+    }
+}
+
+/// Writes the sheet of a colouring file. It needs no workspace.
+pub fn colour(file: &[u8], channels: u64, sheet: &mut [u8]) -> Answer<Written> {
+    let mut edges = Edges { stated: None, vertices: 0, lines: 0, looped: false, higher: [0; MAX_ITEMS] };
+    if file.len() > MAX_FILE || edges.read(file).is_none() {
+        return Err(Refusal::GraphFile.into());
+    }
+    let stated = edges.stated.ok_or(Refusal::GraphFile)?;
+    if edges.looped {
+        return Err(Refusal::GraphLoop.into());
+    }
+    if edges.lines != stated {
+        return Err(Refusal::EdgeCount.into());
+    }
+    let n = edges.vertices as usize;
+    if !(1..=MAX_ITEMS).contains(&n) || !(1..=MAX_SETTINGS as u64).contains(&channels) {
+        return Err(Refusal::ColourRange.into());
+    }
+    let size = channels as usize;
+    let blocks = edges.higher.iter().map(|set| set.count_ones() as usize).sum::<usize>();
+    let length = 8 + n + blocks * (2 + 2 * size);
+    let sheet = sheet.get_mut(..length).ok_or(Refusal::SheetBuffer)?;
+    let (front, rest) = sheet.split_at_mut(8 + n);
+    front[0] = 1;
+    front[1..5].copy_from_slice(&(length as u32).to_be_bytes());
+    front[5] = n as u8;
+    front[6..8].copy_from_slice(&(blocks as u16).to_be_bytes());
+    front[8..].fill(size as u8);
+    write_blocks(&edges.higher, size, rest);
+    Ok(Written { bytes: length })
+}
+
+/// All blocks have the same rows, which are made once.
+fn write_blocks(higher: &[u32; MAX_ITEMS], size: usize, bytes: &mut [u8]) {
+    let mut block = [0; 2 + 2 * MAX_SETTINGS];
+    for (a, row) in block[2..2 + 2 * size].chunks_exact_mut(2).enumerate() {
+        row.copy_from_slice(&(below(size) & !(1 << a)).to_be_bytes());
+    }
+    let pairs = higher.iter().enumerate().flat_map(|(i, &set)| members(set).map(move |j| [i as u8, j as u8]));
+    for (place, pair) in bytes.chunks_exact_mut(2 + 2 * size).zip(pairs) {
+        block[..2].copy_from_slice(&pair);
+        place.copy_from_slice(&block[..2 + 2 * size]);
     }
 }

@@ -1,7 +1,7 @@
-//! Sheets, states, traces and plans for the comparisons, from a seed: lawful ones, and ones with a fault or several. No part of the
-//! library: tests/support has it.
+//! Sheets, states, traces, plans and colouring files for the comparisons, from a seed: lawful ones, and ones with a fault or several. No
+//! part of the library: tests/support has it.
 
-use zomuwedli::{MAX_ITEMS, MAX_SETTINGS, OUT, STATE_LENGTH};
+use zomuwedli::{MAX_FILE, MAX_ITEMS, MAX_SETTINGS, OUT, STATE_LENGTH};
 
 use super::fast::State as Masks;
 use super::reference::{Problem, State, Step};
@@ -525,4 +525,365 @@ pub fn damaged_plan(random: &mut Random, plan: &[u8]) -> Vec<u8> {
         }
     }
     plan
+}
+
+// ---- Graphs -------------------------------------------------------------------------------------------------------------------------
+
+/// A graph before it is written down as a colouring file: vertices count from 1, and each edge is an `e` line.
+#[derive(Clone)]
+pub struct Graph {
+    pub vertices: usize,
+    pub edges: Vec<(usize, usize)>,
+    /// How many edges the `p` line states, where that is not their number.
+    pub stated: Option<usize>,
+}
+
+impl Graph {
+    pub fn new(vertices: usize, edges: Vec<(usize, usize)>) -> Graph {
+        Graph { vertices, edges, stated: None }
+    }
+
+    /// The graph with an edge for each two vertices, the lower first, that are linked.
+    pub fn of_pairs(vertices: usize, mut linked: impl FnMut(usize, usize) -> bool) -> Graph {
+        let pairs = (1..=vertices).flat_map(|a| (a + 1..=vertices).map(move |b| (a, b)));
+        Graph::new(vertices, pairs.filter(|&(a, b)| linked(a, b)).collect())
+    }
+
+    /// Each edge twice, once either way round, as some of the published files have them.
+    pub fn both_ways(mut self) -> Graph {
+        self.edges = self.edges.iter().flat_map(|&(a, b)| [(a, b), (b, a)]).collect();
+        self
+    }
+
+    /// The lines without their newlines, and without comments.
+    fn lines(&self) -> Vec<Vec<u8>> {
+        let size = format!("p edge {} {}", self.vertices, self.stated.unwrap_or(self.edges.len()));
+        let edges = self.edges.iter().map(|(a, b)| format!("e {a} {b}"));
+        std::iter::once(size).chain(edges).map(String::into_bytes).collect()
+    }
+
+    /// The plainest colouring file that says this.
+    pub fn file(&self) -> Vec<u8> {
+        joined(&self.lines(), true)
+    }
+}
+
+/// The squares of a board, linked where a queen goes from one to the other.
+pub fn queens(side: usize) -> Graph {
+    let place = |vertex: usize| ((vertex - 1) / side, (vertex - 1) % side);
+    Graph::of_pairs(side * side, |a, b| {
+        let ((row, column), (other_row, other_column)) = (place(a), place(b));
+        let (up, across) = (row.abs_diff(other_row), column.abs_diff(other_column));
+        up == 0 || across == 0 || up == across
+    })
+}
+
+/// Mycielski's rule: a copy of each vertex, linked as the vertex is, and one vertex more, linked to every copy. It needs one colour more
+/// and has no triangle where the graph had none.
+pub fn mycielski(graph: &Graph) -> Graph {
+    let n = graph.vertices;
+    let copies = graph.edges.iter().flat_map(|&(a, b)| [(a, b), (a, n + b), (b, n + a)]);
+    Graph::new(2 * n + 1, copies.chain((1..=n).map(|vertex| (n + vertex, 2 * n + 1))).collect())
+}
+
+/// Mycielski's graphs as they are published by number: the second is the cycle of five, the third has 11 vertices.
+pub fn mycielski_number(number: usize) -> Graph {
+    (1..number).fold(Graph::new(2, vec![(1, 2)]), |graph, _| mycielski(&graph))
+}
+
+/// A cycle of five, a star of five, and a link from each vertex of the one to one of the other.
+pub fn petersen() -> Graph {
+    let outer = (0..5).map(|k| (1 + k, 1 + (k + 1) % 5));
+    let spokes = (0..5).map(|k| (1 + k, 6 + k));
+    let inner = (0..5).map(|k| (6 + k, 6 + (k + 2) % 5));
+    Graph::new(10, outer.chain(spokes).chain(inner).collect())
+}
+
+/// A graph of 1 to 32 vertices, its edges either way round; some are given again, or all, or all both ways.
+pub fn random_graph(random: &mut Random) -> Graph {
+    let vertices = match random.below(20) {
+        0..=12 => random.between(1, 8),
+        13..=18 => random.between(5, 20),
+        _ => random.between(20, MAX_ITEMS),
+    };
+    let network = Network::random(random);
+    let mut graph = Graph::of_pairs(vertices, |a, b| network.links(random, vertices, a - 1, b - 1));
+    match random.below(6) {
+        0 => graph = graph.both_ways(),
+        1 | 2 if !graph.edges.is_empty() => {
+            let again: Vec<(usize, usize)> = (0..random.between(1, 8)).map(|_| random.pick(&graph.edges)).collect();
+            graph.edges.extend(again);
+        }
+        _ => {}
+    }
+    for place in 0..graph.edges.len() {
+        if random.chance(50) {
+            let (a, b) = graph.edges[place];
+            graph.edges[place] = (b, a);
+        }
+    }
+    if random.chance(60) {
+        shuffle(random, &mut graph.edges);
+    }
+    graph
+}
+
+fn shuffle<T>(random: &mut Random, list: &mut [T]) {
+    for place in (1..list.len()).rev() {
+        list.swap(place, random.below(place + 1));
+    }
+}
+
+/// A channel count of 1 to 16.
+pub fn channels(random: &mut Random) -> u64 {
+    if random.chance(20) {
+        random.pick(&[1, 16])
+    } else {
+        random.between(1, MAX_SETTINGS) as u64
+    }
+}
+
+// ---- Colouring files ----------------------------------------------------------------------------------------------------------------
+
+/// Lines with a newline after each, or after each but the last.
+pub fn joined(lines: &[Vec<u8>], ended: bool) -> Vec<u8> {
+    let mut file = lines.join(&b'\n');
+    if ended && !lines.is_empty() {
+        file.push(b'\n');
+    }
+    file
+}
+
+/// The lines of a graph in any dress that says the same: leading zeros, and comments before, between and after.
+pub fn dressed(random: &mut Random, graph: &Graph) -> Vec<Vec<u8>> {
+    let (zeros, comments) = (random.pick(&[0, 0, 10, 60]), random.pick(&[0, 0, 10, 40]));
+    let mut lines = Vec::new();
+    for line in graph.lines() {
+        while random.chance(comments) {
+            lines.push(comment(random));
+        }
+        lines.push(with_zeros(random, zeros, &line));
+    }
+    while random.chance(comments) {
+        lines.push(comment(random));
+    }
+    lines
+}
+
+/// A line that begins with `c`: nothing else is asked of it.
+fn comment(random: &mut Random) -> Vec<u8> {
+    const PLAIN: [&[u8]; 9] =
+        [b"c", b"cat", b"c ", b"c FILE: loggers.col", b"c\r", b"c e 1 1", b"cp edge 0 0", b"c\0\0", b"c\xff\x80 \t\x0b"];
+    if random.chance(70) {
+        return random.pick(&PLAIN).to_vec();
+    }
+    let length = random.below(24);
+    let rest = random.bytes(length).into_iter().filter(|&byte| byte != b'\n');
+    std::iter::once(b'c').chain(rest).collect()
+}
+
+/// A line with zeros before some of its numbers, up to nine digits.
+fn with_zeros(random: &mut Random, percent: usize, line: &[u8]) -> Vec<u8> {
+    let mut field = |field: &[u8]| {
+        let widen = field[0].is_ascii_digit() && random.chance(percent);
+        let zeros = if widen { random.below(10 - field.len()) } else { 0 };
+        [&b"00000000"[..zeros], field].concat()
+    };
+    line.split(|&byte| byte == b' ').map(&mut field).collect::<Vec<_>>().join(&b' ')
+}
+
+/// A colouring file without a fault.
+pub fn colouring_file(random: &mut Random, graph: &Graph) -> Vec<u8> {
+    let lines = dressed(random, graph);
+    joined(&lines, random.chance(70))
+}
+
+/// A colouring file without a fault but for its length, where that is over 64 KiB: the graph's edges again and again in any order and
+/// either way round, some comments, and one at the end that makes it so many bytes long.
+pub fn long_file(random: &mut Random, graph: &Graph, length: usize) -> Vec<u8> {
+    const LONGEST_LINE: usize = 40;
+    let (mut lines, mut edges, mut used) = (Vec::new(), 0, 2 * LONGEST_LINE);
+    while used < length {
+        if graph.edges.is_empty() || random.chance(3) {
+            lines.push(comment(random));
+        } else {
+            let (a, b) = random.pick(&graph.edges);
+            let (a, b) = if random.chance(50) { (a, b) } else { (b, a) };
+            lines.push(format!("e {a} {b}").into_bytes());
+            edges += 1;
+        }
+        used += lines[lines.len() - 1].len() + 1;
+    }
+    let first_edge = lines.iter().position(|line| line[0] == b'e').unwrap_or(lines.len());
+    lines.insert(random.below(first_edge + 1), format!("p edge {} {edges}", graph.vertices).into_bytes());
+    let mut file = joined(&lines, true);
+    file.push(b'c');
+    file.resize(length, b'.');
+    if random.chance(50) {
+        file[length - 1] = b'\n';
+    }
+    file
+}
+
+/// Some of 21 to 24, so that each of them is the first now and then.
+pub fn colouring_faults(random: &mut Random) -> Vec<u8> {
+    let first = random.between(21, 24) as u8;
+    std::iter::once(first).chain((first + 1..=24).filter(|_| random.chance(40))).collect()
+}
+
+/// A colouring file and a channel count with these faults among 21 to 24 and no other. Where they stand in the file is left to chance, so
+/// that a later one is often met first.
+pub fn faulty_colouring(random: &mut Random, faults: &[u8]) -> (Vec<u8>, u64) {
+    let (mut graph, mut channels) = (random_graph(random), channels(random));
+    if faults.contains(&24) {
+        spoil_range(random, &mut graph, &mut channels, faults.contains(&22));
+    }
+    if faults.contains(&22) {
+        let vertex = random.between(1, graph.vertices);
+        graph.edges.insert(random.below(graph.edges.len() + 1), (vertex, vertex));
+    }
+    if faults.contains(&23) {
+        let right = graph.edges.len();
+        graph.stated = Some(random.pick(&[right + 1, right + 1, right.wrapping_sub(1).min(999_999_999), right + 256, 999_999_999]));
+    }
+    let mut lines = dressed(random, &graph);
+    let ended = random.chance(70);
+    if faults.contains(&21) {
+        spoil_lines(random, &mut lines, graph.vertices);
+        if random.chance(1) {
+            let length = MAX_FILE + random.between(1, 9);
+            return (long_file(random, &graph, length), channels);
+        }
+    }
+    (joined(&lines, ended), channels)
+}
+
+/// 24 by the vertices, by the channels, or by both. A graph of no vertex has no edge.
+fn spoil_range(random: &mut Random, graph: &mut Graph, channels: &mut u64, looped: bool) {
+    let which = random.between(1, 3);
+    if which != 1 {
+        *channels = random.pick(&[0, 17, 255, 256, 1 << 8 | 3, 1 << 16 | 3, 1 << 32 | 3, 1 << 40, u64::MAX]);
+    }
+    if which == 2 {
+        return;
+    }
+    if random.chance(20) && !looped {
+        *graph = Graph::new(0, Vec::new());
+        return;
+    }
+    graph.vertices = random.pick(&[33, 33, 34, 64, 100, 256 + 5, 65_536 + 5, 999_999_999]);
+    for _ in 0..random.below(4) {
+        let vertex = random.between(1, graph.vertices - 1);
+        graph.edges.push((vertex, random.pick(&[graph.vertices, vertex + 1])));
+    }
+}
+
+/// 21 by one thing, whatever else the lines say: a line too many, one changed, the `p` line, or a vertex.
+fn spoil_lines(random: &mut Random, lines: &mut Vec<Vec<u8>>, vertices: usize) {
+    const BAD: &[u8] = b"|| |\r|x|E 1 2|e|e |e 1|e 1 |e1 2|p|p edge|p col 1 0|P edge 1 0| c|\tc|1 2|n 1 2|\0|\xffc|edge 1 2";
+    let bad: Vec<&[u8]> = BAD.split(|&byte| byte == b'|').collect();
+    let size = lines.iter().position(|line| line[0] == b'p').expect("a p line");
+    match random.below(6) {
+        0 => lines.insert(random.below(lines.len() + 1), random.pick(&bad).to_vec()),
+        1 => {
+            let outside = random.pick(&[0, vertices + 1, vertices + 32, vertices + 256, 999_999_999]);
+            let outside = if (1..=vertices).contains(&outside) { 0 } else { outside };
+            let inside = random.below(vertices + 1);
+            let edge = if random.chance(50) { format!("e {outside} {inside}") } else { format!("e {inside} {outside}") };
+            lines.insert(random.between(size + 1, lines.len()), edge.into_bytes());
+        }
+        2 => {
+            let line = lines.remove(size);
+            match lines.iter().rposition(|line| line[0] == b'e') {
+                Some(edge) if random.chance(50) => lines.insert(random.between(edge + 1, lines.len()), line),
+                _ => {}
+            }
+        }
+        3 => {
+            let again = if random.chance(50) { lines[size].clone() } else { b"p edge 3 2".to_vec() };
+            lines.insert(random.below(lines.len() + 1), again);
+        }
+        _ => {
+            let told: Vec<usize> = (0..lines.len()).filter(|&place| lines[place][0] != b'c').collect();
+            let place = random.pick(&told);
+            lines[place] = spoilt_line(random, &lines[place]);
+        }
+    }
+    // A blank line at the end is one only where a newline follows; and another fault may have made a blank line the last.
+    if lines.last().is_some_and(|last| last.is_empty()) {
+        lines.push(b"c".to_vec());
+    }
+}
+
+/// A `p` or `e` line that has no known form any more.
+fn spoilt_line(random: &mut Random, line: &[u8]) -> Vec<u8> {
+    let mut fields: Vec<Vec<u8>> = line.split(|&byte| byte == b' ').map(<[u8]>::to_vec).collect();
+    let last = fields.len() - 1;
+    let number = random.between(last - 1, last);
+    match random.below(10) {
+        0 => fields[last].push(b'\r'),
+        1 => fields.push(Vec::new()),
+        2 => fields.insert(random.below(last + 1), Vec::new()),
+        3 => fields[number].insert(0, random.pick(b"+-")),
+        4 => {
+            let zeros = 10 - fields[number].len() + random.pick(&[0, 0, 3, 20]);
+            fields[number].splice(0..0, vec![b'0'; zeros]);
+        }
+        5 => {
+            fields.pop();
+        }
+        6 => fields.push(b"1".to_vec()),
+        7 => fields[number] = random.pick(&[&b"x"[..], b"1.0", b"0x1", b"1e1", b"", b"4294967297", b"18446744073709551617"]).to_vec(),
+        8 if fields[0] == b"p" => fields[1] = random.pick(&[&b"col"[..], b"edges", b"edg", b"Edge", b""]).to_vec(),
+        _ => {
+            let separator = random.pick(b"\t,\r\0\x0b");
+            let place = line.iter().rposition(|&byte| byte == b' ').expect("two fields at least");
+            let mut line = line.to_vec();
+            line[place] = separator;
+            return line;
+        }
+    }
+    fields.join(&b' ')
+}
+
+/// Bytes that may be no colouring file at all, or are one with its bytes damaged: whether a fault shows is for the reader to say.
+pub fn damaged_file(random: &mut Random) -> Vec<u8> {
+    if random.chance(10) {
+        let length = random.below(30);
+        return (0..length).map(|_| random.pick(b"pe c  edge\n\n0123\t\r-")).collect();
+    }
+    let graph = random_graph(random);
+    let mut file = colouring_file(random, &graph);
+    for _ in 0..random.between(1, 3) {
+        damage_file(random, &mut file);
+    }
+    file
+}
+
+fn damage_file(random: &mut Random, file: &mut Vec<u8>) {
+    let place = random.below(file.len() + 1);
+    match random.below(5) {
+        0 => file.truncate(place),
+        1 => file.insert(place, random.pick(b"\n\n c1e0p\r")),
+        2 => file.extend(random.pick(&[&b"\n"[..], b"c", b"e 1 2", b" ", b"\0"])),
+        _ if place == file.len() => {}
+        3 => file[place] = random.pick(b"\n c1e0p92"),
+        _ => {
+            file.remove(place);
+        }
+    }
+}
+
+/// The colouring files that the program is timed on, each with its channel count.
+pub fn timed_files() -> Vec<(&'static str, Vec<u8>, u64)> {
+    let mut random = Random::new(1);
+    let complete = Graph::of_pairs(MAX_ITEMS, |_, _| true);
+    let long = long_file(&mut random, &complete, MAX_FILE);
+    let comments = long_file(&mut random, &Graph::new(MAX_ITEMS, Vec::new()), MAX_FILE);
+    vec![
+        ("64 KiB: 32 vertices, 16 channels", long, MAX_SETTINGS as u64),
+        ("64 KiB of comments, 16 channels", comments, MAX_SETTINGS as u64),
+        ("32 vertices, each edge once, 16 channels", complete.file(), MAX_SETTINGS as u64),
+        ("Petersen's graph, 3 channels", petersen().file(), 3),
+    ]
 }

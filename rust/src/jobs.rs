@@ -1,4 +1,4 @@
-//! The five jobs of the proved library.
+//! The six jobs of the proved library.
 
 use std::fmt;
 
@@ -224,6 +224,55 @@ pub fn hand_call(sheet: &[u8], state: &mut HandState, item: u64) -> Result<Taken
 /// ```
 pub fn put_back(sheet: &[u8], trace: &[u8], plan: &[u8], result: &mut [u8]) -> Result<(), Refusal> {
     boundary::put_back(sheet, trace, plan, result).map_err(refusal)
+}
+
+/// What a job that writes a sheet answers.
+///
+/// ```
+/// use zomuwedli::{colour, Written};
+///
+/// // One vertex and no edge.
+/// assert_eq!(colour(b"p edge 1 0\n", 3, &mut [0; 9])?, Written { bytes: 9 });
+/// # Ok::<(), zomuwedli::Refusal>(())
+/// ```
+#[must_use]
+#[derive(Clone, Copy, PartialEq, Eq, Hash, Debug)]
+pub struct Written {
+    /// How many bytes the sheet has, from the front of the buffer.
+    pub bytes: usize,
+}
+
+/// Writes the sheet whose plans are the proper colourings of a graph. Refused: 21, 22, 23, 24, 25, each looked for in the whole file before
+/// the next.
+///
+/// The file is a DIMACS graph colouring file of at most [`MAX_FILE`](crate::MAX_FILE) bytes: lines that begin with `c`, one line
+/// `p edge VERTICES EDGES`, and after it a line `e A B` for each edge, with vertices counted from 1. Vertex v is item v - 1 of the sheet,
+/// and its settings are the channels. The sheet goes to the front of the buffer, which keeps its old bytes after it. A buffer of
+/// [`MAX_SHEET`](crate::MAX_SHEET) bytes is long enough for every file.
+///
+/// ```
+/// use zomuwedli::{colour, put_back, run, End, Refusal, MAX_SHEET, MAX_TRACE, OUT};
+///
+/// // Two loggers that hear each other, and a third that hears the second.
+/// let file = b"c three loggers\np edge 3 2\ne 1 2\ne 2 3\n";
+/// let mut sheet = [0; MAX_SHEET];
+/// let written = colour(file, 2, &mut sheet)?;
+/// let sheet = &sheet[..written.bytes];
+///
+/// let mut trace = [0; MAX_TRACE];
+/// let run = run(sheet, &mut trace)?;
+/// assert_eq!(run.end, End::Solved);
+/// let mut channels = [0; 3];
+/// put_back(sheet, &trace[..run.written], &[OUT; 3], &mut channels)?;
+/// assert!(channels[0] != channels[1] && channels[1] != channels[2]);
+///
+/// assert_eq!(colour(file, 2, &mut [0; 22]), Err(Refusal::SheetBuffer));
+/// assert_eq!(colour(b"p edge 3 1\ne 1 4\n", 2, &mut [0; MAX_SHEET]), Err(Refusal::GraphFile));
+/// # Ok::<(), Refusal>(())
+/// ```
+pub fn colour(file: &[u8], channels: u64, sheet: &mut [u8]) -> Result<Written, Refusal> {
+    let bytes = boundary::colour(file, channels, sheet).map_err(refusal)?;
+    Ok(Written { bytes: usize::try_from(bytes).expect("no more than the buffer has") })
 }
 
 /// The refusal with this number. The library answers no other: states are lent in their length, so that 200 and 201 do not come up.

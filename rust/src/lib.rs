@@ -11,6 +11,7 @@
 //! | [`start`]: starts taking items out by hand | 1 to 9 |
 //! | [`hand_call`]: takes one item out by hand | 1 to 9, 11, 12, 13, 14 |
 //! | [`put_back`]: from a trace and a plan for the items left, the plan of the full sheet | 1 to 9, 18, 20, 15, 16, 17, 19 |
+//! | [`colour`]: from a graph colouring file and a channel count, the sheet of its proper colourings | 21, 22, 23, 24, 25 |
 //!
 //! Each answers a `Result`, and a refused call changes no byte that was lent to it. The library allocates nothing, keeps nothing between
 //! calls and may be called from several threads. [`records`] takes a trace apart and [`trace_of`] writes one; these two are plain Rust.
@@ -38,7 +39,7 @@
 // reference.rs, fast.rs and generate.rs beside this file are no part of the library: tests/support has them.
 #[allow(unsafe_code)]
 mod boundary;
-/// An answer that is dropped is warned of, here as an error: each of these five does not compile.
+/// An answer that is dropped is warned of, here as an error: each of these six does not compile.
 ///
 /// ```compile_fail
 /// # #![deny(unused_must_use)]
@@ -79,6 +80,14 @@ mod boundary;
 /// # }
 /// ```
 ///
+/// ```compile_fail
+/// # #![deny(unused_must_use)]
+/// # fn dropped() -> Result<(), zomuwedli::Refusal> {
+/// zomuwedli::colour(&[], 1, &mut [])?;
+/// # Ok(())
+/// # }
+/// ```
+///
 /// And each is right but for that:
 ///
 /// ```
@@ -89,6 +98,7 @@ mod boundary;
 /// let _ = zomuwedli::start(&[])?;
 /// let _ = zomuwedli::hand_call(&[], state, 0)?;
 /// let _ = zomuwedli::put_back(&[], &[], &[], &mut []);
+/// let _ = zomuwedli::colour(&[], 1, &mut [])?;
 /// # Ok(())
 /// # }
 /// ```
@@ -102,7 +112,7 @@ mod trace;
 #[doc = include_str!("../README.md")]
 mod readme {}
 
-pub use jobs::{hand_call, put_back, read, run, start, Accepted, End, Run, Taken};
+pub use jobs::{colour, hand_call, put_back, read, run, start, Accepted, End, Run, Taken, Written};
 pub use refusal::Refusal;
 pub use state::{HandState, State};
 pub use trace::{records, trace_of, Record, Records};
@@ -154,6 +164,19 @@ pub const MAX_RECORDS: usize = MAX_ITEMS * MAX_SETTINGS;
 /// assert!(zomuwedli::run(&[1, 0, 0, 0, 9, 1, 0, 0, 2], &mut [0; zomuwedli::MAX_TRACE]).is_ok());
 /// ```
 pub const MAX_TRACE: usize = 1 + 5 * MAX_RECORDS;
+
+/// The bytes of the longest colouring file: 64 KiB.
+///
+/// ```
+/// use zomuwedli::{colour, Refusal, MAX_FILE};
+///
+/// let mut file = b"p edge 1 0\nc".to_vec();
+/// file.resize(MAX_FILE, b' ');
+/// assert!(colour(&file, 1, &mut [0; 9]).is_ok());
+/// file.push(b' ');
+/// assert_eq!(colour(&file, 1, &mut [0; 9]), Err(Refusal::GraphFile));
+/// ```
+pub const MAX_FILE: usize = 64 * 1024;
 
 /// The bytes of a run's state.
 ///

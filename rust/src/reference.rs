@@ -1,11 +1,13 @@
-//! The five jobs written from docs/FORMAT.md alone, for clarity: lists of items and settings, one function for each rule, and the
+//! The six jobs written from docs/FORMAT.md alone, for clarity: lists of items and settings, one function for each rule, and the
 //! sentence of that paper over it. The answers' types and the limits are those of the library; all else is written here. No part of the
 //! library: tests/support has it.
 //!
 //! Its words and ours ("Terms" there): item, setting = variable, value; in, on = active, live; partner = support; plan = solution;
 //! covers = substitutes; bare, snake, fold, cover, slide = unsupported, snake, triangle, neighbourhood, snake substitution.
 
-use zomuwedli::{Accepted, End, Refusal, Taken, HAND_STATE_LENGTH, MAX_ITEMS, MAX_SETTINGS, OUT, STATE_LENGTH};
+use std::collections::BTreeSet;
+
+use zomuwedli::{Accepted, End, Refusal, Taken, Written, HAND_STATE_LENGTH, MAX_FILE, MAX_ITEMS, MAX_SETTINGS, OUT, STATE_LENGTH};
 
 use super::{Answer, Done, Fault};
 
@@ -562,4 +564,106 @@ pub fn replay(problem: &Problem, trace: &[u8]) -> Result<(Vec<(State, Step)>, St
         rest = after;
     }
     Ok((steps, state))
+}
+
+// ---- The colouring file -------------------------------------------------------------------------------------------------------------
+
+/// What one line of a colouring file says.
+enum Line {
+    Comment,
+    Size { vertices: u64, edges: u64 },
+    Edge(u64, u64),
+}
+
+/// "Each line ends in a newline, which the last may lack": so nothing after the last newline is no line.
+fn lines(file: &[u8]) -> Vec<&[u8]> {
+    let mut lines: Vec<&[u8]> = file.split(|&byte| byte == b'\n').collect();
+    if lines.last().is_some_and(|last| last.is_empty()) {
+        lines.pop();
+    }
+    lines
+}
+
+/// "Any lines beginning with `c`, one `p edge` line with vertices and edges, and `e` lines with two vertices"; "fields stand one space
+/// apart". Where two spaces meet, or one stands at an end, there is an empty field, which is no number and no word.
+fn line(bytes: &[u8]) -> Option<Line> {
+    if bytes.first() == Some(&b'c') {
+        return Some(Line::Comment);
+    }
+    let fields: Vec<&[u8]> = bytes.split(|&byte| byte == b' ').collect();
+    match fields[..] {
+        [b"p", b"edge", vertices, edges] => Some(Line::Size { vertices: number(vertices)?, edges: number(edges)? }),
+        [b"e", a, b] => Some(Line::Edge(number(a)?, number(b)?)),
+        _ => None,
+    }
+}
+
+/// "Numbers have one to nine digits."
+fn number(field: &[u8]) -> Option<u64> {
+    let is_number = (1..=9).contains(&field.len()) && field.iter().all(|byte| byte.is_ascii_digit());
+    is_number.then(|| field.iter().fold(0, |number, digit| 10 * number + u64::from(digit - b'0')))
+}
+
+/// What a colouring file states, and its edges, line by line.
+struct Graph {
+    vertices: u64,
+    stated: u64,
+    edges: Vec<(u64, u64)>,
+}
+
+/// A graph, or nothing where "the file is over 64 KiB, a line is of none of these forms (a blank one too), the `p` line is missing,
+/// repeated or after an `e` line, or a vertex is outside the stated range".
+fn read_graph(file: &[u8]) -> Option<Graph> {
+    if file.len() > MAX_FILE {
+        return None;
+    }
+    let lines: Vec<Line> = lines(file).into_iter().map(line).collect::<Option<_>>()?;
+    let mut told = lines.into_iter().filter(|line| !matches!(line, Line::Comment));
+    // The first line that tells something is the `p` line, and every later one is an `e` line.
+    let Some(Line::Size { vertices, edges: stated }) = told.next() else { return None };
+    let edge = |line: Line| match line {
+        Line::Edge(a, b) => Some((a, b)),
+        _ => None,
+    };
+    let edges: Vec<(u64, u64)> = told.map(edge).collect::<Option<_>>()?;
+    let inside = |vertex: u64| 1 <= vertex && vertex <= vertices;
+    edges.iter().all(|&(a, b)| inside(a) && inside(b)).then_some(Graph { vertices, stated, edges })
+}
+
+/// "Given such a file and a channel count, write the sheet whose plans are exactly the proper colourings." The five refusals "in that
+/// order, over the whole file".
+pub fn colour(file: &[u8], channels: u64, sheet: &mut [u8]) -> Answer<Written> {
+    let graph = read_graph(file).ok_or(Refusal::GraphFile)?;
+    if graph.edges.iter().any(|(a, b)| a == b) {
+        return Err(Refusal::GraphLoop.into());
+    }
+    if graph.edges.len() as u64 != graph.stated {
+        return Err(Refusal::EdgeCount.into());
+    }
+    if !(1..=MAX_ITEMS as u64).contains(&graph.vertices) || !(1..=MAX_SETTINGS as u64).contains(&channels) {
+        return Err(Refusal::ColourRange.into());
+    }
+    let written = sheet_of(&graph, channels as usize);
+    let front = sheet.get_mut(..written.len()).ok_or(Refusal::SheetBuffer)?;
+    front.copy_from_slice(&written);
+    Ok(Written { bytes: written.len() })
+}
+
+/// "Vertex v is item v - 1, each edge's block bars equal settings only, and no other pair has a block. An edge given again, either way
+/// round, counts as a line but makes one block."
+fn sheet_of(graph: &Graph, channels: usize) -> Vec<u8> {
+    // In the order of the blocks: by the lower item, then by the other.
+    let pairs: BTreeSet<(u64, u64)> = graph.edges.iter().map(|&(a, b)| (a.min(b) - 1, a.max(b) - 1)).collect();
+    let unequal = |a: usize| (0..channels).filter(|&b| b != a).map(|b| 1u16 << b).sum::<u16>();
+    let mut rest = vec![channels as u8; graph.vertices as usize];
+    for (i, j) in &pairs {
+        rest.extend([*i as u8, *j as u8]);
+        rest.extend((0..channels).flat_map(|a| unequal(a).to_be_bytes()));
+    }
+    let mut sheet = vec![1];
+    sheet.extend((8 + rest.len() as u32).to_be_bytes());
+    sheet.push(graph.vertices as u8);
+    sheet.extend((pairs.len() as u16).to_be_bytes());
+    sheet.extend(rest);
+    sheet
 }

@@ -69,6 +69,16 @@ pub enum Refusal {
     PlanUnfit = 19,
     /// The result buffer does not have one byte for each item.
     ResultLength = 20,
+    /// The colouring file is over 64 KiB, has a line of no known form, has no p line or a second one or one after an e line, or names a vertex outside the stated range.
+    GraphFile = 21,
+    /// Both ends of an edge are one vertex.
+    GraphLoop = 22,
+    /// The e lines are not as many as the p line states.
+    EdgeCount = 23,
+    /// The vertices are not 1 to 32, or the channels not 1 to 16.
+    ColourRange = 24,
+    /// The sheet buffer is shorter than the sheet.
+    SheetBuffer = 25,
 }
 
 impl Refusal {
@@ -76,7 +86,7 @@ impl Refusal {
     ///
     /// ```
     /// let numbers: Vec<u8> = zomuwedli::Refusal::ALL.iter().map(|refusal| refusal.number()).collect();
-    /// assert_eq!(numbers, (1..=20).collect::<Vec<u8>>());
+    /// assert_eq!(numbers, (1..=25).collect::<Vec<u8>>());
     /// ```
     pub const ALL: &'static [Refusal] = &[
         Refusal::SheetFront,
@@ -99,6 +109,11 @@ impl Refusal {
         Refusal::PlanLength,
         Refusal::PlanUnfit,
         Refusal::ResultLength,
+        Refusal::GraphFile,
+        Refusal::GraphLoop,
+        Refusal::EdgeCount,
+        Refusal::ColourRange,
+        Refusal::SheetBuffer,
     ];
 
     /// The number of this refusal.
@@ -152,6 +167,11 @@ impl Refusal {
             Refusal::PlanLength => "the plan does not have one byte for each item",
             Refusal::PlanUnfit => "the plan has an item out that is not 255, a setting not on, or a barred pair",
             Refusal::ResultLength => "the result buffer does not have one byte for each item",
+            Refusal::GraphFile => "the colouring file is over 64 KiB, has a line of no known form, has no p line or a second one or one after an e line, or names a vertex outside the stated range",
+            Refusal::GraphLoop => "both ends of an edge are one vertex",
+            Refusal::EdgeCount => "the e lines are not as many as the p line states",
+            Refusal::ColourRange => "the vertices are not 1 to 32, or the channels not 1 to 16",
+            Refusal::SheetBuffer => "the sheet buffer is shorter than the sheet",
         }
     }
 }

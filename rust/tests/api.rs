@@ -1,4 +1,4 @@
-//! What the library has beside the five jobs: refusals as errors, states, the decoder, the docs, and what the header has too.
+//! What the library has beside the six jobs: refusals as errors, states, the decoder, the docs, and what the header has too.
 //!
 //! ZOMUWEDLI_PART: a divisor of the number of random cases.
 
@@ -174,6 +174,7 @@ fn constants_are_those_of_the_header() {
     assert_eq!(MAX_ITEMS, number("MAX_ITEMS"));
     assert_eq!(MAX_SETTINGS, number("MAX_SETTINGS"));
     assert_eq!(zomuwedli::MAX_TRACE, number("MAX_TRACE"));
+    assert_eq!(zomuwedli::MAX_FILE, number("MAX_FILE"));
     assert_eq!(STATE_LENGTH, number("STATE_LENGTH"));
     assert_eq!(HAND_STATE_LENGTH, number("HAND_STATE_LENGTH"));
     assert_eq!(usize::from(zomuwedli::OUT), number("OUT"));
@@ -279,7 +280,7 @@ fn the_stack_table_is_that_of_the_constants() {
 #[test]
 fn every_function_is_wrapped_called_and_measured() {
     let functions = functions();
-    assert!(functions.len() >= 5, "only {functions:?}");
+    assert!(functions.len() >= 6, "only {functions:?}");
     for place in ["src/boundary.rs", "../tests/boundary.c", "../tests/stack.c"] {
         let source = file(place);
         functions.iter().for_each(|name| assert!(source.contains(&format!("{name}(")), "{place} has no {name}"));

@@ -227,8 +227,8 @@ fn refused_sheets() {
 #[test]
 fn every_refusal_has_its_number() {
     let numbers = |known: fn(u8) -> bool| (0..=255).filter(|&number| known(number)).collect::<Vec<u8>>();
-    assert_eq!(numbers(|number| Refusal::from_number(number).is_some()), (1..=20).collect::<Vec<u8>>());
-    assert_eq!(numbers(|number| Fault::from_number(number).is_some()), (1..=20).chain([200, 201]).collect::<Vec<u8>>());
+    assert_eq!(numbers(|number| Refusal::from_number(number).is_some()), (1..=25).collect::<Vec<u8>>());
+    assert_eq!(numbers(|number| Fault::from_number(number).is_some()), (1..=25).chain([200, 201]).collect::<Vec<u8>>());
     assert!(Refusal::ALL.iter().all(|&refusal| Refusal::from_number(refusal.number()) == Some(refusal)));
 }
 

@@ -9,11 +9,11 @@ use std::collections::BTreeMap;
 use std::fmt::Debug;
 
 use support::decoder::{decode, record, reference_decode};
-use support::fast::Workspace;
+use support::fast::{self, Workspace};
 use support::generate::{self, Random};
 use support::reference::{self, Problem, State, Step};
 use support::{proved, Answer, Done, Fault};
-use zomuwedli::{Accepted, End, Record, Refusal, HAND_STATE_LENGTH, MAX_SHEET, OUT, STATE_LENGTH};
+use zomuwedli::{Accepted, End, Record, Refusal, Written, HAND_STATE_LENGTH, MAX_FILE, MAX_SHEET, OUT, STATE_LENGTH};
 
 const SEED: u64 = 20_260_917;
 
@@ -22,6 +22,8 @@ const SHEETS: u64 = 104_000;
 const LARGE_SHEETS: u64 = 200;
 const HAND_LISTS: u64 = 14_000;
 const TRACES: u64 = 12_000;
+const FILES: u64 = 60_000;
+const LONG_FILES: u64 = 200;
 
 /// The least counts. Of each: of each answer that a job can give, of each end, of each kind.
 const LEAST_SHEETS: u64 = 100_000;
@@ -29,12 +31,18 @@ const LEAST_CALLS: u64 = 20_000;
 const LEAST_OF_EACH: u64 = 100;
 const LEAST_FULLEST: u64 = 50;
 const LEAST_LONG: u64 = 10;
+const LEAST_FILES: u64 = 50_000;
+const LEAST_OF_EACH_FILE: u64 = 500;
 
-const JOBS: [&str; 5] = ["read", "run", "start", "hand call", "put back"];
+const JOBS: [&str; 6] = ["read", "run", "start", "hand call", "put back", "colour"];
+/// The job that is lent no sheet but a colouring file.
+const COLOUR: usize = 5;
 const KINDS: [&str; 5] = ["bare", "snake", "fold", "cover", "slide"];
 
-/// The refusals that each job has beside those of the sheet, 1 to 9, which all have.
-const OWN_REFUSALS: [&[u8]; 5] = [&[], &[10, 200], &[201], &[11, 12, 13, 14, 201], &[15, 16, 17, 18, 19, 20]];
+const EVERY_JOB: [usize; 6] = [0, 1, 2, 3, 4, COLOUR];
+
+/// The refusals that each job has beside those of the sheet, 1 to 9, which all have that are lent one.
+const OWN_REFUSALS: [&[u8]; 6] = [&[], &[10, 200], &[201], &[11, 12, 13, 14, 201], &[15, 16, 17, 18, 19, 20], &[21, 22, 23, 24, 25]];
 
 fn main() {
     let seed = generate::from_environment("ZOMUWEDLI_SEED", SEED);
@@ -45,6 +53,8 @@ fn main() {
     comparison.part("sheets", SHEETS / divisor, sheet_case);
     comparison.part("large sheets", LARGE_SHEETS / divisor, large_case);
     comparison.part("large sheets put back", LARGE_SHEETS / 4 / divisor, large_trace_case);
+    comparison.part("colouring files", FILES / divisor, colouring_case);
+    comparison.part("long colouring files", LONG_FILES / divisor, long_colouring_case);
     comparison.counts.print();
     let (missing, strange) = (comparison.counts.missing(divisor), comparison.counts.strange());
     missing.iter().for_each(|line| println!("too few: {line}"));
@@ -61,7 +71,7 @@ fn numbers() -> impl Iterator<Item = u8> {
 }
 
 fn can_answer(job: usize, number: u8) -> bool {
-    number <= 9 || OWN_REFUSALS[job].contains(&number)
+    number == 0 || (job != COLOUR && number <= 9) || OWN_REFUSALS[job].contains(&number)
 }
 
 // ---- Counts -------------------------------------------------------------------------------------------------------------------------
@@ -87,6 +97,13 @@ struct Counts {
     fullest_sheets: u64,
     /// Traces that the decoder was asked of, by its number: 0 where it took them apart to their end.
     decoded: BTreeMap<u8, u64>,
+    /// Colouring files, those of 64 KiB exactly, and what was written for the accepted ones: sheets with fewer blocks than `e` lines,
+    /// sheets of the longest length, and sheets of one channel with a block, which bars everything.
+    files: u64,
+    longest_files: u64,
+    repeated_edges: u64,
+    longest_written: u64,
+    bars_everything: u64,
 }
 
 impl Counts {
@@ -121,10 +138,10 @@ impl Counts {
         for number in numbers() {
             let name = if number == 0 { "accepted".to_string() } else { number.to_string() };
             let count = |job: usize| format!("{:>10}", self.of_answer(job, number));
-            println!("{name:>10} {}", [0, 1, 2, 3, 4].map(count).join(" "));
+            println!("{name:>10} {}", EVERY_JOB.map(count).join(" "));
         }
-        println!("{:>10} {}", "all", [0, 1, 2, 3, 4].map(|job| format!("{:>10}", self.of_job(job))).join(" "));
-        let past = JOBS.iter().enumerate().map(|(job, name)| format!("{name} {}", self.past_the_sheet(job)));
+        println!("{:>10} {}", "all", EVERY_JOB.map(|job| format!("{:>10}", self.of_job(job))).join(" "));
+        let past = JOBS.iter().enumerate().take(COLOUR).map(|(job, name)| format!("{name} {}", self.past_the_sheet(job)));
         println!("calls that no fault of the sheet turned away: {}", past.collect::<Vec<_>>().join(", "));
         let ends = [End::Impossible, End::Solved, End::Rest].map(|end| format!("{end:?} {}", self.ends.get(&(end as u8)).unwrap_or(&0)));
         println!("ends of runs: {}", ends.join(", "));
@@ -138,14 +155,19 @@ impl Counts {
         println!("plans put back in which an item left has another setting than before: {}", self.changed_when_undone);
         let decoded = [0, 15, 16].map(|number| self.of_decoding(number));
         println!("traces taken apart: {} to their end, {} refused with 15, {} with 16", decoded[0], decoded[1], decoded[2]);
+        println!("colouring files: {}, {} of them 64 KiB long", self.files, self.longest_files);
+        println!(
+            "sheets written: {} with an edge given again, {} of the longest length, {} with a block that bars everything",
+            self.repeated_edges, self.longest_written, self.bars_everything
+        );
     }
 
     /// What falls short of its least count.
     fn missing(&self, divisor: u64) -> Vec<String> {
         let jobs = [3, 4].map(|job| (JOBS[job].to_string(), self.past_the_sheet(job), LEAST_CALLS));
         let of_job = |job| numbers().filter(move |&number| can_answer(job, number)).map(move |number| (job, number));
-        let of_answer =
-            |(job, number): (usize, u8)| (format!("{}, answer {number}", JOBS[job]), self.of_answer(job, number), LEAST_OF_EACH);
+        let least = |job| if job == COLOUR { LEAST_OF_EACH_FILE } else { LEAST_OF_EACH };
+        let of_answer = |(job, number): (usize, u8)| (format!("{}, answer {number}", JOBS[job]), self.of_answer(job, number), least(job));
         let answers = (0..JOBS.len()).flat_map(of_job).map(of_answer);
         let ends = [0, 1, 2].map(|end| (format!("end {end}"), *self.ends.get(&end).unwrap_or(&0), LEAST_OF_EACH));
         let steps = [1, 2, 3, 4].map(|kind| (format!("steps of runs of kind {kind}"), self.run_steps[kind], LEAST_OF_EACH));
@@ -159,6 +181,11 @@ impl Counts {
             ("partners lost by hand".to_string(), self.hand_partners_lost, LEAST_OF_EACH),
             ("sheets of 32 items of 16 settings, 496 blocks".to_string(), self.fullest_sheets, LEAST_FULLEST),
             ("settings changed when put back".to_string(), self.changed_when_undone, LEAST_OF_EACH),
+            ("colouring files".to_string(), self.files, LEAST_FILES),
+            ("colouring files of 64 KiB".to_string(), self.longest_files, LEAST_FULLEST),
+            ("edges given again".to_string(), self.repeated_edges, LEAST_OF_EACH_FILE),
+            ("longest sheets written".to_string(), self.longest_written, LEAST_LONG),
+            ("blocks written that bar everything".to_string(), self.bars_everything, LEAST_OF_EACH),
         ];
         let all = jobs.into_iter().chain(answers).chain(ends).chain(steps).chain(records).chain(decoded).chain(others);
         let scaled = all.map(|(name, count, least)| (name, count, least / divisor));
@@ -365,6 +392,32 @@ impl Comparison {
         answer.ok().map(|()| written.remove(0))
     }
 
+    /// The bytes written, or nothing where the file was refused, and the sheet buffer afterwards.
+    fn colour(&mut self, file: &[u8], channels: u64, sheet_length: usize) -> (Option<usize>, Lent) {
+        let (answer, mut written) = self.call(
+            COLOUR,
+            &[file],
+            &[&buffer(sheet_length)],
+            &format!(", {channels} channels"),
+            [
+                &|_, lent, written| proved::colour(&lent[0], channels, &mut written[0]),
+                &|_, lent, written| reference::colour(&lent[0], channels, &mut written[0]),
+                &|_, lent, written| fast::colour(&lent[0], channels, &mut written[0]),
+            ],
+        );
+        (answer.ok().map(|Written { bytes }| bytes), written.remove(0))
+    }
+
+    /// Counts what a written sheet holds, which must keep the layout.
+    fn count_written(&mut self, file: &[u8], sheet: &[u8]) {
+        let Accepted { blocks, .. } = proved::read(sheet).expect("a written sheet keeps the layout");
+        assert_eq!(reference::read(sheet), proved::read(sheet), "a written sheet is read otherwise by the reference");
+        let edges = file.split(|&byte| byte == b'\n').filter(|line| line.first() == Some(&b'e')).count();
+        self.counts.repeated_edges += u64::from(blocks < edges);
+        self.counts.longest_written += u64::from(sheet.len() == MAX_SHEET);
+        self.counts.bars_everything += u64::from(blocks > 0 && sheet[8] == 1);
+    }
+
     /// Counts what an accepted lent trace holds.
     fn count_lent(&mut self, problem: &Problem, trace: &[u8], plan: &[u8], result: &[u8]) {
         let (steps, _) = reference::replay(problem, trace).expect("the trace was accepted");
@@ -567,4 +620,48 @@ fn damaged_calls(comparison: &mut Comparison, random: &mut Random, lending: &Len
     Lending { trace: &trace, ..*lending }.put_back(comparison, n);
     let length = if random.chance(10) { wrong_length(random, n) } else { n };
     Lending { trace: &trace, plan: &plan, ..*lending }.put_back(comparison, length);
+}
+
+/// A colouring file, half of them with a fault or several.
+fn colouring_case(comparison: &mut Comparison, random: &mut Random) {
+    let (file, channels) = match random.below(10) {
+        0..=4 => {
+            let graph = generate::random_graph(random);
+            (generate::colouring_file(random, &graph), generate::channels(random))
+        }
+        5..=7 => {
+            let faults = generate::colouring_faults(random);
+            generate::faulty_colouring(random, &faults)
+        }
+        _ => (generate::damaged_file(random), generate::channels(random)),
+    };
+    colour_calls(comparison, random, &file, channels);
+}
+
+/// A file of about 64 KiB, and one byte more than that is too long. Half of the graphs have an edge for each two vertices.
+fn long_colouring_case(comparison: &mut Comparison, random: &mut Random) {
+    let graph = if random.chance(50) { generate::Graph::of_pairs(32, |_, _| true) } else { generate::random_graph(random) };
+    let length = random.pick(&[MAX_FILE, MAX_FILE, MAX_FILE, MAX_FILE - 1, MAX_FILE + 1, MAX_FILE + 40]);
+    let file = generate::long_file(random, &graph, length);
+    let channels = random.pick(&[1, 3, 16, 16]);
+    colour_calls(comparison, random, &file, channels);
+}
+
+/// Sheet buffers longer than the sheet, exact, too short by one and empty.
+fn colour_calls(comparison: &mut Comparison, random: &mut Random, file: &[u8], channels: u64) {
+    comparison.counts.files += 1;
+    comparison.counts.longest_files += u64::from(file.len() == MAX_FILE);
+    let (answer, sheet) = comparison.colour(file, channels, MAX_SHEET + random.below(3));
+    match answer {
+        Some(exact) => {
+            comparison.count_written(file, &sheet[..exact]);
+            let longer = exact + random.between(1, 40);
+            let length = random.pick(&[exact, exact, exact - 1, exact - 1, longer, 0, 8]);
+            comparison.colour(file, channels, length);
+        }
+        // Every other fault is told before a short buffer.
+        None => {
+            comparison.colour(file, channels, random.pick(&[0, 8, 100]));
+        }
+    }
 }

@@ -1,4 +1,4 @@
-//! Builds and runs the four programs of examples/ on the files of the top folder's examples/, which the C programs are run on too
+//! Builds and runs the five programs of examples/ on the files of the top folder's examples/, which the C programs are run on too
 //! (tests/callers): what they print, their status, and the reasons on standard error.
 
 use std::ffi::OsStr;
@@ -41,10 +41,9 @@ fn program(example: &str) -> Command {
     program
 }
 
-/// What the example printed and said, and its status.
-fn ended(output: Output) -> (String, String, Option<i32>) {
-    let text = |bytes: Vec<u8>| String::from_utf8(bytes).expect("text");
-    (text(output.stdout), text(output.stderr), output.status.code())
+/// What the example printed, which may be a sheet and no text, what it said, and its status.
+fn ended(output: Output) -> (Vec<u8>, String, Option<i32>) {
+    (output.stdout, String::from_utf8(output.stderr).expect("text"), output.status.code())
 }
 
 // ---- The files ----------------------------------------------------------------------------------------------------------------------
@@ -69,11 +68,11 @@ fn sheet_of(file: &str) -> String {
     format!("{}.sheet", file.split('.').next().expect("a first part"))
 }
 
-/// What standard error says where this text is printed for a sheet: for each refused call a line, with its cause.
-fn reasons(text: &str, sheet: &str) -> String {
+/// What standard error says where this text is printed for a sheet or a file: for each refused call a line, with its cause.
+fn reasons(text: &str, lent: &str) -> String {
     let reason = |line: &str| {
         let (call, number) = line.split_once("refused ")?;
-        let what = call.strip_prefix("hand ").map_or(format!("sheet {sheet}"), |item| format!("item {}", item.trim_end()));
+        let what = call.strip_prefix("hand ").map_or(lent.to_string(), |item| format!("item {}", item.trim_end()));
         let refusal = Refusal::from_number(number.parse().expect("a number")).expect("a refusal");
         Some(format!("{what}: refused {number}: {}\n", refusal.cause()))
     };
@@ -85,19 +84,19 @@ fn reasons(text: &str, sheet: &str) -> String {
 fn prints(example: &str, sheet: &str, arguments: &str, file: &str) {
     let output = program(example).arg(sheet).args(arguments.split_whitespace()).output();
     let expected = text(file);
-    let reasons = reasons(&expected, sheet);
+    let reasons = reasons(&expected, &format!("sheet {sheet}"));
     let status = i32::from(!reasons.is_empty());
-    assert_eq!(ended(output.expect("the example runs")), (expected, reasons, Some(status)), "{example} {sheet} {arguments}");
+    assert_eq!(ended(output.expect("the example runs")), (expected.into_bytes(), reasons, Some(status)), "{example} {sheet} {arguments}");
 }
 
 #[test]
 fn run_prints_what_the_program_prints() {
-    files("sheet", 22).iter().for_each(|sheet| prints("run", sheet, "", &sheet.replace(".sheet", ".txt")));
+    files("sheet", 29).iter().for_each(|sheet| prints("run", sheet, "", &sheet.replace(".sheet", ".txt")));
 }
 
 #[test]
 fn plan_prints_a_plan_or_that_there_is_none() {
-    files("plan", 11).iter().for_each(|file| prints("plan", &sheet_of(file), "", file));
+    files("plan", 18).iter().for_each(|file| prints("plan", &sheet_of(file), "", file));
 }
 
 #[test]
@@ -110,18 +109,52 @@ fn put_back_prints_the_plan() {
     files("back", 14).iter().for_each(|file| prints("put_back", &sheet_of(file), &text(file), &format!("{file}.txt")));
 }
 
+/// examples/NAME-CHANNELS.sheet is the sheet of examples/NAME.col, and NAME-CHANNELS.refused the line of one that is refused.
+#[test]
+fn colour_writes_the_sheet() {
+    let (sheets, refusals) = (files("sheet", 29), files("refused", 9));
+    let (mut written, mut refused) = (0, 0);
+    for file in files("col", 9) {
+        let name = file.strip_suffix(".col").expect("the ending");
+        // What stands between the file's name and the ending, where that is a number.
+        let channels = |other: &str, ending: &str| {
+            let number = other.strip_prefix(name)?.strip_prefix('-')?.strip_suffix(ending)?;
+            number.bytes().all(|byte| byte.is_ascii_digit()).then(|| number.to_string())
+        };
+        for channels in sheets.iter().filter_map(|sheet| channels(sheet, ".sheet")) {
+            let sheet = fs::read(top().join(format!("{name}-{channels}.sheet"))).expect("a sheet");
+            colours(&file, &channels, (sheet, String::new(), Some(0)));
+            written += 1;
+        }
+        for channels in refusals.iter().filter_map(|refusal| channels(refusal, ".refused")) {
+            let line = text(&format!("{name}-{channels}.refused"));
+            let reasons = reasons(&line, &format!("file {file}"));
+            colours(&file, &channels, (line.into_bytes(), reasons, Some(1)));
+            refused += 1;
+        }
+    }
+    assert!(written >= 7 && refused == refusals.len(), "{written} sheets and {refused} of {} refusals", refusals.len());
+}
+
+/// The example, on a colouring file and a number of channels, prints so, says so and ends so.
+fn colours(file: &str, channels: &str, expected: (Vec<u8>, String, Option<i32>)) {
+    let output = program("colour").args([file, channels]).output();
+    assert_eq!(ended(output.expect("the example runs")), expected, "colour {file} {channels}");
+}
+
 // ---- What goes wrong besides --------------------------------------------------------------------------------------------------------
 
 const B: &str = "examples/B.sheet";
 const TRACE: &str = "examples/B.trace";
+const COL: &str = "examples/petersen.col";
 
-/// Each example with what it is given after its sheet.
+/// Each example that is given a sheet with what it is given after that.
 const ALL: [(&str, &[&str]); 4] = [("run", &[]), ("plan", &[]), ("hand", &["0"]), ("put_back", &[TRACE, "255", "255"])];
 
 /// Nothing is printed, the status is this one, and standard error begins so and ends so.
 fn astray(example: &str, arguments: &[&str], status: i32, first: &str, last: &str) {
     let (printed, said, ended) = ended(program(example).args(arguments).output().expect("the example runs"));
-    assert_eq!((&*printed, ended), ("", Some(status)), "{example} {arguments:?}: {said}");
+    assert_eq!((&*printed, ended), (&b""[..], Some(status)), "{example} {arguments:?}: {said}");
     assert!(said.starts_with(first) && said.ends_with(last), "{example} {arguments:?} says {said:?}");
 }
 
@@ -143,6 +176,12 @@ fn bad_usage_is_told() {
     for setting in ["", "-1", "+1", "256"] {
         bad("put_back", &[B, TRACE, "255", setting], "SHEET TRACE [SETTING]...");
     }
+    for arguments in [&[][..], &[COL], &[COL, "3", "3"]] {
+        bad("colour", arguments, "FILE CHANNELS");
+    }
+    for channels in ["", "-1", "+1", "3x", "18446744073709551616"] {
+        bad("colour", &[COL, channels], "FILE CHANNELS");
+    }
 }
 
 /// A folder opens and cannot be read.
@@ -154,19 +193,21 @@ fn a_failed_read_is_told() {
             astray(example, &[&[unread], arguments].concat(), 3, &first, "\n");
         }
         astray("put_back", &[B, unread, "255", "255"], 3, &first, "\n");
+        astray("colour", &[unread, "3"], 3, &first, "\n");
     }
 }
 
 /// /dev/full takes no byte, of an answer or of a refusal.
 #[test]
 fn a_failed_write_is_told() {
+    let unwritten = |example: &str, arguments: &[&str]| {
+        let full = File::options().write(true).open("/dev/full").expect("/dev/full");
+        let (_, said, status) = ended(program(example).args(arguments).stdout(full).output().expect("the example runs"));
+        assert_eq!(status, Some(3), "{example} {arguments:?}: {said}");
+        assert!(said.lines().any(|line| line.starts_with("standard output: ")), "{example} {arguments:?} says {said:?}");
+    };
     for sheet in [B, "examples/refused-8.sheet"] {
-        for (example, arguments) in ALL {
-            let full = File::options().write(true).open("/dev/full").expect("/dev/full");
-            let output = program(example).arg(sheet).args(arguments).stdout(full).output();
-            let (_, said, status) = ended(output.expect("the example runs"));
-            assert_eq!(status, Some(3), "{example} {sheet}: {said}");
-            assert!(said.lines().any(|line| line.starts_with("standard output: ")), "{example} {sheet} says {said:?}");
-        }
+        ALL.iter().for_each(|(example, arguments)| unwritten(example, &[&[sheet], *arguments].concat()));
     }
+    ["3", "17"].iter().for_each(|channels| unwritten("colour", &[COL, channels]));
 }

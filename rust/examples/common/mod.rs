@@ -1,4 +1,4 @@
-//! What the four examples share, as examples/c/example.h does for C: the exit status, reading files and numbers, and saying why a call was
+//! What the five examples share, as examples/c/example.h does for C: the exit status, reading files and numbers, and saying why a call was
 //! refused. They take the same arguments as the C ones and print the same: examples/README.md.
 
 // Each example has all of it and uses a part.
@@ -20,14 +20,14 @@ pub enum Status {
     Failed = 3,
 }
 
-/// Does the work on the arguments, prints the text that it made, whatever its end, and answers the status.
-pub fn main(work: fn(&[OsString], &mut String) -> Result<(), Status>) -> ExitCode {
+/// Does the work on the arguments, prints the bytes that it made, whatever its end, and answers the status.
+pub fn main(work: fn(&[OsString], &mut Vec<u8>) -> Result<(), Status>) -> ExitCode {
     let arguments: Vec<OsString> = std::env::args_os().skip(1).collect();
-    let mut text = String::new();
-    let done = work(&arguments, &mut text);
+    let mut made = Vec::new();
+    let done = work(&arguments, &mut made);
     // A panicking print would end with another status than a failed write has.
     let mut output = io::stdout().lock();
-    let written = output.write_all(text.as_bytes()).and_then(|()| output.flush());
+    let written = output.write_all(&made).and_then(|()| output.flush());
     match written.map_err(|error| failed("standard output", &error)).and(done) {
         Ok(()) => ExitCode::SUCCESS,
         Err(status) => ExitCode::from(status as u8),
@@ -50,26 +50,30 @@ fn failed(what: &str, error: &io::Error) -> Status {
     Status::Failed
 }
 
-/// Says why a call was refused; what it was made for is a sheet or an item, by its name.
+/// Says why a call was refused; what it was made for is a sheet, a file or an item, by its name.
 pub fn explain(what: &str, name: &OsStr, refusal: Refusal) -> Status {
     say(format_args!("{what} {}: {refusal}", name.to_string_lossy()));
     Status::Refused
 }
 
 /// The same for a sheet, with the one line that is then printed.
-pub fn refuse(sheet: &OsStr, refusal: Refusal, text: &mut String) -> Status {
+pub fn refuse(sheet: &OsStr, refusal: Refusal, text: &mut Vec<u8>) -> Status {
+    refuse_for("sheet", sheet, refusal, text)
+}
+
+/// The same for a sheet or a file.
+pub fn refuse_for(what: &str, name: &OsStr, refusal: Refusal, text: &mut Vec<u8>) -> Status {
     line(text, "refused", [refusal.number()]);
-    explain("sheet", sheet, refusal)
+    explain(what, name, refusal)
 }
 
 /// Adds a line: a word, or several, and numbers after it.
-pub fn line<T: fmt::Display>(text: &mut String, word: impl fmt::Display, numbers: impl IntoIterator<Item = T>) {
-    text.push_str(&word.to_string());
+pub fn line<T: fmt::Display>(text: &mut Vec<u8>, word: impl fmt::Display, numbers: impl IntoIterator<Item = T>) {
+    text.extend(word.to_string().bytes());
     for number in numbers {
-        text.push(' ');
-        text.push_str(&number.to_string());
+        text.extend(format!(" {number}").bytes());
     }
-    text.push('\n');
+    text.push(b'\n');
 }
 
 /// A decimal number of digits only: `parse` by itself takes a sign too.

@@ -4,7 +4,7 @@
 // Each test has all of it and uses a part.
 #![allow(dead_code)]
 
-use zomuwedli::{Accepted, End, Refusal, Taken, HAND_STATE_LENGTH, STATE_LENGTH};
+use zomuwedli::{Accepted, End, Refusal, Taken, Written, HAND_STATE_LENGTH, STATE_LENGTH};
 
 #[path = "../../src/boundary.rs"]
 pub mod boundary;

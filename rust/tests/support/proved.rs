@@ -5,12 +5,12 @@
 
 use zomuwedli::{HandState, Refusal, State};
 
-use super::{Accepted, Answer, Done, Fault, Taken, HAND_STATE_LENGTH, STATE_LENGTH};
+use super::{Accepted, Answer, Done, Fault, Taken, Written, HAND_STATE_LENGTH, STATE_LENGTH};
 
 /// The archive's functions, their numbers read as answers.
 pub mod raw {
     use super::super::boundary;
-    use super::{Accepted, Answer, Done, Fault, Taken};
+    use super::{Accepted, Answer, Done, Fault, Taken, Written};
     use zomuwedli::End;
 
     pub fn read(sheet: &[u8]) -> Answer<Accepted> {
@@ -34,6 +34,11 @@ pub mod raw {
 
     pub fn put_back(sheet: &[u8], trace: &[u8], plan: &[u8], result: &mut [u8]) -> Answer<()> {
         boundary::put_back(sheet, trace, plan, result).map_err(fault)
+    }
+
+    pub fn colour(file: &[u8], channels: u64, sheet: &mut [u8]) -> Answer<Written> {
+        let bytes = boundary::colour(file, channels, sheet).map_err(fault)?;
+        Ok(Written { bytes: bytes as usize })
     }
 
     fn fault(number: u8) -> Fault {
@@ -84,6 +89,14 @@ pub fn put_back(sheet: &[u8], trace: &[u8], plan: &[u8], result: &mut [u8]) -> A
     let answer = raw::put_back(sheet, trace, plan, result);
     let put = refused(zomuwedli::put_back(sheet, trace, plan, &mut other));
     assert!(put == answer && *other == *result, "the library puts back otherwise than the archive");
+    answer
+}
+
+pub fn colour(file: &[u8], channels: u64, sheet: &mut [u8]) -> Answer<Written> {
+    let mut other: Box<[u8]> = Box::from(&*sheet);
+    let answer = raw::colour(file, channels, sheet);
+    let coloured = refused(zomuwedli::colour(file, channels, &mut other));
+    assert!(coloured == answer && *other == *sheet, "the library colours otherwise than the archive");
     answer
 }
 
