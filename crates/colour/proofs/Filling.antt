@@ -6,23 +6,21 @@ use mathlib.Core.Logic.{_⊎_, inl, inr, ⊎-elim, _≢_}
 use Prim.Native.Nat.{ℕ, _+_, _-_, _*_, _/_, _%_, _^_, _≤_, _<_}
 use native.Mathlib.Omega.{arith}
 use lib.Dec.{T, eqb, ltb}
-use lib.ListN.{length, getD, set, length-set}
+use lib.ListN.{getD, set, length-set}
 use lib.Seq.{getD-set-same, getD-set-other, ext-getD}
 use lib.Bits.{and-le-l}
 use lib.Pow.{pow-mono, pow-pos}
-use borrow.Author.Tests.{lt-ltb, le-ltb, eq-eqb, ne-eqb}
+use borrow.Author.Tests.{lt-ltb, le-ltb}
 use Rattle.bounded.specs.Mask.{bit, maskOf, without}
-use Rattle.bounded.proofs.Truth.{T-ext, and-iff, not-iff, eqb-iff, ltb-iff, lt-dec, eq-dec, split, clash, T-not}
-use Rattle.bounded.proofs.Mask.{mask-is, bit-none, bit-mask, bit-without16, mask-lt}
+use Rattle.bounded.proofs.Truth.{T-ext, eqb-iff, lt-dec, eq-dec, T-not}
+use Rattle.bounded.proofs.Mask.{mask-is, bit-none, bit-mask, bit-without16}
 use Rattle.bounded.proofs.Table.{length-tab, getD-tab}
 use Rattle.problem.specs.Problem.{Problem, bothWays}
 use Rattle.problem.specs.Held.{tableLength, tableEntry, tableOf, Bounded}
 use Rattle.problem.proofs.BothWays.{both-up, both-down, both-same}
-use Rattle.problem.proofs.Same.{problem-same}
 use Rattle.held.proofs.Full.{below-mask}
 use Rattle.graph.specs.Colouring.{channelsAt, isChannel, mayStand, colouring}
-use Rattle.graph.specs.Scan.{isMarked}
-use Rattle.colour.specs.Parts.{markedProblem, Ranged, FilledTo, pairMarked, Pair}
+use Rattle.colour.specs.Parts.{FilledTo, Pair}
 
 -- ---- one entry more
 
@@ -197,9 +195,9 @@ module _ (v k : ℕ) (joined : ℕ → ℕ → Bool) (few : k ≤ 16) where
   row-entry x a Q h =
       mask-is 16 (rowBarring (joinedPair joined (x / 32) (x % 32)) k a) (λ b. (colouring v k joined) .allowed (x / 32) a (x % 32) b) (row-small (joinedPair joined (x / 32) (x % 32)) k a few)
       (λ c l. row-bits (joinedPair joined (x / 32) (x % 32)) k a c few (omega arith) l ∙ sym (⊎-elim
-        (λ (m : c < k). allows v k joined (x / 32) a (x % 32) c (Q .first) h (Q .second) m (Q .apart) ∙ sym (ap (λ (t : Bool). t && not (joinedPair joined (x / 32) (x % 32) && eqb c a)) (lt-ltb c k m)))
-        (λ (m : k ≤ c). (colouring v k joined) .symmetric (x / 32) a (x % 32) c ∙ allows-none v k joined (x % 32) c (x / 32) a (inr m) ∙ sym (ap (λ (t : Bool). t && not (joinedPair joined (x / 32) (x % 32) && eqb c a)) (le-ltb c k m)))
-        (lt-dec c k)))
+      (λ (m : c < k). allows v k joined (x / 32) a (x % 32) c (Q .first) h (Q .second) m (Q .apart) ∙ sym (ap (λ (t : Bool). t && not (joinedPair joined (x / 32) (x % 32) && eqb c a)) (lt-ltb c k m)))
+      (λ (m : k ≤ c). (colouring v k joined) .symmetric (x / 32) a (x % 32) c ∙ allows-none v k joined (x % 32) c (x / 32) a (inr m) ∙ sym (ap (λ (t : Bool). t && not (joinedPair joined (x / 32) (x % 32) && eqb c a)) (le-ltb c k m)))
+      (lt-dec c k)))
       ∙ sym (row-at (colouring v k joined) x a (omega arith))
 
   -- a row that is none of the problem's
@@ -243,7 +241,7 @@ module _ (v k : ℕ) (joined : ℕ → ℕ → Bool) (few : k ≤ 16) where
     pub places-end : FilledTo (colouring v k joined) t (32 + 16 * (32 * v)) → t ≡ tableOf (colouring v k joined)
     places-end F = fill-end _ t (32 + 16 * (32 * v)) F
         (λ q l m.
-          let e = as-row q (omega arith) in
-          let b : 32 * v ≤ (q - 32) / 16 = omega arith in
-          let d : v ≤ (q - 32) / 16 / 32 = omega arith in
-          ap (tableEntry (colouring v k joined)) e ∙ no-row ((q - 32) / 16) ((q - 32) % 16) (omega arith) (inl (inl d)))
+        let e = as-row q (omega arith) in
+        let b : 32 * v ≤ (q - 32) / 16 = omega arith in
+        let d : v ≤ (q - 32) / 16 / 32 = omega arith in
+        ap (tableEntry (colouring v k joined)) e ∙ no-row ((q - 32) / 16) ((q - 32) % 16) (omega arith) (inl (inl d)))

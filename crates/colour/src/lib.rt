@@ -57,7 +57,11 @@ fn row(all: u16, bars: bool, a: usize) -> u16
     requires { ⌜ a < 16 ⌝ }
     ensures { λ r. ⌜ r ≡ cond bars (without 16 all a) all ⌝ }
 {
-    if bars { bounded::without16(all, a) } else { all }
+    if bars {
+        bounded::without16(all, a)
+    } else {
+        all
+    }
 }
 
 // The sizes: each vertex has k channels.

@@ -4,8 +4,8 @@ use mathlib.Core.Bool.{cond}
 use lib.Pow.{pow-pos, pow-mono}
 use Rattle.bounded.specs.Mask.{without}
 use Rattle.problem.specs.Held.{tableEntry}
-use mathlib.Core.Path.{_≡_, sym, ap, _∙_}
-use Prim.Native.Nat.{ℕ, _+_, _*_, _-_, _≤_}
+use mathlib.Core.Path.{_≡_, sym, _∙_}
+use Prim.Native.Nat.{_+_, _*_, _-_, _≤_}
 use Rattle.graph.specs.Scan.{isMarked}
 use Rattle.colour.specs.Parts.{markedProblem, FilledTo}
 use Rattle.colour.proofs.Filling.{fill-one, row-entry, row-ends}

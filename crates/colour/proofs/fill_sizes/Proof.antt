@@ -1,7 +1,7 @@
 -- `colour::fill_sizes`: the sizes below i stand, the others are 0. Assumes nothing.
 use native.Mathlib.Omega.{arith}
-use mathlib.Core.Path.{_≡_, sym, ap, _∙_}
-use Prim.Native.Nat.{ℕ, _-_, _≤_}
+use mathlib.Core.Path.{_≡_, sym, _∙_}
+use Prim.Native.Nat.{_-_, _≤_}
 use Rattle.graph.specs.Scan.{isMarked}
 use Rattle.colour.specs.Parts.{markedProblem, FilledTo}
 use Rattle.colour.proofs.Filling.{fill-one, size-entry, sizes-end}

@@ -1,51 +1,46 @@
+-- `colour::fill_table`: the sizes, then the rows of the places below x. Assumes nothing.
+use native.Mathlib.Omega.{arith}
+use mathlib.Core.Path.{_≡_, sym, _∙_}
+use Prim.Native.Nat.{_+_, _*_, _-_, _≤_}
+use Rattle.graph.specs.Scan.{isMarked}
+use Rattle.colour.specs.Parts.{markedProblem, FilledTo}
+use Rattle.colour.proofs.Filling.{places-end}
+use borrow.Author.Needs.{needs}
 use Rattle.colour.proofs.fill_table.Statement.{statement}
 use Rattle.colour.proofs.fill_table.Tie as tie
-use Rattle.colour.proofs.fill_table.Reads as reads
-use Rattle.colour.proofs.fill_table.Lts as lts
-use Rattle.colour.proofs.fill_place.Reads as fill-place-reads
-use Rattle.colour.proofs.fill_sizes.Reads as fill-sizes-reads
 
 abbrev Inv-loop : tie.InvT-loop
-Inv-loop near n k t₀ x₀ t x = ?
+Inv-loop near n k t₀ x₀ t x = (x ≤ 32 * n) × FilledTo (markedProblem near n k) t (32 + 16 * x)
 
 abbrev μ-loop : tie.MeasureT-loop
-μ-loop near n k t₀ x₀ t x = ?
+μ-loop near n k t₀ x₀ t x = 32 * n - x
 
--- src/lib.rt:109:5
 fill-sizes-requires : tie.Need-fill-sizes-requires Inv-loop μ-loop
-fill-sizes-requires c κs = ?
+fill-sizes-requires c κs = c .before .before .before .pre
 
--- src/lib.rt:111:5
 loop-holds : tie.Need-loop-holds Inv-loop μ-loop
-loop-holds c = ?
+loop-holds c = (omega arith, c .before .before .fill-sizes .ensures)
 
--- src/lib.rt:111:15
 mul-loop : tie.Need-mul-loop Inv-loop μ-loop
-mul-loop c = ?
+mul-loop c = let v = c .before .before .before .before .before .before .before .pre .0 .vertices in omega arith
 
--- src/lib.rt:112:9
 fill-place-requires : tie.Need-fill-place-requires Inv-loop μ-loop
-fill-place-requires c κs = ?
+fill-place-requires c κs = (c .before .before .before .before .before .before .before .before .before .pre .0, (c .before .loop-test .taken, c .before .before .loop .inv .1))
 
--- src/lib.rt:113:9
 add-x : tie.Need-add-x Inv-loop μ-loop
-add-x c = ?
+add-x c = let v = c .before .before .before .before .before .before .before .before .before .before .before .before .pre .0 .vertices in let h = c .before .before .before .before .loop-test .taken in omega arith
 
--- src/lib.rt:111:5
 loop-less : tie.Need-loop-less Inv-loop μ-loop
-loop-less c = ?
+loop-less c = search needs
 
--- src/lib.rt:111:5
 loop-again : tie.Need-loop-again Inv-loop μ-loop
-loop-again c = ?
+loop-again c = let h = c .before .before .before .before .loop-test .taken in (omega arith, c .before .before .fill-place .ensures)
 
--- src/lib.rt:105:1
 same-length : tie.Need-same-length Inv-loop μ-loop
-same-length c = ?
+same-length c = c .before .loop .inv .1 .long ∙ sym (c .before .before .before .before .before .before .before .before .pre .1 .long)
 
--- src/lib.rt:105:1
 returns : tie.Need-returns Inv-loop μ-loop
-returns c = ?
+returns c = let e : c .before .loop .x ≡ 32 * c .before .before .before .before .before .before .before .before .args .n = (let a = c .before .loop .inv .0 in let b = c .loop-test .left in omega arith) in places-end (c .before .before .before .before .before .before .before .before .args .n) (c .before .before .before .before .before .before .before .before .args .k) (isMarked (c .before .before .before .before .before .before .before .before .args .near .now)) (c .before .before .before .before .before .before .before .before .pre .0 .channels) _ (rw e at (c .before .loop .inv .1))
 
 pub fill-table-spec : {M : Type 1} → statement M
 fill-table-spec =

@@ -1,5 +1,4 @@
 -- `colour::row`: all channels, or all but one. Assumes nothing.
-use mathlib.Core.Path.{_≡_}
 use borrow.Author.Needs.{needs}
 use Rattle.colour.proofs.row.Statement.{statement}
 use Rattle.colour.proofs.row.Tie as tie

@@ -1,0 +1,55 @@
+-- `colour::write`: the table holds the problem, and its sheet is written. Assumes nothing.
+use mathlib.Core.Path.{refl, sym, ap, _∙_}
+use Rattle.problem.proofs.HeldTable.{table-rows}
+use Rattle.graph.specs.Scan.{isMarked}
+use Rattle.colour.specs.Parts.{markedProblem}
+use Rattle.colour.proofs.Filling.{colouring-bounded}
+use Rattle.colour.proofs.Job.{blank-table, colouredOf, write-answers, write-leaves}
+use borrow.Author.Needs.{needs}
+use Rattle.colour.proofs.write.Statement.{statement}
+use Rattle.colour.proofs.write.Tie as tie
+
+slice-aggregate-fill-table : tie.Need-slice-aggregate-fill-table
+slice-aggregate-fill-table c = search needs
+
+fill-table-requires : tie.Need-fill-table-requires
+fill-table-requires c κs = (c .before .before .before .pre .0, blank-table (markedProblem (c .before .before .before .args .near .now) (c .before .before .before .args .n) (c .before .before .before .args .k)))
+
+slice-aggregate-write-sheet : tie.Need-slice-aggregate-write-sheet
+slice-aggregate-write-sheet c = search needs
+
+write-sheet-requires : tie.Need-write-sheet-requires
+write-sheet-requires c κs = (rw (c .before .before .before .fill-table .ensures) (table-rows (markedProblem (c .before .before .before .before .before .before .before .args .near .now) (c .before .before .before .before .before .before .before .args .n) (c .before .before .before .before .before .before .before .args .k)) (colouring-bounded (c .before .before .before .before .before .before .before .args .n) (c .before .before .before .before .before .before .before .args .k) (isMarked (c .before .before .before .before .before .before .before .args .near .now)) (c .before .before .before .before .before .before .before .pre .0 .vertices) (c .before .before .before .before .before .before .before .pre .1) (c .before .before .before .before .before .before .before .pre .0 .channels))), record { taken = refl })
+
+enum-told : tie.Need-enum-told
+enum-told c = search needs
+
+enum-known-w : tie.Need-enum-known-w
+enum-known-w c = search needs
+
+same-length : tie.Need-same-length
+same-length c = search needs
+
+returns : tie.Need-returns
+returns c = let P = (markedProblem (c .before .before .before .before .before .before .before .before .before .before .before .before .args .near .now) (c .before .before .before .before .before .before .before .before .before .before .before .before .args .n) (c .before .before .before .before .before .before .before .before .before .before .before .before .args .k)) in let B = (colouring-bounded (c .before .before .before .before .before .before .before .before .before .before .before .before .args .n) (c .before .before .before .before .before .before .before .before .before .before .before .before .args .k) (isMarked (c .before .before .before .before .before .before .before .before .before .before .before .before .args .near .now)) (c .before .before .before .before .before .before .before .before .before .before .before .before .pre .0 .vertices) (c .before .before .before .before .before .before .before .before .before .before .before .before .pre .1) (c .before .before .before .before .before .before .before .before .before .before .before .before .pre .0 .channels)) in (ap colouredOf (sym (c .enum-told .given .1) ∙ c .before .before .before .before .write-sheet .ensures .0) ∙ write-answers P B _ (c .before .before .before .before .before .before .before .before .before .before .before .before .args .sheet .now) (c .before .before .before .before .before .before .before .before .fill-table .ensures), c .before .before .before .before .write-sheet .ensures .1 ∙ write-leaves P B _ (c .before .before .before .before .before .before .before .before .before .before .before .before .args .sheet .now) (c .before .before .before .before .before .before .before .before .fill-table .ensures))
+
+same-length-2 : tie.Need-same-length-2
+same-length-2 c = search needs
+
+returns-2 : tie.Need-returns-2
+returns-2 c = let P = (markedProblem (c .before .before .before .before .before .before .before .before .before .before .before .before .before .args .near .now) (c .before .before .before .before .before .before .before .before .before .before .before .before .before .args .n) (c .before .before .before .before .before .before .before .before .before .before .before .before .before .args .k)) in let B = (colouring-bounded (c .before .before .before .before .before .before .before .before .before .before .before .before .before .args .n) (c .before .before .before .before .before .before .before .before .before .before .before .before .before .args .k) (isMarked (c .before .before .before .before .before .before .before .before .before .before .before .before .before .args .near .now)) (c .before .before .before .before .before .before .before .before .before .before .before .before .before .pre .0 .vertices) (c .before .before .before .before .before .before .before .before .before .before .before .before .before .pre .1) (c .before .before .before .before .before .before .before .before .before .before .before .before .before .pre .0 .channels)) in (ap colouredOf (sym (c .before .w .given .1) ∙ c .before .before .before .before .before .write-sheet .ensures .0) ∙ write-answers P B _ (c .before .before .before .before .before .before .before .before .before .before .before .before .before .args .sheet .now) (c .before .before .before .before .before .before .before .before .before .fill-table .ensures), c .before .before .before .before .before .write-sheet .ensures .1 ∙ write-leaves P B _ (c .before .before .before .before .before .before .before .before .before .before .before .before .before .args .sheet .now) (c .before .before .before .before .before .before .before .before .before .fill-table .ensures))
+
+pub write-spec : {M : Type 1} → statement M
+write-spec =
+    tie.close
+    (tie.spec
+    slice-aggregate-fill-table
+    fill-table-requires
+    slice-aggregate-write-sheet
+    write-sheet-requires
+    enum-told
+    enum-known-w
+    same-length
+    returns
+    same-length-2
+    returns-2)
