@@ -1,2 +1,4 @@
 pub mod Filling
 pub mod Job
+pub mod Causes
+pub mod Plans
