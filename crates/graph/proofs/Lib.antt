@@ -3,3 +3,4 @@ pub mod Fields
 pub mod Forms
 pub mod Reading
 pub mod Sentences
+pub mod Turned
