@@ -174,3 +174,96 @@ edge-before (Edge a b ∷ m) zero h t = absurd t
 edge-before (Edge a b ∷ m) (suc l) h t = (0, a, b, omega arith, refl)
 edge-before (Bad ∷ m) zero h t = absurd t
 edge-before (Bad ∷ m) (suc l) h t = let (k, a, b, i, p) = edge-before m l h t in (suc k, a, b, omega arith, p)
+
+-- ---- 21 and 22
+
+abbrev someAstray : List Line → Bool
+someAstray m = anyLine (strays (statedVertices m)) m
+
+-- the four tests of the lines, and that of the length
+abbrev LineTests : List Line → Type 0
+LineTests m = T (anyLine isBad m) ⊎ ((sizes m ≢ 1) ⊎ (T (edgeFirst m) ⊎ T (someAstray m)))
+
+line-tests : (m : List Line) → T (badLines m) ↔ LineTests m
+unfolding badLines
+line-tests m =
+    let one-and-after = either-iff (not (eqb (sizes m) 1)) (edgeFirst m || someAstray m) (differ-iff (sizes m) 1) (or-iff (edgeFirst m) (someAstray m)) in
+    either-iff (anyLine isBad m) (not (eqb (sizes m) 1) || (edgeFirst m || someAstray m)) Iff·rfl one-and-after
+
+module _ (f : List ℕ) where
+  abbrev Tests : Type 0
+  Tests = (fileLimit < length f) ⊎ LineTests (fileLines f)
+
+  file-tests : T (badFile f) ↔ Tests
+  unfolding badFile
+  file-tests = either-iff (ltb fileLimit (length f)) (badLines (fileLines f)) (ltb-iff fileLimit (length f)) (line-tests (fileLines f))
+
+  abbrev lines : List Line
+  lines = fileLines f
+
+  -- no `p` line, or two
+  not-one : sizes lines ≢ 1 → BadFile f
+  not-one n = go (eq-dec (sizes lines) 0)
+    where
+      go : (sizes lines ≡ 0) ⊎ (sizes lines ≢ 0) → BadFile f
+      go (inl z) = Missing (λ k v e p. let h = one-size lines k (passes isSize p tt) in omega arith)
+      go (inr z) =
+          let (k, l, b, s, t) = find-two lines (omega arith) in
+          let (v, e, p) = is-size (lineAt f k) s in
+          let (w, d, q) = is-size (lineAt f l) t in
+          Repeated k l v e w d b p q
+
+  -- one: an `e` line before it, and one with a vertex that it does not have
+  edge-turned : sizes lines ≡ 1 → T (edgeFirst lines) → BadFile f
+  edge-turned h t =
+      let (l, s) = find-size lines (omega arith) in
+      let (v, e, q) = is-size (lineAt f l) s in
+      let (k, a, b, i, p) = edge-before lines l t s in
+      After k l a b v e i p q
+
+  vertex-turned : sizes lines ≡ 1 → T (someAstray lines) → BadFile f
+  vertex-turned h t =
+      let (l, s) = find-size lines (omega arith) in
+      let (v, e, q) = is-size (lineAt f l) s in
+      let (k, i, r) = anyLine-iff (strays (statedVertices lines)) lines .0 t in
+      let r' : T (strays v (lineAt f k)) = subst (λ (w : ℕ). T (strays w (lineAt f k))) (only-states lines l v e h q) r in
+      let (a, b, p, o) = is-astray v (lineAt f k) r' in
+      Outside k l a b v e q p o
+
+  -- with one `p` line, or without
+  if-one : (sizes lines ≡ 1 → BadFile f) → BadFile f
+  if-one g = elim (eq-dec (sizes lines) 1) [ inl h ↦ g h | inr n ↦ not-one n ]
+
+  turned : Tests → BadFile f
+  turned (inl h) = Long h
+  turned (inr (inl t)) = let (k, b, p) = anyLine-iff isBad lines .0 t in Formless k b (is-bad (lineAt f k) p)
+  turned (inr (inr (inl n))) = not-one n
+  turned (inr (inr (inr (inl t)))) = if-one (λ h. edge-turned h t)
+  turned (inr (inr (inr (inr t)))) = if-one (λ h. vertex-turned h t)
+
+  one-or : (sizes lines ≡ 1 → T (edgeFirst lines) ⊎ T (someAstray lines)) → Tests
+  one-or g = inr (inr (elim (eq-dec (sizes lines) 1) [ inl h ↦ inr (g h) | inr n ↦ inl n ]))
+
+  tested : BadFile f → Tests
+  tested (Long h) = inl h
+  tested (Formless k b p) = inr (inl (anyLine-iff isBad lines .1 (k, b, passes isBad p tt)))
+  tested (Missing n) = one-or (λ h. let (k, t) = find-size lines (omega arith) in let (v, e, p) = is-size (lineAt f k) t in absurd (n k v e p))
+  tested (Repeated k l v e w d b p q) = one-or (λ h. let i = two-sizes lines k l b (passes isSize p tt) (passes isSize q tt) in absurd (omega arith))
+  tested (After k l a b v e i p q) = one-or (λ h. inl (edge-first lines k l h i (passes isEdge p tt) (passes isSize q tt)))
+  tested (Outside k l a b v e q p o) =
+      one-or (λ h.
+      let t : T (strays v (Edge a b)) = either-iff (isOutside v a) (isOutside v b) (astray-iff v a) (astray-iff v b) .1 o in
+      let t' = subst (λ (w : ℕ). T (strays w (Edge a b))) (sym (only-states lines l v e h q)) t in
+      inr (found (strays (statedVertices lines)) (λ n. n) lines k (passes (strays (statedVertices lines)) p t')))
+
+pub bad-file-iff : (f : List ℕ) → T (badFile f) ↔ BadFile f
+bad-file-iff f = (λ t. turned f (file-tests f .0 t), λ b. file-tests f .1 (tested f b))
+
+-- "when both ends are one vertex", of some `e` line
+pub loop-iff : (f : List ℕ) → T (anyLine isLoop (fileLines f)) ↔ ((k : ℕ) × (a : ℕ) × (lineAt f k ≡ Edge a a))
+loop-iff f = (
+  λ t. let (k, b, p) = anyLine-iff isLoop (fileLines f) .0 t in
+      let (a, q) = is-loop (lineAt f k) p in
+      (k, a, q),
+  λ x. found isLoop (λ n. n) (fileLines f) (x .0) (passes isLoop (x .2) (eqb-iff (x .1) (x .1) .1 refl)),
+)
