@@ -2,3 +2,5 @@ pub mod Lines
 pub mod Fields
 pub mod Forms
 pub mod Reading
+pub mod Sentences
+pub mod Turned
