@@ -79,14 +79,14 @@ end-small end.Rest = omega arith
 
 -- Where the answer a either is of an accepted call, A, and then a multiple of 256, or refuses and keeps, K: its remainder tells which.
 module _ (A K : Type 0) (a : ℕ) (either : A ⊎ (Refuses a × K)) (even : A → a % 256 ≡ 0) where
-  refused-keeps : a % 256 ≢ 0 → K
+  pub refused-keeps : a % 256 ≢ 0 → K
   refused-keeps d = go either
     where
       go : A ⊎ (Refuses a × K) → K
       go (inl x) = absurd (d (even x))
       go (inr y) = y .1
 
-  taken-iff : (a % 256 ≡ 0) ↔ A
+  pub taken-iff : (a % 256 ≡ 0) ↔ A
   taken-iff = (λ z. go z either, even)
     where
       go : a % 256 ≡ 0 → A ⊎ (Refuses a × K) → A

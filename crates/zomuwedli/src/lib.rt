@@ -3,8 +3,10 @@ ghost use mathlib.Core.Path.{_≡_};
 ghost use Prim.Native.Nat.{_+_, _*_};
 ghost use Rattle.trace.specs.Written.{written};
 ghost use Rattle.boundary.specs.Calls.{readCall, runCall, startCall, handCall, putBackCall};
+ghost use Rattle.boundary_sheets.specs.Calls.{colourCall};
 use boundary::put_state;
 use boundary::read_state;
+use colour::Coloured;
 use jobs::CallOutcome;
 use jobs::Extended;
 use jobs::ManualState;
@@ -121,5 +123,18 @@ pub extern "C" fn zomuwedli_put_back(
     match extend::put_back(sheet, trace, plan, result) {
         Extended::Refused(r) => jobs::extend_number(r) as u64,
         Extended::Done => 0,
+    }
+}
+
+// The sheet of a colouring graph. Bits 0-7: the refusal's number, 0 where the sheet was written; bits 8-31: the bytes written. A refused
+// call writes nothing.
+#[no_mangle]
+pub extern "C" fn zomuwedli_colour(file: &[u8], channels: u64, sheet: &mut [u8]) -> u64
+    ensures answer { λ r. ⌜ r ≡ (colourCall (now (file .entry)) channels (now (sheet .entry))) .answer ⌝ }
+    ensures sheet { λ _. ⌜ now (sheet .exit) ≡ (colourCall (now (file .entry)) channels (now (sheet .entry))) .sheet ⌝ }
+{
+    match colour::colour(file, channels, sheet) {
+        Coloured::Refused(r) => colour::colour_number(r) as u64,
+        Coloured::Written(w) => 256 * w as u64,
     }
 }
