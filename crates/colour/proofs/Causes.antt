@@ -13,7 +13,9 @@ use Rattle.bounded.proofs.Causes.{cause-iff, number-iff}
 use Rattle.sheet.specs.Sheet.{layout}
 use Rattle.jobs.specs.Trace.{fronted}
 use Rattle.jobs.proofs.Fronted.{AtFront, fronted-bytes}
-use Rattle.graph.specs.Graph.{fileLines, badFile, countLines, isEdge, statedEdges}
+use Rattle.graph.specs.Graph.{fileLines, lineAt, badFile, countLines, isEdge, statedEdges}
+use Rattle.graph.specs.declared.Line.the-variants.{Edge}
+use Rattle.graph.proofs.Turned.{BadFile, bad-file-iff, loop-iff}
 use Rattle.compose.proofs.Over.{sheet-stands}
 use Rattle.colour.specs.Colour.{colouredNumber, hasLoop, miscounted, outOfRange, verticesOf, graphProblem, graphSheet, ColourResult, refuseIf, colourDone, colourJob}
 use Rattle.colour.specs.declared.ColourRefusal.{ColourRefusal}
@@ -36,25 +38,52 @@ range-fails v k h = go (split (outOfRange v k))
 module _ (f : List ℕ) (k : ℕ) (b : List ℕ) where
   -- ---- what each test says
 
-  -- 21 does not speak against the file, nor 22, nor 23
-  abbrev pub Sound : Type 0
-  Sound = T (badFile f) → ⊥
+  -- "when both ends are one vertex"
+  abbrev pub HasLoop : Type 0
+  HasLoop = (m : ℕ) × (a : ℕ) × (lineAt f m ≡ Edge a a)
 
-  abbrev pub Loopless : Type 0
-  Loopless = Sound × (T (hasLoop f) → ⊥)
-
-  -- "when the `e` lines differ from the stated number"
+  -- "when the `e` lines differ from the stated number": they do not
   abbrev pub Counted : Type 0
   Counted = countLines isEdge (fileLines f) ≡ statedEdges (fileLines f)
 
+  -- 21 does not speak against the file; nor does 22; nor 23; nor 24
+  abbrev pub Passes21 : Type 0
+  Passes21 = BadFile f → ⊥
+
+  abbrev pub Passes22 : Type 0
+  Passes22 = Passes21 × (HasLoop → ⊥)
+
+  abbrev pub Passes23 : Type 0
+  Passes23 = Passes22 × Counted
+
+  abbrev pub Passes24 : Type 0
+  Passes24 = Passes23 × InRange (verticesOf f) k
+
   -- Why the job answers as it does: its own test speaks, and no earlier one does.
   abbrev pub ColourCause : Coloured → Type 0
-  ColourCause (Refused File) = T (badFile f)
-  ColourCause (Refused Loop) = Sound × T (hasLoop f)
-  ColourCause (Refused Count) = Loopless × (Counted → ⊥)
-  ColourCause (Refused Range) = (Loopless × Counted) × (InRange (verticesOf f) k → ⊥)
-  ColourCause (Refused Buffer) = ((Loopless × Counted) × InRange (verticesOf f) k) × (length b < length (graphSheet f k))
-  ColourCause (Written w) = ((Loopless × Counted) × InRange (verticesOf f) k) × ((length (graphSheet f k) ≤ length b) × (w ≡ length (graphSheet f k)))
+  ColourCause (Refused File) = BadFile f
+  ColourCause (Refused Loop) = Passes21 × HasLoop
+  ColourCause (Refused Count) = Passes22 × (Counted → ⊥)
+  ColourCause (Refused Range) = Passes23 × (InRange (verticesOf f) k → ⊥)
+  ColourCause (Refused Buffer) = Passes24 × (length b < length (graphSheet f k))
+  ColourCause (Written w) = Passes24 × ((length (graphSheet f k) ≤ length b) × (w ≡ length (graphSheet f k)))
+
+  -- ---- the tests in code, by these
+
+  bad : BadFile f → badFile f ≡ true
+  bad h = T-true (badFile f) (bad-file-iff f .1 h)
+
+  good : Passes21 → badFile f ≡ false
+  good h = T-false (badFile f) (λ t. h (bad-file-iff f .0 t))
+
+  loops : HasLoop → hasLoop f ≡ true
+  loops h = T-true (hasLoop f) (loop-iff f .1 h)
+
+  loopless : Passes22 → hasLoop f ≡ false
+  loopless h = T-false (hasLoop f) (λ t. h .1 (loop-iff f .0 t))
+
+  counted : Passes23 → eqb (countLines isEdge (fileLines f)) (statedEdges (fileLines f)) ≡ true
+  counted h = eq-eqb (countLines isEdge (fileLines f)) (statedEdges (fileLines f)) (h .1)
 
   -- the whole result, for each cause
   abbrev resultOf : Coloured → ColourResult
@@ -63,39 +92,40 @@ module _ (f : List ℕ) (k : ℕ) (b : List ℕ) where
 
   cause-results : (x : Coloured) → ColourCause x → colourJob f k b ≡ resultOf x
   unfolding colourJob
-  cause-results (Refused File) c = rw (T-true (badFile f) c)
-  cause-results (Refused Loop) c = rw (T-false (badFile f) (c .0), T-true (hasLoop f) (c .1))
-  cause-results (Refused Count) c = rw (T-false (badFile f) (c .0 .0), T-false (hasLoop f) (c .0 .1), ne-eqb (countLines isEdge (fileLines f)) (statedEdges (fileLines f)) (c .1))
-  cause-results (Refused Range) c =
-      rw (T-false (badFile f) (c .0 .0 .0), T-false (hasLoop f) (c .0 .0 .1), eq-eqb (countLines isEdge (fileLines f)) (statedEdges (fileLines f)) (c .0 .1), range-fails (verticesOf f) k (c .1))
+  cause-results (Refused File) c = rw (bad c)
+  cause-results (Refused Loop) c = rw (good (c .0), loops (c .1))
+  cause-results (Refused Count) c = rw (good (c .0 .0), loopless (c .0), ne-eqb (countLines isEdge (fileLines f)) (statedEdges (fileLines f)) (c .1))
+  cause-results (Refused Range) c = rw (good (c .0 .0 .0), loopless (c .0 .0), counted (c .0), range-fails (verticesOf f) k (c .1))
   cause-results (Refused Buffer) c =
-      rw (T-false (badFile f) (c .0 .0 .0 .0), T-false (hasLoop f) (c .0 .0 .0 .1), eq-eqb (countLines isEdge (fileLines f)) (statedEdges (fileLines f)) (c .0 .0 .1), range-test (verticesOf f) k (c .0 .1), lt-ltb (length b) (length (graphSheet f k)) (c .1))
+      let p = c .0 .0 in
+      rw (good (p .0 .0), loopless (p .0), counted p, range-test (verticesOf f) k (c .0 .1), lt-ltb (length b) (length (graphSheet f k)) (c .1))
   cause-results (Written w) c =
-      rw (T-false (badFile f) (c .0 .0 .0 .0), T-false (hasLoop f) (c .0 .0 .0 .1), eq-eqb (countLines isEdge (fileLines f)) (statedEdges (fileLines f)) (c .0 .0 .1), range-test (verticesOf f) k (c .0 .1), le-ltb (length b) (length (graphSheet f k)) (c .1 .0))
+      let p = c .0 .0 in
+      rw (good (p .0 .0), loopless (p .0), counted p, range-test (verticesOf f) k (c .0 .1), le-ltb (length b) (length (graphSheet f k)) (c .1 .0))
       (λ i. record { answer = Written (sym (c .1 .1) i); buffer = fronted (graphSheet f k) b })
 
   some-cause : (x : Coloured) × ColourCause x
   some-cause = file (T-dec (badFile f))
     where
-      buffer : ((Loopless × Counted) × InRange (verticesOf f) k) → (length b < length (graphSheet f k)) ⊎ (length (graphSheet f k) ≤ length b) → (x : Coloured) × ColourCause x
+      buffer : Passes24 → (length b < length (graphSheet f k)) ⊎ (length (graphSheet f k) ≤ length b) → (x : Coloured) × ColourCause x
       buffer c (inl h) = (Refused Buffer, (c, h))
       buffer c (inr h) = (Written (length (graphSheet f k)), (c, (h, refl)))
 
-      range : Loopless × Counted → (outOfRange (verticesOf f) k ≡ true) ⊎ (outOfRange (verticesOf f) k ≡ false) → (x : Coloured) × ColourCause x
+      range : Passes23 → (outOfRange (verticesOf f) k ≡ true) ⊎ (outOfRange (verticesOf f) k ≡ false) → (x : Coloured) × ColourCause x
       range c (inl h) = (Refused Range, (c, λ r. clash h (range-test (verticesOf f) k r)))
       range c (inr h) = buffer (c, in-range (verticesOf f) k h) (lt-dec (length b) (length (graphSheet f k)))
 
-      count : Loopless → (Counted ⊎ (Counted → ⊥)) → (x : Coloured) × ColourCause x
+      count : Passes22 → Counted ⊎ (Counted → ⊥) → (x : Coloured) × ColourCause x
       count c (inl h) = range (c, h) (split (outOfRange (verticesOf f) k))
       count c (inr h) = (Refused Count, (c, h))
 
-      loop : Sound → T (hasLoop f) ⊎ (T (hasLoop f) → ⊥) → (x : Coloured) × ColourCause x
-      loop c (inl h) = (Refused Loop, (c, h))
-      loop c (inr h) = count (c, h) (eq-dec (countLines isEdge (fileLines f)) (statedEdges (fileLines f)))
+      loop : Passes21 → T (hasLoop f) ⊎ (T (hasLoop f) → ⊥) → (x : Coloured) × ColourCause x
+      loop c (inl h) = (Refused Loop, (c, loop-iff f .0 h))
+      loop c (inr h) = count (c, λ x. h (loop-iff f .1 x)) (eq-dec (countLines isEdge (fileLines f)) (statedEdges (fileLines f)))
 
       file : T (badFile f) ⊎ (T (badFile f) → ⊥) → (x : Coloured) × ColourCause x
-      file (inl h) = (Refused File, h)
-      file (inr h) = loop h (T-dec (hasLoop f))
+      file (inl h) = (Refused File, bad-file-iff f .0 h)
+      file (inr h) = loop (λ x. h (bad-file-iff f .1 x)) (T-dec (hasLoop f))
 
   -- The job answers as it does for its cause and for no other.
   pub colour-iff : (x : Coloured) → ((colourJob f k b) .answer ≡ x) ↔ ColourCause x
@@ -121,19 +151,19 @@ module _ (f : List ℕ) (k : ℕ) (b : List ℕ) where
   by-number : (x : Coloured) → 21 ≤ colouredNumber x → (colouredNumber ((colourJob f k b) .answer) ≡ colouredNumber x) ↔ ColourCause x
   by-number = number-iff ((colourJob f k b) .answer) ColourCause colour-iff colouredNumber refusedAs (λ n. 21 ≤ n) number-back
 
-  pub colour-21 : (colouredNumber ((colourJob f k b) .answer) ≡ 21) ↔ T (badFile f)
+  pub colour-21 : (colouredNumber ((colourJob f k b) .answer) ≡ 21) ↔ BadFile f
   colour-21 = by-number (Refused File) (omega arith)
 
-  pub colour-22 : (colouredNumber ((colourJob f k b) .answer) ≡ 22) ↔ (Sound × T (hasLoop f))
+  pub colour-22 : (colouredNumber ((colourJob f k b) .answer) ≡ 22) ↔ (Passes21 × HasLoop)
   colour-22 = by-number (Refused Loop) (omega arith)
 
-  pub colour-23 : (colouredNumber ((colourJob f k b) .answer) ≡ 23) ↔ (Loopless × (Counted → ⊥))
+  pub colour-23 : (colouredNumber ((colourJob f k b) .answer) ≡ 23) ↔ (Passes22 × (Counted → ⊥))
   colour-23 = by-number (Refused Count) (omega arith)
 
-  pub colour-24 : (colouredNumber ((colourJob f k b) .answer) ≡ 24) ↔ ((Loopless × Counted) × (InRange (verticesOf f) k → ⊥))
+  pub colour-24 : (colouredNumber ((colourJob f k b) .answer) ≡ 24) ↔ (Passes23 × (InRange (verticesOf f) k → ⊥))
   colour-24 = by-number (Refused Range) (omega arith)
 
-  pub colour-25 : (colouredNumber ((colourJob f k b) .answer) ≡ 25) ↔ (((Loopless × Counted) × InRange (verticesOf f) k) × (length b < length (graphSheet f k)))
+  pub colour-25 : (colouredNumber ((colourJob f k b) .answer) ≡ 25) ↔ (Passes24 × (length b < length (graphSheet f k)))
   colour-25 = by-number (Refused Buffer) (omega arith)
 
   -- ---- the buffer

@@ -22,6 +22,7 @@ use Rattle.graph.specs.Colouring.{joins, adjacent, colouring}
 use Rattle.graph.specs.declared.Line.{Line}
 use Rattle.graph.specs.declared.Line.the-variants.{Comment, Size, Edge, Bad}
 use Rattle.graph.proofs.Sentences.{anyLine-iff}
+use Rattle.graph.proofs.Turned.{BadFile, bad-file-iff, there}
 use Rattle.compose.specs.Compose.{sheetBytes}
 use Rattle.compose.proofs.Written.{written-keeps, written-problem, written-short}
 use Rattle.compose.proofs.Blocks.{roomy-today, row-allows, block-bars}
@@ -63,11 +64,8 @@ pub adjacent-iff : (f : List ℕ) (i j : ℕ) → T (adjacent (fileLines f) i j)
 unfolding adjacent
 adjacent-iff f i j = (
   λ h. let w = anyLine-iff (joins i j) (fileLines f) .0 h in (w .0, joins-iff i j (lineAt f (w .0)) .0 (w .2)),
-  λ w. anyLine-iff (joins i j) (fileLines f) .1 (w .0, within (w .0) (joins-iff i j (lineAt f (w .0)) .1 (w .1)), joins-iff i j (lineAt f (w .0)) .1 (w .1)),
+  λ w. anyLine-iff (joins i j) (fileLines f) .1 (w .0, there (joins i j) (λ h. h) (fileLines f) (w .0) (joins-iff i j (lineAt f (w .0)) .1 (w .1)), joins-iff i j (lineAt f (w .0)) .1 (w .1)),
 )
-  where
-    within : (m : ℕ) → T (joins i j (lineAt f m)) → m < length (fileLines f)
-    within m h = ⊎-elim (λ (l : m < length (fileLines f)). l) (λ (l : length (fileLines f) ≤ m). absurd (subst (λ (x : Line). T (joins i j x)) (List·getD-eq-default (fileLines f) Bad l) h)) (lt-dec m (length (fileLines f)))
 
 -- an edge joins both ways round
 joined-turn : (f : List ℕ) (i j : ℕ) → Joined f i j → Joined f j i
@@ -178,10 +176,7 @@ module _ (f : List ℕ) (k : ℕ) (K : Taken f k) where
 
 -- a line that is an edge stands in the file
 edge-within : (f : List ℕ) (m a c : ℕ) → lineAt f m ≡ Edge a c → m < length (fileLines f)
-edge-within f m a c e = ⊎-elim
-    (λ (l : m < length (fileLines f)). l)
-    (λ (l : length (fileLines f) ≤ m). let d = List·getD-eq-default (fileLines f) Bad l in let z : _≡_ {A = ℕ} 0 1 = cc in absurd (omega arith))
-    (lt-dec m (length (fileLines f)))
+edge-within f m a c e = there isEdge (λ h. h) (fileLines f) m (subst (λ (l : Line). T (isEdge l)) (sym e) tt)
 
 -- a vertex outside the stated number turns the file away
 stray-bad : (f : List ℕ) → T (anyLine (strays (verticesOf f)) (fileLines f)) → T (badFile f)
@@ -191,19 +186,15 @@ stray-bad f t =
     (inr (or-iff (anyLine isBad (fileLines f)) _ .1 (inr (or-iff (not (eqb (countLines isSize (fileLines f)) 1)) _ .1 (inr (or-iff (edgeFirst (fileLines f)) _ .1 (inr t)))))))
 
 -- a vertex of a sound file is within the stated number
-inside-of : (f : List ℕ) → (T (badFile f) → ⊥) → (m a c : ℕ) → lineAt f m ≡ Edge a c → (isOutside (verticesOf f) a ≡ false) × (isOutside (verticesOf f) c ≡ false)
+inside-of : (f : List ℕ) → (BadFile f → ⊥) → (m a c : ℕ) → lineAt f m ≡ Edge a c → (isOutside (verticesOf f) a ≡ false) × (isOutside (verticesOf f) c ≡ false)
 inside-of f h m a c e = neither (isOutside (verticesOf f) a) (isOutside (verticesOf f) c) (go (split (strays (verticesOf f) (lineAt f m))))
   where
     go : (strays (verticesOf f) (lineAt f m) ≡ true) ⊎ (strays (verticesOf f) (lineAt f m) ≡ false) → (isOutside (verticesOf f) a || isOutside (verticesOf f) c) ≡ false
     go (inr q) = sym (ap (strays (verticesOf f)) e) ∙ q
-    go (inl q) = absurd (h (stray-bad f (anyLine-iff (strays (verticesOf f)) (fileLines f) .1 (m, edge-within f m a c e, T-of q))))
+    go (inl q) = absurd (h (bad-file-iff f .0 (stray-bad f (anyLine-iff (strays (verticesOf f)) (fileLines f) .1 (m, edge-within f m a c e, T-of q)))))
 
 not-outside : (v a : ℕ) → isOutside v a ≡ false → (1 ≤ a) × (a ≤ v)
 not-outside v a o = let q = neither (ltb a 1) (ltb v a) o in (ltb-false a 1 (q .0), ltb-false v a (q .1))
-
--- and no edge of a file without a loop has one vertex for both ends
-ends-differ : (f : List ℕ) → (T (anyLine isLoop (fileLines f)) → ⊥) → (m a c : ℕ) → lineAt f m ≡ Edge a c → a ≢ c
-ends-differ f h m a c e z = h (anyLine-iff isLoop (fileLines f) .1 (m, edge-within f m a c e, subst (λ (l : Line). T (isLoop l)) (sym e) (eqb-iff a c .1 z)))
 
 pub taken : (f : List ℕ) (k : ℕ) (b : List ℕ) (w : ℕ) → (colourJob f k b) .answer ≡ Written w → Taken f k
 taken f k b w e =
@@ -212,7 +203,7 @@ taken f k b w e =
       range = c .0 .1;
       inside = λ m a d q.
           let o = inside-of f (c .0 .0 .0 .0) m a d q in
-          (not-outside (verticesOf f) a (o .0), (not-outside (verticesOf f) d (o .1), ends-differ f (c .0 .0 .0 .1) m a d q));
+          (not-outside (verticesOf f) a (o .0), (not-outside (verticesOf f) d (o .1), λ z. c .0 .0 .0 .1 (m, a, q ∙ ap (Edge a) (sym z))));
     }
 
 -- ---- the sheet
@@ -350,24 +341,18 @@ pub edge-again : (a c : ℕ) (x y : List Line) (m : ℕ) → (getD (x ++ y) m Ba
 unfolding adjacent
 edge-again a c x y m e = record { joined = same; counted = again-count a c x y }
   where
-    within : (i j : ℕ) → T (joins i j (getD (x ++ y) m Bad)) → m < length (x ++ y)
-    within i j h = ⊎-elim
-        (λ (l : m < length (x ++ y)). l)
-        (λ (l : length (x ++ y) ≤ m). absurd (subst (λ (z : Line). T (joins i j z)) (List·getD-eq-default (x ++ y) Bad l) h))
-        (lt-dec m (length (x ++ y)))
-
     -- whichever way round it stands there
-    there : (i j : ℕ) → (getD (x ++ y) m Bad ≡ Edge a c) ⊎ (getD (x ++ y) m Bad ≡ Edge c a) → (Edge a c ≡ Edge (i + 1) (j + 1)) ⊎ (Edge a c ≡ Edge (j + 1) (i + 1))
+    stands : (i j : ℕ) → (getD (x ++ y) m Bad ≡ Edge a c) ⊎ (getD (x ++ y) m Bad ≡ Edge c a) → (Edge a c ≡ Edge (i + 1) (j + 1)) ⊎ (Edge a c ≡ Edge (j + 1) (i + 1))
         → (getD (x ++ y) m Bad ≡ Edge (i + 1) (j + 1)) ⊎ (getD (x ++ y) m Bad ≡ Edge (j + 1) (i + 1))
-    there i j (inl q) (inl r) = inl (q ∙ r)
-    there i j (inl q) (inr r) = inr (q ∙ r)
-    there i j (inr q) (inl r) = let s : a ≡ i + 1 = cc in let t : c ≡ j + 1 = cc in inr (q ∙ (λ z. Edge (t z) (s z)))
-    there i j (inr q) (inr r) = let s : a ≡ j + 1 = cc in let t : c ≡ i + 1 = cc in inl (q ∙ (λ z. Edge (t z) (s z)))
+    stands i j (inl q) (inl r) = inl (q ∙ r)
+    stands i j (inl q) (inr r) = inr (q ∙ r)
+    stands i j (inr q) (inl r) = let s : a ≡ i + 1 = cc in let t : c ≡ j + 1 = cc in inr (q ∙ (λ z. Edge (t z) (s z)))
+    stands i j (inr q) (inr r) = let s : a ≡ j + 1 = cc in let t : c ≡ i + 1 = cc in inl (q ∙ (λ z. Edge (t z) (s z)))
 
     same : (i j : ℕ) → adjacent (x ++ (Edge a c ∷ y)) i j ≡ adjacent (x ++ y) i j
     same i j =
         any-insert (joins i j) (Edge a c) x y
         ∙ or-told (joins i j (Edge a c)) (anyLine (joins i j) (x ++ y))
         (λ h.
-          let w = joins-iff i j (getD (x ++ y) m Bad) .1 (there i j e (joins-iff i j (Edge a c) .0 h)) in
-          anyLine-iff (joins i j) (x ++ y) .1 (m, within i j w, w))
+          let w = joins-iff i j (getD (x ++ y) m Bad) .1 (stands i j e (joins-iff i j (Edge a c) .0 h)) in
+          anyLine-iff (joins i j) (x ++ y) .1 (m, there (joins i j) (λ h. h) (x ++ y) m w, w))

@@ -79,7 +79,7 @@ passes : (t : Line → Bool) {l x : Line} → l ≡ x → T (t x) → T (t l)
 passes t p h = subst (λ (y : Line). T (t y)) (sym p) h
 
 -- and is one of the file where `Bad` does not pass
-there : (t : Line → Bool) → (T (t Bad) → ⊥) → (m : List Line) (k : ℕ) → T (t (getD m k Bad)) → k < length m
+pub there : (t : Line → Bool) → (T (t Bad) → ⊥) → (m : List Line) (k : ℕ) → T (t (getD m k Bad)) → k < length m
 there t n [] k h = absurd (n h)
 there t n (x ∷ m) zero h = omega arith
 there t n (x ∷ m) (suc k) h = let b = there t n m k h in omega arith
