@@ -1,9 +1,9 @@
--- Which colouring files are turned away by 21, and which by 22: the tests of Graph.antt as sentences about the lines. Assumes nothing.
-use mathlib.Core.Path.{_≡_, refl, sym, ap, _∙_, subst}
+-- Which colouring files 21 turns away, and which have a loop (22): the tests of Graph.antt as sentences about the lines. Assumes nothing.
+use mathlib.Core.Path.{_≡_, refl, sym, ap, subst}
 use mathlib.Core.Bool.{Bool, true, false, not, _||_}
 use mathlib.Core.List.{List, [], _∷_}
 use mathlib.Core.Logic.{_⊎_, inl, inr, _≢_, _↔_, Iff·rfl}
-use Prim.Native.Nat.{ℕ, zero, suc, _+_, _≤_, _<_}
+use Prim.Native.Nat.{ℕ, zero, suc, _≤_, _<_}
 use native.Mathlib.Omega.{arith}
 use lib.Dec.{T, eqb, ltb}
 use lib.ListN.{length, getD}
@@ -48,6 +48,9 @@ differ-iff x y = simp (not-iff, eqb-iff) Iff·rfl
 astray-iff : (v a : ℕ) → T (isOutside v a) ↔ Astray v a
 astray-iff v a = either-iff (ltb a 1) (ltb v a) (ltb-iff a 1) (ltb-iff v a)
 
+strays-iff : (v a b : ℕ) → T (strays v (Edge a b)) ↔ (Astray v a ⊎ Astray v b)
+strays-iff v a b = either-iff (isOutside v a) (isOutside v b) (astray-iff v a) (astray-iff v b)
+
 -- ---- tests of one line
 
 is-bad : (l : Line) → T (isBad l) → l ≡ Bad
@@ -71,7 +74,7 @@ is-loop Bad t = absurd t
 is-astray : (v : ℕ) (l : Line) → T (strays v l) → (a b : ℕ) × (l ≡ Edge a b) × (Astray v a ⊎ Astray v b)
 is-astray v Comment t = absurd t
 is-astray v (Size w e) t = absurd t
-is-astray v (Edge a b) t = (a, b, refl, either-iff (isOutside v a) (isOutside v b) (astray-iff v a) (astray-iff v b) .0 t)
+is-astray v (Edge a b) t = (a, b, refl, strays-iff v a b .0 t)
 is-astray v Bad t = absurd t
 
 -- a line of a form passes the tests that the form passes
@@ -213,7 +216,7 @@ module _ (f : List ℕ) where
           let (w, d, q) = is-size (lineAt f l) t in
           Repeated k l v e w d b p q
 
-  -- one: an `e` line before it, and one with a vertex that it does not have
+  -- one, and an `e` line before it, or with a vertex outside what it states
   edge-turned : sizes lines ≡ 1 → T (edgeFirst lines) → BadFile f
   edge-turned h t =
       let (l, s) = find-size lines (omega arith) in
@@ -226,11 +229,10 @@ module _ (f : List ℕ) where
       let (l, s) = find-size lines (omega arith) in
       let (v, e, q) = is-size (lineAt f l) s in
       let (k, i, r) = anyLine-iff (strays (statedVertices lines)) lines .0 t in
-      let r' : T (strays v (lineAt f k)) = subst (λ (w : ℕ). T (strays w (lineAt f k))) (only-states lines l v e h q) r in
-      let (a, b, p, o) = is-astray v (lineAt f k) r' in
+      let (a, b, p, o) = is-astray v (lineAt f k) (subst (λ (w : ℕ). T (strays w (lineAt f k))) (only-states lines l v e h q) r) in
       Outside k l a b v e q p o
 
-  -- with one `p` line, or without
+  -- what follows from one `p` line is enough
   if-one : (sizes lines ≡ 1 → BadFile f) → BadFile f
   if-one g = elim (eq-dec (sizes lines) 1) [ inl h ↦ g h | inr n ↦ not-one n ]
 
@@ -252,18 +254,18 @@ module _ (f : List ℕ) where
   tested (After k l a b v e i p q) = one-or (λ h. inl (edge-first lines k l h i (passes isEdge p tt) (passes isSize q tt)))
   tested (Outside k l a b v e q p o) =
       one-or (λ h.
-      let t : T (strays v (Edge a b)) = either-iff (isOutside v a) (isOutside v b) (astray-iff v a) (astray-iff v b) .1 o in
-      let t' = subst (λ (w : ℕ). T (strays w (Edge a b))) (sym (only-states lines l v e h q)) t in
-      inr (found (strays (statedVertices lines)) (λ n. n) lines k (passes (strays (statedVertices lines)) p t')))
+      let t = subst (λ (w : ℕ). T (strays w (Edge a b))) (sym (only-states lines l v e h q)) (strays-iff v a b .1 o) in
+      inr (found (strays (statedVertices lines)) (λ n. n) lines k (passes (strays (statedVertices lines)) p t)))
 
 pub bad-file-iff : (f : List ℕ) → T (badFile f) ↔ BadFile f
 bad-file-iff f = (λ t. turned f (file-tests f .0 t), λ b. file-tests f .1 (tested f b))
 
 -- "when both ends are one vertex", of some `e` line
 pub loop-iff : (f : List ℕ) → T (anyLine isLoop (fileLines f)) ↔ ((k : ℕ) × (a : ℕ) × (lineAt f k ≡ Edge a a))
-loop-iff f = (
-  λ t. let (k, b, p) = anyLine-iff isLoop (fileLines f) .0 t in
-      let (a, q) = is-loop (lineAt f k) p in
-      (k, a, q),
-  λ x. found isLoop (λ n. n) (fileLines f) (x .0) (passes isLoop (x .2) (eqb-iff (x .1) (x .1) .1 refl)),
-)
+loop-iff f = (there-is, λ x. found isLoop (λ n. n) (fileLines f) (x .0) (passes isLoop (x .2) (eqb-iff (x .1) (x .1) .1 refl)))
+  where
+    there-is : T (anyLine isLoop (fileLines f)) → (k : ℕ) × (a : ℕ) × (lineAt f k ≡ Edge a a)
+    there-is t =
+        let (k, b, p) = anyLine-iff isLoop (fileLines f) .0 t in
+        let (a, q) = is-loop (lineAt f k) p in
+        (k, a, q)
