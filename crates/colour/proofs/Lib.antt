@@ -2,3 +2,4 @@ pub mod Filling
 pub mod Job
 pub mod Causes
 pub mod Plans
+pub mod Samples

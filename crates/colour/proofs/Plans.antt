@@ -283,8 +283,7 @@ module _ (f : List ℕ) (k : ℕ) (b : List ℕ) (w : ℕ) (e : (colourJob f k b
         let y = zi in
         let z = zj in
         let some = range .k-some in
-        let B = block-bars layout sheetAt colour-keeps i j rises (omega arith) in
-        (
+        let B = block-bars layout sheetAt colour-keeps i j rises (omega arith) in (
           λ x. let v = B .0 x in let h = v .2 in let l = v .3 in barred-joined (v .0) (v .1) (omega arith) (omega arith) (v .4),
           λ x. B .1 (0, 0, omega arith, omega arith, joined-bars x 0 (omega arith)),
         )
@@ -296,8 +295,7 @@ module _ (f : List ℕ) (k : ℕ) (b : List ℕ) (w : ℕ) (e : (colourJob f k b
         let y = zi in
         let z = zj in
         let x = T-true (joinedPair (adjacent (fileLines f)) i j) (pair-joined f i j .1 (colour-blocks .0 (r, q))) in
-        let t : bit (rowIn layout sheetAt j r a) c ≡ not (eqb c a) = row-allows layout sheetAt colour-keeps i j r q a c (omega arith) (omega arith) ∙ tells a c h l ∙ simp x in
-        (
+        let t : bit (rowIn layout sheetAt j r a) c ≡ not (eqb c a) = row-allows layout sheetAt colour-keeps i j r q a c (omega arith) (omega arith) ∙ tells a c h l ∙ simp x in (
           λ s d. T-not {b = not (eqb c a)} (ap not (eq-eqb c a (sym d))) (subst T t s),
           λ d. subst T (sym t) (T-of (ap not (ne-eqb c a (λ u. d (sym u))))),
         )
@@ -354,5 +352,5 @@ edge-again a c x y m e = record { joined = same; counted = again-count a c x y }
         any-insert (joins i j) (Edge a c) x y
         ∙ or-told (joins i j (Edge a c)) (anyLine (joins i j) (x ++ y))
         (λ h.
-          let w = joins-iff i j (getD (x ++ y) m Bad) .1 (stands i j e (joins-iff i j (Edge a c) .0 h)) in
-          anyLine-iff (joins i j) (x ++ y) .1 (m, there (joins i j) (λ h. h) (x ++ y) m w, w))
+        let w = joins-iff i j (getD (x ++ y) m Bad) .1 (stands i j e (joins-iff i j (Edge a c) .0 h)) in
+        anyLine-iff (joins i j) (x ++ y) .1 (m, there (joins i j) (λ h. h) (x ++ y) m w, w))

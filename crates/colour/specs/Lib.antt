@@ -1,2 +1,3 @@
 pub mod Colour
 pub mod Parts
+pub mod Samples
