@@ -11,9 +11,10 @@ use Rattle.colour.specs.declared.ColourRefusal.{ColourRefusal}
 use Rattle.colour.specs.declared.ColourRefusal.the-variants as refusal
 use Rattle.colour.specs.declared.Coloured.{Coloured}
 use Rattle.colour.specs.declared.Coloured.the-variants as coloured
+use Rattle.colour.proofs.Causes.{colour-unaltered}
+use Rattle.colour.proofs.Plans.{colour-longest}
 use Rattle.boundary_sheets.specs.Calls.{ColourCall, colourCall}
 use Rattle.boundary_sheets.proofs.Calls.{colour-says}
-use Rattle.boundary_sheets.proofs.Jobs.{colour-small, colour-unaltered}
 
 -- ---- the sheet of a colouring graph
 
@@ -32,7 +33,7 @@ module _ (f : List ℕ) (k : ℕ) (b : List ℕ) where
   colour-unpacked w o =
       let e = sym (colour-says f k b _ _ refl refl _ o) in
       let q = ap (λ (y : ColourCall). y .answer) e in
-      let l = colour-small f k b w o in
+      let l = colour-longest f k b w o in
       (omega arith, omega arith, omega arith, ap (λ (y : ColourCall). y .sheet) e)
 
   abbrev pub ColourTaken : Type 0

@@ -82,7 +82,7 @@ pair-joined f i j = go (lt-dec i j)
 -- ---- colourings
 
 -- "the proper colourings": every vertex, counted from 1, has a channel below the count, and the ends of every edge line differ
-pub record Proper (f : List ℕ) (k : ℕ) (p : ℕ → ℕ) : Type 0 where
+pub record ProperColouring (f : List ℕ) (k : ℕ) (p : ℕ → ℕ) : Type 0 where
   pub channel : (v : ℕ) → 1 ≤ v → v ≤ verticesOf f → p (v - 1) < k
   pub ends : (m a c : ℕ) → lineAt f m ≡ Edge a c → p (a - 1) ≢ p (c - 1)
 
@@ -123,7 +123,7 @@ module _ (f : List ℕ) (k : ℕ) (K : Taken f k) where
   in-graph : (i : ℕ) → T ((full P) .active i) → i < verticesOf f
   in-graph i h = let l = active-iff P i .0 h in let e = vertices in omega arith
 
-  proper-solves : (p : ℕ → ℕ) → Proper f k p → Solution P (full P) p
+  proper-solves : (p : ℕ → ℕ) → ProperColouring f k p → Solution P (full P) p
   proper-solves p R = record {
     live = λ i h. let l = in-graph i h in live-iff P i (p i) .1 (active-iff P i .0 h, rw (channels i l) (has i l));
     ok = λ i j h l d.
@@ -143,7 +143,7 @@ module _ (f : List ℕ) (k : ℕ) (K : Taken f k) where
       apart i j (m, inl e) q = R .ends m (i + 1) (j + 1) e (ap p (one-less i) ∙ q ∙ sym (ap p (one-less j)))
       apart i j (m, inr e) q = R .ends m (j + 1) (i + 1) e (ap p (one-less j) ∙ sym q ∙ sym (ap p (one-less i)))
 
-  solves-proper : (p : ℕ → ℕ) → Solution P (full P) p → Proper f k p
+  solves-proper : (p : ℕ → ℕ) → Solution P (full P) p → ProperColouring f k p
   solves-proper p S = record {
     channel = λ v s l. has (v - 1) (omega arith);
     ends = λ m a c e q.
@@ -241,7 +241,7 @@ module _ (f : List ℕ) (k : ℕ) (b : List ℕ) (w : ℕ) (e : (colourJob f k b
   colour-longest = rw (colour-written f k b w e .length-is) (written-short layout 1 (graphProblem f k) roomy-today refl bounded some)
 
   -- "the sheet whose plans are exactly the proper colourings"
-  pub colour-plans : (p : ℕ → ℕ) → T (solvesWhole (problemOf layout (take w ((colourJob f k b) .buffer))) p) ↔ Proper f k p
+  pub colour-plans : (p : ℕ → ℕ) → T (solvesWhole (problemOf layout (take w ((colourJob f k b) .buffer))) p) ↔ ProperColouring f k p
   colour-plans p = rw colour-problem (
     λ t. solves-proper f k (taken f k b w e) p (solvesWhole-iff (graphProblem f k) p .0 t),
     λ R. solvesWhole-iff (graphProblem f k) p .1 (proper-solves f k (taken f k b w e) p R),
