@@ -235,7 +235,7 @@ module _ (f : List ℕ) (k : ℕ) (b : List ℕ) (w : ℕ) (e : (colourJob f k b
   unfolding graphSheet
   colour-problem = ap (problemOf layout) sheet-is ∙ written-problem layout 1 (graphProblem f k) roomy-today refl bounded some
 
-  -- "The longest sheet is 16,904 bytes."
+  -- it is no longer than the longest sheet
   pub colour-longest : w ≤ 16904
   unfolding graphSheet
   colour-longest = rw (colour-written f k b w e .length-is) (written-short layout 1 (graphProblem f k) roomy-today refl bounded some)

@@ -25,13 +25,19 @@ colour-graph-requires : tie.Need-colour-graph-requires
 colour-graph-requires c κs = search needs
 
 returns : tie.Need-returns
-returns c = let e = sym (job-bad (c .before .before .before .before .before .before .before .args .file .now) (c .before .before .before .before .before .before .before .args .channels) (c .before .before .before .before .before .before .before .args .sheet .now) _ _ (c .before .before .before .read-graph .ensures) (c .enum-told .given .1)) in (ap (λ (x : ColourResult). x .answer) e, ap (λ (x : ColourResult). x .buffer) e)
+returns c =
+    let a = c .before .before .before .before .before .before .before .args in
+    let e = sym (job-bad (a .file .now) (a .channels) (a .sheet .now) _ _ (c .before .before .before .read-graph .ensures) (c .enum-told .given .1)) in
+    (ap (λ (x : ColourResult). x .answer) e, ap (λ (x : ColourResult). x .buffer) e)
 
 same-length : tie.Need-same-length
 same-length c = search needs
 
 returns-2 : tie.Need-returns-2
-returns-2 c = let e = job-read (c .before .before .before .before .before .before .before .before .before .before .before .before .before .args .file .now) (c .before .before .before .before .before .before .before .before .before .before .before .before .before .args .channels) (c .before .before .before .before .before .before .before .before .before .before .before .before .before .args .sheet .now) _ _ (c .before .before .before .before .before .before .before .before .before .read-graph .ensures) _ _ _ _ (c .before .before .before .before .before .before .vertices .given .1) in (c .before .before .colour-graph .ensures .0 ∙ ap (λ (x : ColourResult). x .answer) e, c .before .before .colour-graph .ensures .1 ∙ ap (λ (x : ColourResult). x .buffer) e)
+returns-2 c =
+    let a = c .before .before .before .before .before .before .before .before .before .before .before .before .before .args in
+    let e = job-read (a .file .now) (a .channels) (a .sheet .now) _ _ (c .before .before .before .before .before .before .before .before .before .read-graph .ensures) _ _ _ _ (c .before .before .before .before .before .before .vertices .given .1) in
+    (c .before .before .colour-graph .ensures .0 ∙ ap (λ (x : ColourResult). x .answer) e, c .before .before .colour-graph .ensures .1 ∙ ap (λ (x : ColourResult). x .buffer) e)
 
 pub colour-spec : {M : Type 1} → statement M
 colour-spec =

@@ -15,24 +15,39 @@ returns c = rw (c .if1 .taken) (refl, refl)
 
 returns-2 : tie.Need-returns-2
 unfolding graphJob
-returns-2 c = let q = ne-eqb (c .before .before .before .before .args .lines) (c .before .before .before .before .args .edges) (c .if2 .taken) in rw (c .before .if1 .left, q) (refl, refl)
+returns-2 c =
+    let a = c .before .before .before .before .args in
+    let q = ne-eqb (a .lines) (a .edges) (c .if2 .taken) in
+    rw (c .before .if1 .left, q) (refl, refl)
 
 out-of-range-requires : tie.Need-out-of-range-requires
 out-of-range-requires c κs = search needs
 
 returns-3 : tie.Need-returns-3
 unfolding graphJob
-returns-3 c = let q = eq-eqb (c .before .before .before .before .before .before .args .lines) (c .before .before .before .before .before .before .args .edges) (c .before .before .if2 .left) in let o : outOfRange (c .before .before .before .before .before .before .args .vertices) (c .before .before .before .before .before .before .args .channels) ≡ true = sym (c .before .out-of-range .ensures) ∙ c .if3 .taken in rw (c .before .before .before .if1 .left, q, o) (refl, refl)
+returns-3 c =
+    let a = c .before .before .before .before .before .before .args in
+    let q = eq-eqb (a .lines) (a .edges) (c .before .before .if2 .left) in
+    let o : outOfRange (a .vertices) (a .channels) ≡ true = sym (c .before .out-of-range .ensures) ∙ c .if3 .taken in
+    rw (c .before .before .before .if1 .left, q, o) (refl, refl)
 
 write-requires : tie.Need-write-requires
-write-requires c κs = let o : outOfRange (c .before .before .before .before .before .before .before .args .vertices) (c .before .before .before .before .before .before .before .args .channels) ≡ false = sym (c .before .before .out-of-range .ensures) ∙ c .before .if3 .left in let r = in-range _ _ o in (record { marks = c .before .before .before .before .before .before .before .pre; vertices = r .v-few; channels = r .k-few }, r .k-some)
+write-requires c κs =
+    let a = c .before .before .before .before .before .before .before .args in
+    let o : outOfRange (a .vertices) (a .channels) ≡ false = sym (c .before .before .out-of-range .ensures) ∙ c .before .if3 .left in
+    let r = in-range _ _ o in
+    (record { marks = c .before .before .before .before .before .before .before .pre; vertices = r .v-few; channels = r .k-few }, r .k-some)
 
 same-length : tie.Need-same-length
 same-length c = search needs
 
 returns-4 : tie.Need-returns-4
 unfolding graphJob
-returns-4 c = let q = eq-eqb (c .before .before .before .before .before .before .before .before .before .before .args .lines) (c .before .before .before .before .before .before .before .before .before .before .args .edges) (c .before .before .before .before .before .before .if2 .left) in let o : outOfRange (c .before .before .before .before .before .before .before .before .before .before .args .vertices) (c .before .before .before .before .before .before .before .before .before .before .args .channels) ≡ false = sym (c .before .before .before .before .before .out-of-range .ensures) ∙ c .before .before .before .before .if3 .left in rw (c .before .before .before .before .before .before .before .if1 .left, q, o) (c .before .before .write .ensures .0, c .before .before .write .ensures .1)
+returns-4 c =
+    let a = c .before .before .before .before .before .before .before .before .before .before .args in
+    let q = eq-eqb (a .lines) (a .edges) (c .before .before .before .before .before .before .if2 .left) in
+    let o : outOfRange (a .vertices) (a .channels) ≡ false = sym (c .before .before .before .before .before .out-of-range .ensures) ∙ c .before .before .before .before .if3 .left in
+    rw (c .before .before .before .before .before .before .before .if1 .left, q, o) (c .before .before .write .ensures .0, c .before .before .write .ensures .1)
 
 pub colour-graph-spec : {M : Type 1} → statement M
 colour-graph-spec =

@@ -8,13 +8,22 @@ use Rattle.colour.proofs.fill_place.Statement.{statement}
 use Rattle.colour.proofs.fill_place.Tie as tie
 
 returns : tie.Need-returns
-returns c = place-none (c .before .before .before .args .n) (c .before .before .before .args .k) (isMarked (c .before .before .before .args .near .now)) (c .before .before .before .pre .0 .channels) _ (c .before .before .before .args .x) (inl (c .if1 .taken)) (c .before .before .before .pre .1 .1)
+returns c =
+    let a = c .before .before .before .args in
+    let p = c .before .before .before .pre in
+    place-none (a .n) (a .k) (isMarked (a .near .now)) (p .0 .channels) _ (a .x) (inl (c .if1 .taken)) (p .1 .1)
 
 returns-2 : tie.Need-returns-2
-returns-2 c = place-none (c .before .before .before .before .args .n) (c .before .before .before .before .args .k) (isMarked (c .before .before .before .before .args .near .now)) (c .before .before .before .before .pre .0 .channels) _ (c .before .before .before .before .args .x) (inr (c .if2 .taken)) (c .before .before .before .before .pre .1 .1)
+returns-2 c =
+    let a = c .before .before .before .before .args in
+    let p = c .before .before .before .before .pre in
+    place-none (a .n) (a .k) (isMarked (a .near .now)) (p .0 .channels) _ (a .x) (inr (c .if2 .taken)) (p .1 .1)
 
 fill-rows-requires : tie.Need-fill-rows-requires
-fill-rows-requires c κs = let h = c .before .before .before .before .before .pre .1 .0 in (c .before .before .before .before .before .pre .0, (record { first = omega arith; second = c .before .before .if1 .left; apart = c .before .if2 .left }, c .before .before .before .before .before .pre .1 .1))
+fill-rows-requires c κs =
+    let p = c .before .before .before .before .before .pre in
+    let h = p .1 .0 in
+    (p .0, (record { first = omega arith; second = c .before .before .if1 .left; apart = c .before .if2 .left }, p .1 .1))
 
 same-length : tie.Need-same-length
 same-length c = search needs

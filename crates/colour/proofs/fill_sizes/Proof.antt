@@ -34,13 +34,23 @@ loop-less : tie.Need-loop-less Inv-loop μ-loop
 loop-less c = search needs
 
 loop-again : tie.Need-loop-again Inv-loop μ-loop
-loop-again c = let h = c .before .before .pre .0 .vertices in let l = c .loop-test .taken in (omega arith, fill-one _ _ _ (c .before .loop .inv .1) _ (omega arith) (size-entry (c .before .before .args .n) (c .before .before .args .k) (isMarked (c .before .before .args .near .now)) (c .before .before .pre .0 .channels) _ l (omega arith)))
+loop-again c =
+    let a = c .before .before .args in
+    let p = c .before .before .pre in
+    let h = p .0 .vertices in
+    let l = c .loop-test .taken in
+    (omega arith, fill-one _ _ _ (c .before .loop .inv .1) _ (omega arith) (size-entry (a .n) (a .k) (isMarked (a .near .now)) (p .0 .channels) _ l (omega arith)))
 
 same-length : tie.Need-same-length Inv-loop μ-loop
 same-length c = c .before .loop .inv .1 .long ∙ sym (c .before .before .pre .1 .long)
 
 returns : tie.Need-returns Inv-loop μ-loop
-returns c = let e : c .before .loop .i ≡ c .before .before .args .n = (let a = c .before .loop .inv .0 in let b = c .loop-test .left in omega arith) in sizes-end (c .before .before .args .n) (c .before .before .args .k) (isMarked (c .before .before .args .near .now)) (c .before .before .pre .0 .channels) _ (rw e at (c .before .loop .inv .1)) (c .before .before .pre .0 .vertices)
+returns c =
+    let args = c .before .before .args in
+    let p = c .before .before .pre in
+    let w = c .before .loop in
+    let e : w .i ≡ args .n = (let a = w .inv .0 in let b = c .loop-test .left in omega arith) in
+    sizes-end (args .n) (args .k) (isMarked (args .near .now)) (p .0 .channels) _ (rw e at (w .inv .1)) (p .0 .vertices)
 
 pub fill-sizes-spec : {M : Type 1} → statement M
 fill-sizes-spec =

@@ -28,7 +28,10 @@ fill-place-requires : tie.Need-fill-place-requires Inv-loop μ-loop
 fill-place-requires c κs = (c .before .before .before .before .before .before .before .before .before .pre .0, (c .before .loop-test .taken, c .before .before .loop .inv .1))
 
 add-x : tie.Need-add-x Inv-loop μ-loop
-add-x c = let v = c .before .before .before .before .before .before .before .before .before .before .before .before .pre .0 .vertices in let h = c .before .before .before .before .loop-test .taken in omega arith
+add-x c =
+    let v = c .before .before .before .before .before .before .before .before .before .before .before .before .pre .0 .vertices in
+    let h = c .before .before .before .before .loop-test .taken in
+    omega arith
 
 loop-less : tie.Need-loop-less Inv-loop μ-loop
 loop-less c = search needs
@@ -40,7 +43,11 @@ same-length : tie.Need-same-length Inv-loop μ-loop
 same-length c = c .before .loop .inv .1 .long ∙ sym (c .before .before .before .before .before .before .before .before .pre .1 .long)
 
 returns : tie.Need-returns Inv-loop μ-loop
-returns c = let e : c .before .loop .x ≡ 32 * c .before .before .before .before .before .before .before .before .args .n = (let a = c .before .loop .inv .0 in let b = c .loop-test .left in omega arith) in places-end (c .before .before .before .before .before .before .before .before .args .n) (c .before .before .before .before .before .before .before .before .args .k) (isMarked (c .before .before .before .before .before .before .before .before .args .near .now)) (c .before .before .before .before .before .before .before .before .pre .0 .channels) _ (rw e at (c .before .loop .inv .1))
+returns c =
+    let args = c .before .before .before .before .before .before .before .before .args in
+    let w = c .before .loop in
+    let e : w .x ≡ 32 * args .n = (let a = w .inv .0 in let b = c .loop-test .left in omega arith) in
+    places-end (args .n) (args .k) (isMarked (args .near .now)) (c .before .before .before .before .before .before .before .before .pre .0 .channels) _ (rw e at (w .inv .1))
 
 pub fill-table-spec : {M : Type 1} → statement M
 fill-table-spec =

@@ -13,13 +13,18 @@ slice-aggregate-fill-table : tie.Need-slice-aggregate-fill-table
 slice-aggregate-fill-table c = search needs
 
 fill-table-requires : tie.Need-fill-table-requires
-fill-table-requires c κs = (c .before .before .before .pre .0, blank-table (markedProblem (c .before .before .before .args .near .now) (c .before .before .before .args .n) (c .before .before .before .args .k)))
+fill-table-requires c κs =
+    let a = c .before .before .before .args in
+    (c .before .before .before .pre .0, blank-table (markedProblem (a .near .now) (a .n) (a .k)))
 
 slice-aggregate-write-sheet : tie.Need-slice-aggregate-write-sheet
 slice-aggregate-write-sheet c = search needs
 
 write-sheet-requires : tie.Need-write-sheet-requires
-write-sheet-requires c κs = (rw (c .before .before .before .fill-table .ensures) (table-rows (markedProblem (c .before .before .before .before .before .before .before .args .near .now) (c .before .before .before .before .before .before .before .args .n) (c .before .before .before .before .before .before .before .args .k)) (colouring-bounded (c .before .before .before .before .before .before .before .args .n) (c .before .before .before .before .before .before .before .args .k) (isMarked (c .before .before .before .before .before .before .before .args .near .now)) (c .before .before .before .before .before .before .before .pre .0 .vertices) (c .before .before .before .before .before .before .before .pre .1) (c .before .before .before .before .before .before .before .pre .0 .channels))), record { taken = refl })
+write-sheet-requires c κs =
+    let a = c .before .before .before .before .before .before .before .args in
+    let p = c .before .before .before .before .before .before .before .pre in
+    (rw (c .before .before .before .fill-table .ensures) (table-rows (markedProblem (a .near .now) (a .n) (a .k)) (colouring-bounded (a .n) (a .k) (isMarked (a .near .now)) (p .0 .vertices) (p .1) (p .0 .channels))), record { taken = refl })
 
 enum-told : tie.Need-enum-told
 enum-told c = search needs
@@ -31,13 +36,27 @@ same-length : tie.Need-same-length
 same-length c = search needs
 
 returns : tie.Need-returns
-returns c = let P = (markedProblem (c .before .before .before .before .before .before .before .before .before .before .before .before .args .near .now) (c .before .before .before .before .before .before .before .before .before .before .before .before .args .n) (c .before .before .before .before .before .before .before .before .before .before .before .before .args .k)) in let B = (colouring-bounded (c .before .before .before .before .before .before .before .before .before .before .before .before .args .n) (c .before .before .before .before .before .before .before .before .before .before .before .before .args .k) (isMarked (c .before .before .before .before .before .before .before .before .before .before .before .before .args .near .now)) (c .before .before .before .before .before .before .before .before .before .before .before .before .pre .0 .vertices) (c .before .before .before .before .before .before .before .before .before .before .before .before .pre .1) (c .before .before .before .before .before .before .before .before .before .before .before .before .pre .0 .channels)) in (ap colouredOf (sym (c .enum-told .given .1) ∙ c .before .before .before .before .write-sheet .ensures .0) ∙ write-answers P B _ (c .before .before .before .before .before .before .before .before .before .before .before .before .args .sheet .now) (c .before .before .before .before .before .before .before .before .fill-table .ensures), c .before .before .before .before .write-sheet .ensures .1 ∙ write-leaves P B _ (c .before .before .before .before .before .before .before .before .before .before .before .before .args .sheet .now) (c .before .before .before .before .before .before .before .before .fill-table .ensures))
+returns c =
+    let a = c .before .before .before .before .before .before .before .before .before .before .before .before .args in
+    let p = c .before .before .before .before .before .before .before .before .before .before .before .before .pre in
+    let P = markedProblem (a .near .now) (a .n) (a .k) in
+    let B = colouring-bounded (a .n) (a .k) (isMarked (a .near .now)) (p .0 .vertices) (p .1) (p .0 .channels) in
+    let t = c .before .before .before .before .before .before .before .before .fill-table .ensures in
+    let w = c .before .before .before .before .write-sheet .ensures in
+    (ap colouredOf (sym (c .enum-told .given .1) ∙ w .0) ∙ write-answers P B _ (a .sheet .now) t, w .1 ∙ write-leaves P B _ (a .sheet .now) t)
 
 same-length-2 : tie.Need-same-length-2
 same-length-2 c = search needs
 
 returns-2 : tie.Need-returns-2
-returns-2 c = let P = (markedProblem (c .before .before .before .before .before .before .before .before .before .before .before .before .before .args .near .now) (c .before .before .before .before .before .before .before .before .before .before .before .before .before .args .n) (c .before .before .before .before .before .before .before .before .before .before .before .before .before .args .k)) in let B = (colouring-bounded (c .before .before .before .before .before .before .before .before .before .before .before .before .before .args .n) (c .before .before .before .before .before .before .before .before .before .before .before .before .before .args .k) (isMarked (c .before .before .before .before .before .before .before .before .before .before .before .before .before .args .near .now)) (c .before .before .before .before .before .before .before .before .before .before .before .before .before .pre .0 .vertices) (c .before .before .before .before .before .before .before .before .before .before .before .before .before .pre .1) (c .before .before .before .before .before .before .before .before .before .before .before .before .before .pre .0 .channels)) in (ap colouredOf (sym (c .before .w .given .1) ∙ c .before .before .before .before .before .write-sheet .ensures .0) ∙ write-answers P B _ (c .before .before .before .before .before .before .before .before .before .before .before .before .before .args .sheet .now) (c .before .before .before .before .before .before .before .before .before .fill-table .ensures), c .before .before .before .before .before .write-sheet .ensures .1 ∙ write-leaves P B _ (c .before .before .before .before .before .before .before .before .before .before .before .before .before .args .sheet .now) (c .before .before .before .before .before .before .before .before .before .fill-table .ensures))
+returns-2 c =
+    let a = c .before .before .before .before .before .before .before .before .before .before .before .before .before .args in
+    let p = c .before .before .before .before .before .before .before .before .before .before .before .before .before .pre in
+    let P = markedProblem (a .near .now) (a .n) (a .k) in
+    let B = colouring-bounded (a .n) (a .k) (isMarked (a .near .now)) (p .0 .vertices) (p .1) (p .0 .channels) in
+    let t = c .before .before .before .before .before .before .before .before .before .fill-table .ensures in
+    let w = c .before .before .before .before .before .write-sheet .ensures in
+    (ap colouredOf (sym (c .before .w .given .1) ∙ w .0) ∙ write-answers P B _ (a .sheet .now) t, w .1 ∙ write-leaves P B _ (a .sheet .now) t)
 
 pub write-spec : {M : Type 1} → statement M
 write-spec =

@@ -33,19 +33,34 @@ add-t9 : tie.Need-add-t9 Inv-loop μ-loop
 add-t9 c = search needs
 
 returns : tie.Need-returns Inv-loop μ-loop
-returns c = let q = digits-over _ _ _ _ (c .before .before .before .before .loop .inv) (c .before .before .before .loop-test .taken) (ap isDigit (sym (c .before .before .byte-at .ensures)) ∙ sym (c .before .is-digit .ensures) ∙ not-true _ (c .if1 .taken)) in record { value = q .0; next = q .1 }
+returns c =
+    let q = digits-over _ _ _ _ (c .before .before .before .before .loop .inv) (c .before .before .before .loop-test .taken) (ap isDigit (sym (c .before .before .byte-at .ensures)) ∙ sym (c .before .is-digit .ensures) ∙ not-true _ (c .if1 .taken)) in
+    record { value = q .0; next = q .1 }
 
 mul-value : tie.Need-mul-value Inv-loop μ-loop
 mul-value c = let t = tens-fit _ _ (c .before .before .before .before .loop .inv .small) (c .before .before .before .loop-test .taken) in omega arith
 
 sub-value : tie.Need-sub-value Inv-loop μ-loop
-sub-value c = let l = digit-low (c .before .before .byte-at .result) (sym (c .before .is-digit .ensures) ∙ not-false _ (c .if1 .left)) in let a = l .0 in let b = l .1 in omega arith
+sub-value c =
+    let l = digit-low (c .before .before .byte-at .result) (sym (c .before .is-digit .ensures) ∙ not-false _ (c .if1 .left)) in
+    let a = l .0 in
+    let b = l .1 in
+    omega arith
 
 cast-value : tie.Need-cast-value Inv-loop μ-loop
-cast-value c = let l = digit-low (c .before .before .byte-at .result) (sym (c .before .is-digit .ensures) ∙ not-false _ (c .if1 .left)) in let a = l .0 in let b = l .1 in omega arith
+cast-value c =
+    let l = digit-low (c .before .before .byte-at .result) (sym (c .before .is-digit .ensures) ∙ not-false _ (c .if1 .left)) in
+    let a = l .0 in
+    let b = l .1 in
+    omega arith
 
 add-value : tie.Need-add-value Inv-loop μ-loop
-add-value c = let l = digit-low (c .before .before .byte-at .result) (sym (c .before .is-digit .ensures) ∙ not-false _ (c .if1 .left)) in let a = l .0 in let b = l .1 in let t = tens-fit _ _ (c .before .before .before .before .loop .inv .small) (c .before .before .before .loop-test .taken) in omega arith
+add-value c =
+    let l = digit-low (c .before .before .byte-at .result) (sym (c .before .is-digit .ensures) ∙ not-false _ (c .if1 .left)) in
+    let a = l .0 in
+    let b = l .1 in
+    let t = tens-fit _ _ (c .before .before .before .before .loop .inv .small) (c .before .before .before .loop-test .taken) in
+    omega arith
 
 add-k : tie.Need-add-k Inv-loop μ-loop
 add-k c = search needs
@@ -54,7 +69,11 @@ loop-less : tie.Need-loop-less Inv-loop μ-loop
 loop-less c = search needs
 
 loop-again : tie.Need-loop-again Inv-loop μ-loop
-loop-again c = let d : isDigit (getD (c .before .before .before .before .before .before .args .f .now) (c .before .before .before .before .before .before .args .p + c .before .before .before .before .loop .k) 10) ≡ true = ap isDigit (sym (c .before .before .byte-at .ensures)) ∙ sym (c .before .is-digit .ensures) ∙ not-false _ (c .if1 .left) in rw (c .before .before .byte-at .ensures) (digits-turn _ _ _ _ (c .before .before .before .before .loop .inv) (c .before .before .before .loop-test .taken) d)
+loop-again c =
+    let a = c .before .before .before .before .before .before .args in
+    let w = c .before .before .before .before .loop in
+    let d : isDigit (getD (a .f .now) (a .p + w .k) 10) ≡ true = ap isDigit (sym (c .before .before .byte-at .ensures)) ∙ sym (c .before .is-digit .ensures) ∙ not-false _ (c .if1 .left) in
+    rw (c .before .before .byte-at .ensures) (digits-turn _ _ _ _ (w .inv) (c .before .before .before .loop-test .taken) d)
 
 add-t12 : tie.Need-add-t12 Inv-loop μ-loop
 add-t12 c = search needs

@@ -18,16 +18,23 @@ bad-line-requires : tie.Need-bad-line-requires
 bad-line-requires c κs = search needs
 
 returns : tie.Need-returns
-returns c = bad-here _ _ _ (c .bad-line .ensures) (edge-bad (c .before .before .before .before .args .f .now) (c .before .before .before .before .args .p) (c .before .before .before .before .pre .1) (λ e. c .before .if1 .taken (c .before .before .byte-at .ensures ∙ e)))
+returns c =
+    let a = c .before .before .before .before .args in
+    bad-here _ _ _ (c .bad-line .ensures) (edge-bad (a .f .now) (a .p) (c .before .before .before .before .pre .1) (λ e. c .before .if1 .taken (c .before .before .byte-at .ensures ∙ e)))
 
 add-pair-line : tie.Need-add-pair-line
 add-pair-line c = search needs
 
 pair-line-requires : tie.Need-pair-line-requires
-pair-line-requires c κs = let h = byte-within (c .before .before .before .args .f .now) ((c .before .before .before .args .p) + 1) (λ z. let y : _≡_ {A = ℕ} 10 32 = sym z ∙ sym (c .before .byte-at .ensures) ∙ c .if1 .left in omega arith) in record { short = c .before .before .before .pre .0 .short; within = omega arith }
+pair-line-requires c κs =
+    let a = c .before .before .before .args in
+    let h = byte-within (a .f .now) ((a .p) + 1) (λ z. let y : _≡_ {A = ℕ} 10 32 = sym z ∙ sym (c .before .byte-at .ensures) ∙ c .if1 .left in omega arith) in
+    record { short = c .before .before .before .pre .0 .short; within = omega arith }
 
 returns-2 : tie.Need-returns-2
-returns-2 c = edge-here (c .before .before .before .before .args .f .now) (c .before .before .before .before .args .p) (c .before .before .before .before .pre .1) (sym (c .before .before .byte-at .ensures) ∙ c .before .if1 .left) _ (c .pair-line .ensures)
+returns-2 c =
+    let a = c .before .before .before .before .args in
+    edge-here (a .f .now) (a .p) (c .before .before .before .before .pre .1) (sym (c .before .before .byte-at .ensures) ∙ c .before .if1 .left) _ (c .pair-line .ensures)
 
 pub edge-line-spec : {M : Type 1} → statement M
 edge-line-spec =

@@ -29,7 +29,9 @@ add-t7 : tie.Need-add-t7
 add-t7 c = search needs
 
 returns-4 : tie.Need-returns-4
-returns-4 c = let e = c .before .before .before .before .digits-at .ensures .next in record { some = omega arith; few = omega arith; ends = sep-at _ _ _ e ∙ sym (c .before .byte-at .ensures) ∙ c .if3 .left; value = c .before .before .before .before .digits-at .ensures .value; next = omega arith }
+returns-4 c =
+    let e = c .before .before .before .before .digits-at .ensures .next in
+    record { some = omega arith; few = omega arith; ends = sep-at _ _ _ e ∙ sym (c .before .byte-at .ensures) ∙ c .if3 .left; value = c .before .before .before .before .digits-at .ensures .value; next = omega arith }
 
 pub field-at-spec : {M : Type 1} → statement M
 field-at-spec =

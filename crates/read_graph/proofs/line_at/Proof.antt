@@ -13,7 +13,10 @@ shared-slice-read-b : tie.Need-shared-slice-read-b
 shared-slice-read-b c = search needs
 
 edge-line-requires : tie.Need-edge-line-requires
-edge-line-requires c κs = (c .before .before .before .pre .0, sym (getD-any (c .before .before .before .args .f .now) (c .before .before .before .args .p) 0 10 (c .before .before .before .pre .1)) ∙ c .if1 .taken)
+edge-line-requires c κs =
+    let a = c .before .before .before .args in
+    let p = c .before .before .before .pre in
+    (p .0, sym (getD-any (a .f .now) (a .p) 0 10 (p .1)) ∙ c .if1 .taken)
 
 returns : tie.Need-returns
 returns c = search needs
@@ -22,13 +25,24 @@ line-end-requires : tie.Need-line-end-requires
 line-end-requires c κs = search needs
 
 add-t9 : tie.Need-add-t9
-add-t9 c = let e = c .line-end .ensures in let w = line-within (drop (c .before .before .before .before .before .args .p) (c .before .before .before .before .before .args .f .now)) in let d = length-drop (c .before .before .before .before .before .args .p) (c .before .before .before .before .before .args .f .now) in let s = c .before .before .before .before .before .pre .0 .short in omega arith
+add-t9 c =
+    let a = c .before .before .before .before .before .args in
+    let e = c .line-end .ensures in
+    let w = line-within (drop (a .p) (a .f .now)) in
+    let d = length-drop (a .p) (a .f .now) in
+    let s = c .before .before .before .before .before .pre .0 .short in
+    omega arith
 
 returns-2 : tie.Need-returns-2
-returns-2 c = comment-here (c .before .before .before .before .before .args .f .now) (c .before .before .before .before .before .args .p) _ (sym (getD-any (c .before .before .before .before .before .args .f .now) (c .before .before .before .before .before .args .p) 0 10 (c .before .before .before .before .before .pre .1)) ∙ c .before .if2 .taken) (let e = c .line-end .ensures in omega arith)
+returns-2 c =
+    let a = c .before .before .before .before .before .args in
+    comment-here (a .f .now) (a .p) _ (sym (getD-any (a .f .now) (a .p) 0 10 (c .before .before .before .before .before .pre .1)) ∙ c .before .if2 .taken) (let e = c .line-end .ensures in omega arith)
 
 size-line-requires : tie.Need-size-line-requires
-size-line-requires c κs = (c .before .before .before .before .pre .0, record { comment = λ e. c .if2 .left (getD-any (c .before .before .before .before .args .f .now) (c .before .before .before .before .args .p) 0 10 (c .before .before .before .before .pre .1) ∙ e); edge = λ e. c .before .if1 .left (getD-any (c .before .before .before .before .args .f .now) (c .before .before .before .before .args .p) 0 10 (c .before .before .before .before .pre .1) ∙ e) })
+size-line-requires c κs =
+    let a = c .before .before .before .before .args in
+    let p = c .before .before .before .before .pre in
+    (p .0, record { comment = λ e. c .if2 .left (getD-any (a .f .now) (a .p) 0 10 (p .1) ∙ e); edge = λ e. c .before .if1 .left (getD-any (a .f .now) (a .p) 0 10 (p .1) ∙ e) })
 
 returns-3 : tie.Need-returns-3
 returns-3 c = search needs

@@ -15,43 +15,78 @@ is-outside-requires-2 : tie.Need-is-outside-requires-2
 is-outside-requires-2 c κs = search needs
 
 returns : tie.Need-returns
-returns c = unmarked-by _ _ (λ i j h l. outside-joins (c .before .before .before .before .args .a) (c .before .before .before .before .args .b) i j ((λ k. sym (c .before .before .is-outside .ensures) k || sym (c .before .is-outside2 .ensures) k) ∙ c .if1 .taken) h l)
+returns c =
+    let a = c .before .before .before .before .args in
+    unmarked-by _ _ (λ i j h l. outside-joins (a .a) (a .b) i j ((λ k. sym (c .before .before .is-outside .ensures) k || sym (c .before .is-outside2 .ensures) k) ∙ c .if1 .taken) h l)
 
 sub-near : tie.Need-sub-near
-sub-near c = let h = inside _ _ (c .before .before .before .before .args .a) (c .before .before .before .before .args .b) (c .before .before .is-outside .ensures) (c .before .is-outside2 .ensures) (c .if1 .left) in omega arith
+sub-near c =
+    let a = c .before .before .before .before .args in
+    let h = inside _ _ (a .a) (a .b) (c .before .before .is-outside .ensures) (c .before .is-outside2 .ensures) (c .if1 .left) in
+    omega arith
 
 mul-near : tie.Need-mul-near
-mul-near c = let h = inside _ _ (c .before .before .before .before .args .a) (c .before .before .before .before .args .b) (c .before .before .is-outside .ensures) (c .before .is-outside2 .ensures) (c .if1 .left) in omega arith
+mul-near c =
+    let a = c .before .before .before .before .args in
+    let h = inside _ _ (a .a) (a .b) (c .before .before .is-outside .ensures) (c .before .is-outside2 .ensures) (c .if1 .left) in
+    omega arith
 
 sub-near-2 : tie.Need-sub-near-2
-sub-near-2 c = let h = inside _ _ (c .before .before .before .before .args .a) (c .before .before .before .before .args .b) (c .before .before .is-outside .ensures) (c .before .is-outside2 .ensures) (c .if1 .left) in omega arith
+sub-near-2 c =
+    let a = c .before .before .before .before .args in
+    let h = inside _ _ (a .a) (a .b) (c .before .before .is-outside .ensures) (c .before .is-outside2 .ensures) (c .if1 .left) in
+    omega arith
 
 add-near : tie.Need-add-near
-add-near c = let h = inside _ _ (c .before .before .before .before .args .a) (c .before .before .before .before .args .b) (c .before .before .is-outside .ensures) (c .before .is-outside2 .ensures) (c .if1 .left) in omega arith
+add-near c =
+    let a = c .before .before .before .before .args in
+    let h = inside _ _ (a .a) (a .b) (c .before .before .is-outside .ensures) (c .before .is-outside2 .ensures) (c .if1 .left) in
+    omega arith
 
 slice-write-near : tie.Need-slice-write-near
-slice-write-near c = let h = inside _ _ (c .before .before .before .before .args .a) (c .before .before .before .before .args .b) (c .before .before .is-outside .ensures) (c .before .is-outside2 .ensures) (c .if1 .left) in omega arith
+slice-write-near c =
+    let a = c .before .before .before .before .args in
+    let h = inside _ _ (a .a) (a .b) (c .before .before .is-outside .ensures) (c .before .is-outside2 .ensures) (c .if1 .left) in
+    omega arith
 
 sub-near-3 : tie.Need-sub-near-3
-sub-near-3 c = let h = inside _ _ (c .before .before .before .before .args .a) (c .before .before .before .before .args .b) (c .before .before .is-outside .ensures) (c .before .is-outside2 .ensures) (c .if1 .left) in omega arith
+sub-near-3 c =
+    let a = c .before .before .before .before .args in
+    let h = inside _ _ (a .a) (a .b) (c .before .before .is-outside .ensures) (c .before .is-outside2 .ensures) (c .if1 .left) in
+    omega arith
 
 mul-near-2 : tie.Need-mul-near-2
-mul-near-2 c = let h = inside _ _ (c .before .before .before .before .args .a) (c .before .before .before .before .args .b) (c .before .before .is-outside .ensures) (c .before .is-outside2 .ensures) (c .if1 .left) in omega arith
+mul-near-2 c =
+    let a = c .before .before .before .before .args in
+    let h = inside _ _ (a .a) (a .b) (c .before .before .is-outside .ensures) (c .before .is-outside2 .ensures) (c .if1 .left) in
+    omega arith
 
 sub-near-4 : tie.Need-sub-near-4
-sub-near-4 c = let h = inside _ _ (c .before .before .before .before .args .a) (c .before .before .before .before .args .b) (c .before .before .is-outside .ensures) (c .before .is-outside2 .ensures) (c .if1 .left) in omega arith
+sub-near-4 c =
+    let a = c .before .before .before .before .args in
+    let h = inside _ _ (a .a) (a .b) (c .before .before .is-outside .ensures) (c .before .is-outside2 .ensures) (c .if1 .left) in
+    omega arith
 
 add-near-2 : tie.Need-add-near-2
-add-near-2 c = let h = inside _ _ (c .before .before .before .before .args .a) (c .before .before .before .before .args .b) (c .before .before .is-outside .ensures) (c .before .is-outside2 .ensures) (c .if1 .left) in omega arith
+add-near-2 c =
+    let a = c .before .before .before .before .args in
+    let h = inside _ _ (a .a) (a .b) (c .before .before .is-outside .ensures) (c .before .is-outside2 .ensures) (c .if1 .left) in
+    omega arith
 
 slice-write-near-2 : tie.Need-slice-write-near-2
-slice-write-near-2 c = let h = inside _ _ (c .before .before .before .before .args .a) (c .before .before .before .before .args .b) (c .before .before .is-outside .ensures) (c .before .is-outside2 .ensures) (c .if1 .left) in simp length-set (omega arith)
+slice-write-near-2 c =
+    let a = c .before .before .before .before .args in
+    let h = inside _ _ (a .a) (a .b) (c .before .before .is-outside .ensures) (c .before .is-outside2 .ensures) (c .if1 .left) in
+    simp length-set (omega arith)
 
 same-length : tie.Need-same-length
 same-length c = search needs
 
 returns-2 : tie.Need-returns-2
-returns-2 c = let h = inside _ _ (c .before .before .before .before .args .a) (c .before .before .before .before .args .b) (c .before .before .is-outside .ensures) (c .before .is-outside2 .ensures) (c .if1 .left) in pair-marked _ _ _ (c .before .before .before .before .pre) (h .a-some) (h .a-few) (h .b-some) (h .b-few)
+returns-2 c =
+    let a = c .before .before .before .before .args in
+    let h = inside _ _ (a .a) (a .b) (c .before .before .is-outside .ensures) (c .before .is-outside2 .ensures) (c .if1 .left) in
+    pair-marked _ _ _ (c .before .before .before .before .pre) (h .a-some) (h .a-few) (h .b-some) (h .b-few)
 
 pub mark-pair-spec : {M : Type 1} → statement M
 mark-pair-spec =

@@ -20,7 +20,11 @@ enum-known-a : tie.Need-enum-known-a
 enum-known-a c = search needs
 
 field-at-requires-2 : tie.Need-field-at-requires-2
-field-at-requires-2 c κs = let N : NumberAt (c .before .before .before .before .before .args .f .now) (c .before .before .before .before .before .args .p) 32 (c .before .a .given .0 .0) (c .before .a .given .0 .1 .0) = rw (c .before .a .given .1) at (c .before .before .before .field-at .ensures) in number-place _ _ _ _ N (c .before .before .before .before .before .pre)
+field-at-requires-2 c κs =
+    let a = c .before .before .before .before .before .args in
+    let x = c .before .a .given in
+    let N : NumberAt (a .f .now) (a .p) 32 (x .0 .0) (x .0 .1 .0) = rw (x .1) at (c .before .before .before .field-at .ensures) in
+    number-place _ _ _ _ N (c .before .before .before .before .before .pre)
 
 enum-told-2 : tie.Need-enum-told-2
 enum-told-2 c = search needs
@@ -35,13 +39,28 @@ two-numbers-requires : tie.Need-two-numbers-requires
 two-numbers-requires c κs = search needs
 
 returns : tie.Need-returns
-returns c = let N : FieldAt (c .before .before .before .before .before .args .f .now) (c .before .before .before .before .before .args .p) 32 NoNumber = rw (c .before .enum-told .given .1) at (c .before .before .before .field-at .ensures) in record { is = c .bad-line .ensures ∙ sym (pair-first (c .before .before .before .before .before .args .f .now) (c .before .before .before .before .before .args .p) (formOf (c .before .before .before .before .before .args .edge)) N); after = λ n. absurd (n (c .bad-line .ensures)) }
+returns c =
+    let a = c .before .before .before .before .before .args in
+    let N : FieldAt (a .f .now) (a .p) 32 NoNumber = rw (c .before .enum-told .given .1) at (c .before .before .before .field-at .ensures) in
+    record { is = c .bad-line .ensures ∙ sym (pair-first (a .f .now) (a .p) (formOf (a .edge)) N); after = λ n. absurd (n (c .bad-line .ensures)) }
 
 returns-2 : tie.Need-returns-2
-returns-2 c = let N : NumberAt (c .before .before .before .before .before .before .before .before .before .args .f .now) (c .before .before .before .before .before .before .before .before .before .args .p) 32 (c .before .before .before .before .before .a .given .0 .0) (c .before .before .before .before .before .a .given .0 .1 .0) = rw (c .before .before .before .before .before .a .given .1) at (c .before .before .before .before .before .before .before .field-at .ensures) in let M : FieldAt (c .before .before .before .before .before .before .before .before .before .args .f .now) (c .before .before .before .before .before .a .given .0 .1 .0) 10 NoNumber = rw (c .before .enum-told2 .given .1) at (c .before .before .before .field-at2 .ensures) in record { is = c .bad-line2 .ensures ∙ sym (pair-second _ _ _ _ N (formOf (c .before .before .before .before .before .before .before .before .before .args .edge)) M); after = λ n. absurd (n (c .bad-line2 .ensures)) }
+returns-2 c =
+    let a = c .before .before .before .before .before .before .before .before .before .args in
+    let x = c .before .before .before .before .before .a .given in
+    let N : NumberAt (a .f .now) (a .p) 32 (x .0 .0) (x .0 .1 .0) = rw (x .1) at (c .before .before .before .before .before .before .before .field-at .ensures) in
+    let M : FieldAt (a .f .now) (x .0 .1 .0) 10 NoNumber = rw (c .before .enum-told2 .given .1) at (c .before .before .before .field-at2 .ensures) in
+    record { is = c .bad-line2 .ensures ∙ sym (pair-second _ _ _ _ N (formOf (a .edge)) M); after = λ n. absurd (n (c .bad-line2 .ensures)) }
 
 returns-3 : tie.Need-returns-3
-returns-3 c = let N : NumberAt (c .before .before .before .before .before .before .before .before .before .before .args .f .now) (c .before .before .before .before .before .before .before .before .before .before .args .p) 32 (c .before .before .before .before .before .before .a .given .0 .0) (c .before .before .before .before .before .before .a .given .0 .1 .0) = rw (c .before .before .before .before .before .before .a .given .1) at (c .before .before .before .before .before .before .before .before .field-at .ensures) in let M : NumberAt (c .before .before .before .before .before .before .before .before .before .before .args .f .now) (c .before .before .before .before .before .before .a .given .0 .1 .0) 10 (c .before .before .b .given .0 .0) (c .before .before .b .given .0 .1 .0) = rw (c .before .before .b .given .1) at (c .before .before .before .before .field-at2 .ensures) in let q = pair-both _ _ _ _ N (formOf (c .before .before .before .before .before .before .before .before .before .before .args .edge)) _ _ M in record { is = c .two-numbers .ensures ∙ sym (q .0); after = λ n. q .1 }
+returns-3 c =
+    let a = c .before .before .before .before .before .before .before .before .before .before .args in
+    let x = c .before .before .before .before .before .before .a .given in
+    let N : NumberAt (a .f .now) (a .p) 32 (x .0 .0) (x .0 .1 .0) = rw (x .1) at (c .before .before .before .before .before .before .before .before .field-at .ensures) in
+    let y = c .before .before .b .given in
+    let M : NumberAt (a .f .now) (x .0 .1 .0) 10 (y .0 .0) (y .0 .1 .0) = rw (y .1) at (c .before .before .before .before .field-at2 .ensures) in
+    let q = pair-both _ _ _ _ N (formOf (a .edge)) _ _ M in
+    record { is = c .two-numbers .ensures ∙ sym (q .0); after = λ n. q .1 }
 
 pub pair-line-spec : {M : Type 1} → statement M
 pair-line-spec =

@@ -23,22 +23,49 @@ line-at-requires : tie.Need-line-at-requires Inv-loop μ-loop
 line-at-requires c κs = let h = c .loop-test .taken in (record { short = c .before .before .before .before .pre .0; within = omega arith }, h)
 
 step-requires : tie.Need-step-requires Inv-loop μ-loop
-step-requires c κs = let h = c .before .loop-test .taken in let k = c .before .before .loop .inv .few in let s = c .before .before .before .before .before .pre .0 in omega arith
+step-requires c κs =
+    let h = c .before .loop-test .taken in
+    let k = c .before .before .loop .inv .few in
+    let s = c .before .before .before .before .before .pre .0 in
+    omega arith
 
 same-length : tie.Need-same-length Inv-loop μ-loop
-same-length c = let a = c .before .before .before .before .before .loop .inv .long in let b = c .before .before .before .before .before .before .before .before .pre .1 .long in a ∙ sym b
+same-length c =
+    let a = c .before .before .before .before .before .loop .inv .long in
+    let b = c .before .before .before .before .before .before .before .before .pre .1 .long in
+    a ∙ sym b
 
 returns : tie.Need-returns Inv-loop μ-loop
-returns c = let away = reading-away (c .before .before .before .before .before .before .before .before .args .f .now) _ _ _ (c .before .before .before .before .before .loop .inv) (c .before .before .before .before .loop-test .taken) _ (c .before .before .before .line-at .ensures) (ap (λ (x : Tally). x .good) (sym (c .before .before .step .ensures)) ∙ not-true _ (c .if1 .taken)) in record { is = sym away; long = c .before .before .before .before .before .loop .inv .long; marks = λ n. absurd (n refl) }
+returns c =
+    let f = c .before .before .before .before .before .before .before .before .args .f .now in
+    let w = c .before .before .before .before .before .loop in
+    let bad = ap (λ (x : Tally). x .good) (sym (c .before .before .step .ensures)) ∙ not-true _ (c .if1 .taken) in
+    let away = reading-away f _ _ _ (w .inv) (c .before .before .before .before .loop-test .taken) _ (c .before .before .before .line-at .ensures) bad in
+    record { is = sym away; long = w .inv .long; marks = λ n. absurd (n refl) }
 
 mark-requires : tie.Need-mark-requires Inv-loop μ-loop
 mark-requires c κs = c .before .before .before .before .before .before .loop .inv .long
 
 loop-less : tie.Need-loop-less Inv-loop μ-loop
-loop-less c = let h = c .before .before .before .before .before .before .before .before .loop-test .taken in let r = reading-rises (c .before .before .before .before .before .before .before .before .before .before .before .before .args .f .now) _ _ _ (c .before .before .before .before .before .before .before .before .before .loop .inv) h _ (c .before .before .before .before .before .before .before .line-at .ensures) (ap (λ (x : Tally). x .good) (sym (c .before .before .before .before .before .before .step .ensures)) ∙ not-false _ (c .before .before .before .before .if1 .left)) in omega arith
+loop-less c =
+    let f = c .before .before .before .before .before .before .before .before .before .before .before .before .args .f .now in
+    let w = c .before .before .before .before .before .before .before .before .before .loop .inv in
+    let h = c .before .before .before .before .before .before .before .before .loop-test .taken in
+    let l = c .before .before .before .before .before .before .before .line-at .ensures in
+    let step = c .before .before .before .before .before .before .step .ensures in
+    let good = ap (λ (x : Tally). x .good) (sym step) ∙ not-false _ (c .before .before .before .before .if1 .left) in
+    let r = reading-rises f _ _ _ w h _ l good in
+    omega arith
 
 loop-again : tie.Need-loop-again Inv-loop μ-loop
-loop-again c = rw (c .before .before .before .before .before .before .step .ensures) (reading-turns (c .before .before .before .before .before .before .before .before .before .before .before .before .args .f .now) _ _ _ (c .before .before .before .before .before .before .before .before .before .loop .inv) (c .before .before .before .before .before .before .before .before .loop-test .taken) _ (c .before .before .before .before .before .before .before .line-at .ensures) (ap (λ (x : Tally). x .good) (sym (c .before .before .before .before .before .before .step .ensures)) ∙ not-false _ (c .before .before .before .before .if1 .left)) _ (c .before .before .mark .ensures))
+loop-again c =
+    let f = c .before .before .before .before .before .before .before .before .before .before .before .before .args .f .now in
+    let w = c .before .before .before .before .before .before .before .before .before .loop .inv in
+    let h = c .before .before .before .before .before .before .before .before .loop-test .taken in
+    let l = c .before .before .before .before .before .before .before .line-at .ensures in
+    let step = c .before .before .before .before .before .before .step .ensures in
+    let good = ap (λ (x : Tally). x .good) (sym step) ∙ not-false _ (c .before .before .before .before .if1 .left) in
+    rw step (reading-turns f _ _ _ w h _ l good _ (c .before .before .mark .ensures))
 
 ended-requires : tie.Need-ended-requires Inv-loop μ-loop
 ended-requires c κs = search needs

@@ -17,7 +17,8 @@ bad-line-requires : tie.Need-bad-line-requires
 bad-line-requires c κs = search needs
 
 returns : tie.Need-returns
-returns c = bad-here _ _ _ (c .bad-line .ensures) (size-bad _ _ (c .before .before .before .before .before .pre .1) (sym (c .before .before .begins .ensures) ∙ not-true _ (c .before .if1 .taken)))
+returns c =
+    bad-here _ _ _ (c .bad-line .ensures) (size-bad _ _ (c .before .before .before .before .before .pre .1) (sym (c .before .before .begins .ensures) ∙ not-true _ (c .before .if1 .taken)))
 
 add-pair-line : tie.Need-add-pair-line
 add-pair-line c = search needs
@@ -26,7 +27,8 @@ pair-line-requires : tie.Need-pair-line-requires
 pair-line-requires c κs = word-place _ sizeWord _ (c .before .before .before .before .pre .0) (sym (c .before .begins .ensures) ∙ not-false _ (c .if1 .left))
 
 returns-2 : tie.Need-returns-2
-returns-2 c = size-here _ _ (c .before .before .before .before .before .pre .1) (sym (c .before .before .begins .ensures) ∙ not-false _ (c .before .if1 .left)) _ (c .pair-line .ensures)
+returns-2 c =
+    size-here _ _ (c .before .before .before .before .before .pre .1) (sym (c .before .before .begins .ensures) ∙ not-false _ (c .before .if1 .left)) _ (c .pair-line .ensures)
 
 pub size-line-spec : {M : Type 1} → statement M
 size-line-spec =

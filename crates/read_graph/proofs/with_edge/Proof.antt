@@ -11,7 +11,9 @@ turned-away-requires : tie.Need-turned-away-requires
 turned-away-requires c κs = search needs
 
 returns : tie.Need-returns
-returns c = c .turned-away .ensures ∙ sym (step-astray (c .before .before .before .args .g) (c .before .before .before .args .a) (c .before .before .before .args .b) (unsized (c .before .before .before .args .g) (c .before .before .before .args .a) (c .before .before .before .args .b) (not-true _ (c .before .if1 .taken))))
+returns c =
+    let a = c .before .before .before .args in
+    c .turned-away .ensures ∙ sym (step-astray (a .g) (a .a) (a .b) (unsized (a .g) (a .a) (a .b) (not-true _ (c .before .if1 .taken))))
 
 is-outside-requires : tie.Need-is-outside-requires
 is-outside-requires c κs = search needs
@@ -23,13 +25,17 @@ turned-away-requires-2 : tie.Need-turned-away-requires-2
 turned-away-requires-2 c κs = search needs
 
 returns-2 : tie.Need-returns-2
-returns-2 c = c .turned-away2 .ensures ∙ sym (step-astray (c .before .before .before .before .before .before .args .g) (c .before .before .before .before .before .before .args .a) (c .before .before .before .before .before .before .args .b) (out-of-range (c .before .before .before .before .before .before .args .g) (c .before .before .before .before .before .before .args .a) (c .before .before .before .before .before .before .args .b) _ _ (c .before .before .before .is-outside .ensures) (c .before .before .is-outside2 .ensures) (c .before .if2 .taken)))
+returns-2 c =
+    let a = c .before .before .before .before .before .before .args in
+    c .turned-away2 .ensures ∙ sym (step-astray (a .g) (a .a) (a .b) (out-of-range (a .g) (a .a) (a .b) _ _ (c .before .before .before .is-outside .ensures) (c .before .before .is-outside2 .ensures) (c .before .if2 .taken)))
 
 add-t7 : tie.Need-add-t7
 add-t7 c = search needs
 
 returns-3 : tie.Need-returns-3
-returns-3 c = sym (step-edge (c .before .before .before .before .before .before .before .args .g) (c .before .before .before .before .before .before .before .args .a) (c .before .before .before .before .before .before .before .args .b) (in-place (c .before .before .before .before .before .before .before .args .g) (c .before .before .before .before .before .before .before .args .a) (c .before .before .before .before .before .before .before .args .b) _ _ (c .before .before .before .before .is-outside .ensures) (c .before .before .before .is-outside2 .ensures) (not-false _ (c .before .before .before .before .before .if1 .left)) (c .before .before .if2 .left)))
+returns-3 c =
+    let a = c .before .before .before .before .before .before .before .args in
+    sym (step-edge (a .g) (a .a) (a .b) (in-place (a .g) (a .a) (a .b) _ _ (c .before .before .before .before .is-outside .ensures) (c .before .before .before .is-outside2 .ensures) (not-false _ (c .before .before .before .before .before .if1 .left)) (c .before .before .if2 .left)))
 
 pub with-edge-spec : {M : Type 1} → statement M
 with-edge-spec =

@@ -9,7 +9,9 @@ turned-away-requires : tie.Need-turned-away-requires
 turned-away-requires c κs = search needs
 
 returns : tie.Need-returns
-returns c = c .turned-away .ensures ∙ sym (step-again (c .before .before .args .g) (c .before .before .args .v) (c .before .before .args .e) (c .before .if1 .taken))
+returns c =
+    let a = c .before .before .args in
+    c .turned-away .ensures ∙ sym (step-again (a .g) (a .v) (a .e) (c .before .if1 .taken))
 
 returns-2 : tie.Need-returns-2
 returns-2 c = sym (step-size (c .before .args .g) (c .before .args .v) (c .before .args .e) (c .if1 .left))
