@@ -1,15 +1,19 @@
--- The digits of an argument, one after the other. Assumes nothing.
+-- What an argument names, from the number that is read at its front. Assumes nothing.
 use mathlib.Core.Path.{_≡_, refl, sym, ap, _∙_}
-use mathlib.Core.Bool.{true, false, and-false}
+use mathlib.Core.Bool.{true, false, cond, _&&_, and-false}
 use mathlib.Core.List.{List, [], _∷_}
-use Prim.Native.Nat.{ℕ, _+_, _-_, _*_, _^_, _≤_, _<_}
-use native.Mathlib.Nat.{pow-suc, pow-le-pow-right}
-use native.Mathlib.Numerals.{add-one}
+use mathlib.Core.Logic.{_⊎_, inl, inr, _≢_}
+use Prim.Native.Nat.{ℕ, _+_, _≤_, _<_}
 use native.Mathlib.Omega.{arith}
-use lib.ListN.{length, drop, getD}
-use lib.Seq.{drop-cons, drop-length}
-use borrow.Author.Tests.{le-leb, lt-leb}
-use Rattle.graph.specs.Graph.{isDigit, allDigits, isNumber, decimalFrom, decimalOf}
+use lib.Dec.{eqb, leb}
+use lib.ListN.{length, getD, List·getD-eq-default}
+use borrow.Author.Tests.{leb-true, le-leb, lt-leb, eq-eqb, ne-eqb}
+use Rattle.bounded.proofs.Truth.{both, split, eq-dec}
+use Rattle.graph.specs.Graph.{allDigits, isNumber, decimalFrom, decimalOf}
+use Rattle.graph.specs.Scan.{digitsIn}
+use Rattle.graph.proofs.Fields.{digits-whole, whole-digits}
+use Rattle.read_graph.specs.Parts.{NumberAt, FieldAt}
+use Rattle.read_graph.specs.declared.Field.the-variants.{NoNumber}
 use Rattle.colour_sheet.specs.Argument.{channelsOf}
 
 -- the arguments `16`, `007`, nothing, `3x`, and ten digits
@@ -22,80 +26,50 @@ pub worked-arguments :
 unfolding channelsOf isNumber allDigits decimalFrom
 worked-arguments = (refl, refl, refl, refl, refl)
 
--- k digits of the argument are passed and say x
-pub record Passed (w : List ℕ) (x k : ℕ) : Type 0 where
-  pub few : length w ≤ 9
-  pub within : k ≤ length w
-  pub small : x < 10 ^ k
-  pub value : decimalFrom x (drop k w) ≡ decimalOf w
-  pub digits : allDigits (drop k w) ≡ allDigits w
+-- an argument that is no number names no channel
+none : (w : List ℕ) → isNumber w ≡ false → channelsOf w ≡ 0
+unfolding channelsOf
+none w e = rw e
 
-pub passed-start : (w : List ℕ) → length w ≤ 9 → Passed w 0 0
-passed-start w h = record { few = h; within = omega arith; small = omega arith; value = refl; digits = refl }
+pub none-long : (w : List ℕ) → 9 < length w → channelsOf w ≡ 0
+unfolding isNumber
+none-long w h = none w (rw (lt-leb (length w) 9 h, and-false (leb 1 (length w)), and-false (allDigits w)))
 
--- nine digits say less than 10 ^ 9
-pub passed-fits : (w : List ℕ) (x k : ℕ) → Passed w x k → x < 1000000000
-passed-fits w x k I =
-    let few = I .few in
-    let within = I .within in
-    let small = I .small in
-    let m : 10 ^ k ≤ 10 ^ 9 = pow-le-pow-right {n = 10} (omega arith) (let q : k ≤ 9 = omega arith in q) in
-    omega arith
+-- a number is read whole
+read-whole : (w : List ℕ) → isNumber w ≡ true → (1 ≤ length w) × ((length w ≤ 9) × (digitsIn 10 w ≡ w))
+unfolding isNumber
+read-whole w e =
+    let p = both (allDigits w) (leb 1 (length w) && leb (length w) 9) e in
+    let q = both (leb 1 (length w)) (leb (length w) 9) (p .1) in
+    let few = leb-true (length w) 9 (q .1) in
+    (leb-true 1 (length w) (q .0), (few, digits-whole 10 w (p .0) (omega arith)))
 
--- an argument with another byte than digits, or with too many, names no channel
-none-other : (w : List ℕ) → allDigits w ≡ false → 0 ≡ channelsOf w
+-- where none is read, it is none
+pub none-read : (w : List ℕ) → FieldAt w 0 10 NoNumber → channelsOf w ≡ 0
+none-read w h = go (split (isNumber w)) h
+  where
+    go : (isNumber w ≡ true) ⊎ (isNumber w ≡ false) → FieldAt w 0 10 NoNumber → channelsOf w ≡ 0
+    go (inr e) h = none w e
+    go (inl e) (inl (inl z)) = let q = read-whole w e in let s = q .0 in let l = ap length (q .1 .1) in absurd (omega arith)
+    go (inl e) (inl (inr z)) = let q = read-whole w e in let s = q .1 .0 in let l = ap length (q .1 .1) in absurd (omega arith)
+    go (inl e) (inr z) = absurd (z (ap (λ (l : List ℕ). getD w (length l) 10) (read-whole w e .1 .1) ∙ List·getD-eq-default w 10 {n = length w} (omega arith)))
+
+-- where one is read, it is the argument's if it ends with it
+pub one-read : (w : List ℕ) (x n : ℕ) → NumberAt w 0 10 x n → cond (eqb n (length w + 1)) x 0 ≡ channelsOf w
 unfolding channelsOf isNumber
-none-other w e = rw (channelsOf, isNumber, e)
-
-pub none-long : (w : List ℕ) → 9 < length w → 0 ≡ channelsOf w
-unfolding channelsOf isNumber
-none-long w h =
-    let e = lt-leb (length w) 9 h in
-    rw (channelsOf, isNumber, e, and-false, and-false)
-
--- one of digits only, and not too many, names their number: also the empty one, which is no number
-number : (w : List ℕ) → allDigits w ≡ true → length w ≤ 9 → decimalOf w ≡ channelsOf w
-unfolding channelsOf isNumber decimalFrom allDigits
-number [] d f = refl
-number (y ∷ v) d f = rw (channelsOf, isNumber, d, le-leb 1 (length (y ∷ v)) (omega arith), le-leb (length (y ∷ v)) 9 f)
-
-module _ (w : List ℕ) (x k : ℕ) (I : Passed w x k) where
-  module _ (more : k < length w) where
-    next : drop k w ≡ getD w k 0 ∷ drop (k + 1) w
-    next = drop-cons w k 0 more ∙ ap (λ (n : ℕ). getD w k 0 ∷ drop n w) (sym (add-one k))
-
-    pub passed-turn : 48 ≤ getD w k 0 → getD w k 0 ≤ 57 → Passed w (x * 10 + (getD w k 0 - 48)) (k + 1)
-    unfolding decimalFrom allDigits
-    passed-turn a b =
-        let small = I .small in
-        let p : 10 ^ (k + 1) ≡ 10 ^ k * 10 = ap (λ (n : ℕ). 10 ^ n) (add-one k) ∙ pow-suc 10 k in
-        let e : allDigits (getD w k 0 ∷ drop (k + 1) w) ≡ allDigits (drop (k + 1) w) =
-        rw (allDigits, le-leb 48 (getD w k 0) a, le-leb (getD w k 0) 57 b) in
-        record {
-          few = I .few;
-          within = omega arith;
-          small = omega arith;
-          value = ap (decimalFrom x) (sym next) ∙ I .value;
-          digits = sym e ∙ (ap allDigits (sym next) ∙ I .digits);
-        }
-
-    none-digit : isDigit (getD w k 0) ≡ false → 0 ≡ channelsOf w
-    unfolding allDigits
-    none-digit d =
-        let e : allDigits (getD w k 0 ∷ drop (k + 1) w) ≡ false = rw (allDigits, d) in
-        none-other w (sym (I .digits) ∙ (ap allDigits next ∙ e))
-
-    pub none-low : getD w k 0 < 48 → 0 ≡ channelsOf w
-    none-low h = none-digit (rw (lt-leb 48 (getD w k 0) h))
-
-    pub none-high : 57 < getD w k 0 → 0 ≡ channelsOf w
-    none-high h = none-digit (rw (lt-leb (getD w k 0) 57 h, and-false))
-
-  -- all of it is passed
-  pub passed-end : length w ≤ k → x ≡ channelsOf w
-  unfolding allDigits decimalFrom
-  passed-end h =
-      let within = I .within in
-      let q : k ≡ length w = omega arith in
-      let r : drop k w ≡ [] = ap (λ (n : ℕ). drop n w) q ∙ drop-length w in
-      ap (decimalFrom x) (sym r) ∙ (I .value ∙ number w (sym (I .digits) ∙ ap allDigits r) (I .few))
+one-read w x n N = go (eq-dec n (length w + 1))
+  where
+    go : (n ≡ length w + 1) ⊎ (n ≢ length w + 1) → cond (eqb n (length w + 1)) x 0 ≡ channelsOf w
+    go (inl e) =
+        let m = N .next in
+        let l : length (digitsIn 10 w) ≡ length w = omega arith in
+        let d = whole-digits 10 w l in
+        let s = N .some in
+        let f = N .few in
+        let q : isNumber w ≡ true = simp (d, le-leb 1 (length w) (let z : 1 ≤ length w = omega arith in z), le-leb (length w) 9 (let z : length w ≤ 9 = omega arith in z)) in
+        rw (eq-eqb n (length w + 1) e) (N .value ∙ ap decimalOf (digits-whole 10 w d (omega arith)) ∙ sym (rw q))
+    go (inr e) = rw (ne-eqb n (length w + 1) e) (sym (none w (never (split (isNumber w)))))
+      where
+        never : (isNumber w ≡ true) ⊎ (isNumber w ≡ false) → isNumber w ≡ false
+        never (inr q) = q
+        never (inl q) = let l = ap length (read-whole w q .1 .1) in let m = N .next in absurd (e (omega arith))

@@ -1,35 +1,37 @@
 // Writes the sheet of the DIMACS graph colouring file on standard input, or the line that says why there is none. The argument is the number
 // of channels.
 ghost use mathlib.Core.Path.{_≡_};
-ghost use Prim.Native.Nat.{_+_};
+ghost use mathlib.Core.Bool.{cond};
+ghost use Prim.Native.Nat.{_+_, _≤_};
+ghost use lib.Dec.{eqb};
 ghost use lib.ListN.{length};
 ghost use Rattle.graph.specs.Graph.{fileLimit};
 ghost use Rattle.colour_sheet.specs.Argument.{channelsOf};
 use colour::Coloured;
 use libc::STDIN_FILENO;
 use libc::STDOUT_FILENO;
+use read_graph::Field;
 
-// The channels that an argument names.
+// The channels that an argument names: it is a number and nothing else.
 fn channels_of(word: &[u8]) -> u64
     ensures { λ r. ⌜ r ≡ channelsOf (now (word .entry)) ⌝ }
 {
-    if word.len() > 9 {
+    let n = word.len();
+    if 9 < n {
         return 0;
     }
-    let mut x: u64 = 0;
-    let mut k: usize = 0;
-    while k < word.len() {
-        let b = word[k];
-        if b < 48 {
-            return 0;
-        }
-        if b > 57 {
-            return 0;
-        }
-        x = x * 10 + (b - 48) as u64;
-        k += 1;
+    match read_graph::field_at(word, 0, 10) {
+        Field::NoNumber => 0,
+        Field::Number(x, next) => whole(n, x, next),
     }
-    x
+}
+
+// The number x where it ends with the word, whose n bytes a newline seems to follow.
+fn whole(n: usize, x: usize, next: usize) -> u64
+    requires { ⌜ n ≤ 9 ⌝ }
+    ensures { λ r. ⌜ r ≡ cond (eqb next (n + 1)) x 0 ⌝ }
+{
+    if next == n + 1 { x as u64 } else { 0 }
 }
 
 // The argument of the program. One that is missing, or does not fit, is empty; one that fills the room has too many digits.

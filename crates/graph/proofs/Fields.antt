@@ -135,6 +135,25 @@ digits-within (suc m) (x ∷ r) = go (isDigit x) refl (digits-within m r)
     go true e ih = rw (digits-more m x r e) (omega arith)
     go false e ih = rw (digits-stop m x r e) (omega arith)
 
+-- digits and nothing else are read whole, and what is read whole is digits
+pub digits-whole : (m : ℕ) (r : List ℕ) → allDigits r ≡ true → length r ≤ m → digitsIn m r ≡ r
+unfolding digitsIn allDigits
+digits-whole zero [] d h = refl
+digits-whole zero (x ∷ r) d h = absurd (omega arith)
+digits-whole (suc m) [] d h = refl
+digits-whole (suc m) (x ∷ r) d h = let q = both (isDigit x) (allDigits r) d in digits-more m x r (q .0) ∙ ap (λ (l : List ℕ). x ∷ l) (digits-whole m r (q .1) (omega arith))
+
+pub whole-digits : (m : ℕ) (r : List ℕ) → length (digitsIn m r) ≡ length r → allDigits r ≡ true
+unfolding digitsIn allDigits
+whole-digits zero [] h = refl
+whole-digits zero (x ∷ r) h = absurd (omega arith)
+whole-digits (suc m) [] h = refl
+whole-digits (suc m) (x ∷ r) h = go (isDigit x) refl h (whole-digits m r)
+  where
+    go : (t : Bool) → isDigit x ≡ t → length (digitsIn (suc m) (x ∷ r)) ≡ length (x ∷ r) → (length (digitsIn m r) ≡ length r → allDigits r ≡ true) → allDigits (x ∷ r) ≡ true
+    go true e h ih = let l = ap length (digits-more m x r e) in rw e (ih (omega arith))
+    go false e h ih = let l = ap length (digits-stop m x r e) in absurd (omega arith)
+
 -- what follows fewer digits than were asked for is none
 digits-ended : (m : ℕ) (r : List ℕ) → length (digitsIn m r) < m → isDigit (getD r (length (digitsIn m r)) 10) ≡ false
 unfolding digitsIn

@@ -64,7 +64,7 @@ fn digits_at(f: &[u8], p: usize) -> Digits
 }
 
 // The number of one to nine digits at p that the byte `end` follows, and the place after that byte.
-fn field_at(f: &[u8], p: usize, end: u8) -> Field
+pub fn field_at(f: &[u8], p: usize, end: u8) -> Field
     requires { ⌜ Place (now f) p ⌝ }
     ensures { λ r. ⌜ FieldAt (now (f .entry)) p end r ⌝ }
 {
