@@ -96,7 +96,7 @@ fn lines(text: &[u8]) {
     }
 }
 
-// The lines that end in the first n bytes. What is left of them goes to the front: how many bytes that are.
+// The lines that end in the first n bytes. What is left of them goes to the front: how many bytes these are.
 fn piece(text: &mut [u8], n: usize) -> usize
     requires { ⌜ n ≤ length (now text) ⌝ }
     ensures { λ r. ⌜ r ≤ length (now (text .exit)) ⌝ }

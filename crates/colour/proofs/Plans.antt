@@ -26,11 +26,11 @@ use Rattle.graph.proofs.Turned.{BadFile, bad-file-iff, there}
 use Rattle.compose.specs.Compose.{sheetBytes}
 use Rattle.compose.proofs.Written.{written-keeps, written-problem, written-short}
 use Rattle.compose.proofs.Blocks.{roomy-today, row-allows, block-bars}
-use Rattle.colour.specs.Colour.{verticesOf, graphProblem, graphSheet, colourJob}
+use Rattle.colour.specs.Colour.{colouredNumber, verticesOf, graphProblem, graphSheet, colourJob}
 use Rattle.colour.specs.declared.Coloured.the-variants.{Written}
 use Rattle.colour.proofs.Filling.{joinedPair, allows, colouring-size, colouring-vertices, colouring-bounded}
 use Rattle.colour.proofs.Job.{InRange}
-use Rattle.colour.proofs.Causes.{colour-iff, colour-written}
+use Rattle.colour.proofs.Causes.{colour-iff, colour-25, colour-written}
 
 -- ---- edges
 
@@ -208,6 +208,22 @@ taken f k b w e =
 
 -- ---- the sheet
 
+-- numbers in range make a problem that a table can hold, and a sheet that is no longer than the longest
+module _ (f : List ℕ) (k : ℕ) (R : InRange (verticesOf f) k) where
+  bounded : Bounded (graphProblem f k)
+  bounded = colouring-bounded (verticesOf f) k (adjacent (fileLines f)) (R .v-few) (R .k-some) (R .k-few)
+
+  some : 1 ≤ (graphProblem f k) .n
+  some = rw (colouring-vertices (verticesOf f) k (adjacent (fileLines f))) (R .v-some)
+
+  graph-short : length (graphSheet f k) ≤ 16904
+  unfolding graphSheet
+  graph-short = written-short layout 1 (graphProblem f k) roomy-today refl bounded some
+
+-- a buffer of as many bytes is never too short
+pub colour-room : (f : List ℕ) (k : ℕ) (b : List ℕ) → 16904 ≤ length b → colouredNumber ((colourJob f k b) .answer) ≢ 25
+colour-room f k b h e = let c = colour-25 f k b .0 e in let s = graph-short f k (c .0 .1) in let l = c .1 in omega arith
+
 module _ (f : List ℕ) (k : ℕ) (b : List ℕ) (w : ℕ) (e : (colourJob f k b) .answer ≡ Written w) where
   -- the sheet that was written: the bytes at the buffer's front
   abbrev pub sheetAt : List ℕ
@@ -216,29 +232,22 @@ module _ (f : List ℕ) (k : ℕ) (b : List ℕ) (w : ℕ) (e : (colourJob f k b
   range : InRange (verticesOf f) k
   range = colour-written f k b w e .range
 
-  bounded : Bounded (graphProblem f k)
-  bounded = let r = range in colouring-bounded (verticesOf f) k (adjacent (fileLines f)) (r .v-few) (r .k-some) (r .k-few)
-
-  some : 1 ≤ (graphProblem f k) .n
-  some = rw (colouring-vertices (verticesOf f) k (adjacent (fileLines f))) (range .v-some)
-
   sheet-is : sheetAt ≡ graphSheet f k
   sheet-is = colour-written f k b w e .sheet
 
   -- it keeps the layout, so that every job takes it
   pub colour-keeps : Keeps layout (take w ((colourJob f k b) .buffer))
   unfolding graphSheet
-  colour-keeps = rw sheet-is (written-keeps layout 1 (graphProblem f k) roomy-today refl bounded some)
+  colour-keeps = rw sheet-is (written-keeps layout 1 (graphProblem f k) roomy-today refl (bounded f k range) (some f k range))
 
   -- it is the colouring problem of the file
   pub colour-problem : problemOf layout (take w ((colourJob f k b) .buffer)) ≡ graphProblem f k
   unfolding graphSheet
-  colour-problem = ap (problemOf layout) sheet-is ∙ written-problem layout 1 (graphProblem f k) roomy-today refl bounded some
+  colour-problem = ap (problemOf layout) sheet-is ∙ written-problem layout 1 (graphProblem f k) roomy-today refl (bounded f k range) (some f k range)
 
   -- it is no longer than the longest sheet
   pub colour-longest : w ≤ 16904
-  unfolding graphSheet
-  colour-longest = rw (colour-written f k b w e .length-is) (written-short layout 1 (graphProblem f k) roomy-today refl bounded some)
+  colour-longest = rw (colour-written f k b w e .length-is) (graph-short f k range)
 
   -- "the sheet whose plans are exactly the proper colourings"
   pub colour-plans : (p : ℕ → ℕ) → T (solvesWhole (problemOf layout (take w ((colourJob f k b) .buffer))) p) ↔ ProperColouring f k p

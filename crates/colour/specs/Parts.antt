@@ -19,7 +19,7 @@ use Rattle.colour.specs.declared.ColourRefusal.the-variants.{Loop, Count
 abbrev pub markedProblem : List ℕ → (n k : ℕ) → Problem
 markedProblem near n k = colouring n k (isMarked near)
 
--- numbers that are in range, and marks of pairs
+-- numbers that are not too large, and marks of pairs
 pub record Ranged (near : List ℕ) (n k : ℕ) : Type 0 where
   pub marks : length near ≡ 1024
   pub vertices : n ≤ 32

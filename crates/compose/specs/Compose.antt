@@ -1,4 +1,4 @@
--- docs/FORMAT.md, "The sheet", written: the bytes of the one sheet of a version that keeps the layout and is a problem.
+-- docs/FORMAT.md, "The sheet", written: the bytes of the sheet of a version that keeps the layout and is a problem.
 use mathlib.Core.Path.{_≡_}
 use mathlib.Core.Bool.{Bool, true, cond, not, _&&_}
 use mathlib.Core.List.{List, [], _∷_, _++_}

@@ -1,4 +1,4 @@
-// The one sheet of a version that is the problem of a filled table, written at the front of a lent buffer. Its length is known before a
+// The sheet of a version that is the problem of a filled table, written at the front of a lent buffer. Its length is known before a
 // byte is written.
 ghost use mathlib.Core.Path.{_≡_};
 ghost use Prim.Native.Nat.{_+_, _*_, _-_, _/_, _%_, _^_, _<_, _≤_};
@@ -236,7 +236,7 @@ fn write_marked(
     Composed::Written(len)
 }
 
-// Writes the sheet of version v that is the problem of the table at the front of the buffer. A buffer that is too short stays as it was.
+// Writes, at the front of the buffer, the sheet of version v that is the problem of the table. A buffer that is too short stays as it was.
 pub fn write_sheet(t: &[u16], v: usize, out: &mut [u8]) -> Composed
     requires { ⌜ RowTable (now t) × Version v ⌝ }
     ensures { λ r. ⌜ (r ≡ (sheetOver layout v (held (now (t .entry))) (now (out .entry))) .answer) × (now (out .exit) ≡ (sheetOver layout v (held (now (t .entry))) (now (out .entry))) .buffer) ⌝ }

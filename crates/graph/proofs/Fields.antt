@@ -210,7 +210,7 @@ unfolding lineIn
 at-end [] e = refl
 at-end (x ∷ s) e = line-none x s (eq-eqb x 10 e)
 
--- ---- two numbers
+-- ---- a place after others
 
 -- a byte after k others
 pub drop-at : (r : List ℕ) (k d : ℕ) → getD (drop k r) 0 d ≡ getD r k d

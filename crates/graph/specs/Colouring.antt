@@ -28,7 +28,7 @@ module _ (v k : ℕ) (joined : ℕ → ℕ → Bool) where
   unfoldable pub isChannel : (i a : ℕ) → Bool
   isChannel i a = ltb i v && ltb a k
 
-  -- of two vertices in order: equal channels are barred where an edge joins them, and nothing else is
+  -- of two vertices in order: two channels may stand together unless they are equal and an edge joins the two
   unfoldable pub mayStand : (i a j b : ℕ) → Bool
   mayStand i a j b = isChannel i a && (isChannel j b && not (joined i j && eqb a b))
 

@@ -33,6 +33,7 @@ fieldsOf (x ∷ l) = elim (eqb x 32) [ true ↦ [] ∷ fieldsOf l | false ↦ be
 abbrev pub isDigit : ℕ → Bool
 isDigit x = leb 48 x && leb x 57
 
+-- nothing but digits
 unfoldable pub allDigits : List ℕ → Bool
 allDigits [] = true
 allDigits (x ∷ l) = isDigit x && allDigits l

@@ -58,7 +58,7 @@ stepped g (Size v e) = elim (g .sized) [ true ↦ turnedAway g | false ↦ withS
 stepped g (Edge a b) = elim (inPlace g a b) [ true ↦ withEdge g a b | false ↦ turnedAway g ]
 stepped g Bad = turnedAway g
 
--- what reading finds that has come to g and has the lines m before it
+-- what reading finds that has come to g and still has the lines m to read
 unfoldable pub readFrom : Tally → List Line → GraphRead
 readFrom g [] = cond (g .sized) (read.Read (g .vertices) (g .edges) (g .lines) (g .loops)) read.Bad
 readFrom g (l ∷ m) = elim ((stepped g l) .good) [ true ↦ readFrom (stepped g l) m | false ↦ read.Bad ]

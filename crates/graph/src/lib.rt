@@ -1,6 +1,6 @@
 // The types of a DIMACS graph colouring file: a line of it, what reading the file finds, and how far a reader has come.
 
-// A line of a colouring file: one of the three forms, or none of them.
+// A line of a colouring file: a comment, the `p` line (Size), an `e` line (Edge), or none of these forms.
 pub enum Line {
     Comment,
     Size { vertices: usize, edges: usize },

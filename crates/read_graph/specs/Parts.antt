@@ -32,8 +32,8 @@ pub record DigitsAt (f : List ℕ) (p : ℕ) (r : Digits) : Type 0 where
   pub next : r .next ≡ p + length (digitsFrom f p)
 
 -- the digits d are too few or too many for a number
-abbrev pub NotShort : List ℕ → Type 0
-NotShort d = (length d ≡ 0) ⊎ (9 < length d)
+abbrev pub Miscounted : List ℕ → Type 0
+Miscounted d = (length d ≡ 0) ⊎ (9 < length d)
 
 -- a number of one to nine digits stands at p, and then the byte c: v is the number, n the place after c
 pub record NumberAt (f : List ℕ) (p c v n : ℕ) : Type 0 where
@@ -45,9 +45,9 @@ pub record NumberAt (f : List ℕ) (p c v n : ℕ) : Type 0 where
 
 abbrev pub FieldAt : (f : List ℕ) (p c : ℕ) → Field → Type 0
 FieldAt f p c (Number v n) = NumberAt f p c v n
-FieldAt f p c NoNumber = NotShort (digitsFrom f p) ⊎ (getD (drop p f) (length (digitsFrom f p)) 10 ≢ c)
+FieldAt f p c NoNumber = Miscounted (digitsFrom f p) ⊎ (getD (drop p f) (length (digitsFrom f p)) 10 ≢ c)
 
--- n is the place after the line that stands at p
+-- n is the place after the line that stands at p and its newline, which counts also where a last line lacks it
 abbrev pub After : List ℕ → ℕ → ℕ → Type 0
 After f p n = n ≡ suc (p + length (lineIn (drop p f)))
 

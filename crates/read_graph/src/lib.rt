@@ -23,7 +23,8 @@ pub enum Field {
     NoNumber,
 }
 
-// A line, and the place after it. A bad line ends the reading, so that its place does not matter.
+// A line, and the place after it and its newline, one past the end where a last line has none. A bad line ends the reading, so that its
+// place does not matter.
 pub struct LineRead {
     pub line: Line,
     pub next: usize,
