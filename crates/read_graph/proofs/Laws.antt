@@ -1,6 +1,6 @@
 -- One turn of each loop of the reader. Assumes nothing.
-use mathlib.Core.Path.{_≡_, refl, sym, ap, _∙_}
-use mathlib.Core.Bool.{true, false, _&&_}
+use mathlib.Core.Path.{_≡_, refl, sym, ap, _∙_, subst}
+use mathlib.Core.Bool.{Bool, true, false, _&&_, _||_}
 use mathlib.Core.List.{List, [], _∷_}
 use mathlib.Core.Logic.{_⊎_, ⊎-elim, _≢_}
 use Prim.Native.Nat.{ℕ, zero, suc, _+_, _-_, _*_, _^_, _≤_, _<_}
@@ -8,14 +8,15 @@ use native.Mathlib.Nat.{pow-suc, pow-le-pow-right}
 use native.Mathlib.Numerals.{add-one}
 use native.Mathlib.Omega.{arith}
 use lib.Dec.{eqb, leb}
-use borrow.Author.Tests.{leb-true, eq-eqb, ne-eqb}
+use borrow.Author.Tests.{leb-true, eq-eqb, ne-eqb, eqb-false}
 use lib.ListN.{length, drop, getD, drop-of-length-le, List·getD-eq-default}
 use lib.Seq.{drop-cons}
-use Rattle.bounded.proofs.Truth.{lt-dec, clash, both}
+use Rattle.bounded.proofs.Truth.{lt-dec, clash, both, neither}
 use Rattle.graph.specs.Graph.{isDigit, decimalFrom, decimalOf, begins}
 use Rattle.graph.specs.Scan.{lineIn, digitsIn}
 use Rattle.graph.proofs.Fields.{digits-more, digits-stop, drop-at}
 use Rattle.graph.proofs.Lines.{line-none, line-more}
+use Rattle.read_graph.specs.Parts.{Passing, endsInFour, endsInEight}
 
 -- ---- a byte of a file, which ends as a line does
 
@@ -109,11 +110,6 @@ digits-full f p v k I h =
 
 -- ---- the end of a line
 
--- of the line at p, the bytes up to k are passed
-pub record Passing (f : List ℕ) (p k : ℕ) : Type 0 where
-  pub within : k ≤ length f
-  pub rest : k + length (lineIn (drop k f)) ≡ p + length (lineIn (drop p f))
-
 pub line-turn : (f : List ℕ) (p k : ℕ) → Passing f p k → k < length f → getD f k 0 ≢ 10 → Passing f p (k + 1)
 line-turn f p k I h n =
     let q : getD f k 10 ≢ 10 = λ e. n (getD-any f k 0 10 h ∙ e) in
@@ -137,6 +133,24 @@ line-last f p k I h =
     let l = ap length e in
     let m = I .rest in
     omega arith
+
+-- a byte that does not end it is passed, and so are four
+line-one : (f : List ℕ) (p k m : ℕ) → Passing f p k → k < length f → eqb (getD f k 0) 10 ≡ false → k + 1 ≡ m → Passing f p m
+line-one f p k m I h n e = subst (Passing f p) e (line-turn f p k I h (eqb-false (getD f k 0) 10 n))
+
+line-four : (f : List ℕ) (p k : ℕ) → Passing f p k → k + 4 ≤ length f → endsInFour f k ≡ false → Passing f p (k + 4)
+line-four f p k I h n =
+    let at : ℕ → Bool = λ j. eqb (getD f j 0) 10 in
+    let a = neither (at k || at (k + 1)) (at (k + 2) || at (k + 3)) n in
+    let b = neither (at k) (at (k + 1)) (a .0) in
+    let c = neither (at (k + 2)) (at (k + 3)) (a .1) in
+    line-one f p (k + 3) (k + 4) (line-one f p (k + 2) (k + 3) (line-one f p (k + 1) (k + 2) (line-one f p k (k + 1) I (omega arith) (b .0) (omega arith)) (omega arith) (b .1) (omega arith)) (omega arith) (c .0) (omega arith)) (omega arith) (c .1) (omega arith)
+
+pub line-eight : (f : List ℕ) (p k : ℕ) → Passing f p k → k + 8 ≤ length f → endsInEight f k ≡ false → Passing f p (k + 8)
+line-eight f p k I h n =
+    let e : k + 4 + 4 ≡ k + 8 = omega arith in
+    let a = neither (endsInFour f k) (endsInFour f (k + 4)) n in
+    subst (Passing f p) e (line-four f p (k + 4) (line-four f p k I (omega arith) (a .0)) (omega arith) (a .1))
 
 -- ---- a word
 

@@ -4,6 +4,7 @@ use mathlib.Core.Bool.{Bool, true, false, _||_}
 use mathlib.Core.List.{List}
 use mathlib.Core.Logic.{_⊎_, _≢_}
 use Prim.Native.Nat.{ℕ, suc, _+_, _*_, _≤_, _<_}
+use lib.Dec.{eqb}
 use lib.ListN.{length, drop, getD}
 use Rattle.graph.specs.Graph.{decimalOf, fieldsOf, twoNumbers, lineOf, fileLimit, fileLines, readGraph}
 use Rattle.graph.specs.Colouring.{joins, adjacent}
@@ -46,6 +47,18 @@ pub record NumberAt (f : List ℕ) (p c v n : ℕ) : Type 0 where
 abbrev pub FieldAt : (f : List ℕ) (p c : ℕ) → Field → Type 0
 FieldAt f p c (Number v n) = NumberAt f p c v n
 FieldAt f p c NoNumber = Miscounted (digitsFrom f p) ⊎ (getD (drop p f) (length (digitsFrom f p)) 10 ≢ c)
+
+-- of the line at p, the bytes up to k are passed
+pub record Passing (f : List ℕ) (p k : ℕ) : Type 0 where
+  pub within : k ≤ length f
+  pub rest : k + length (lineIn (drop k f)) ≡ p + length (lineIn (drop p f))
+
+-- one of the four bytes at k ends a line; one of the eight
+abbrev pub endsInFour : List ℕ → ℕ → Bool
+endsInFour f k = (eqb (getD f k 0) 10 || eqb (getD f (k + 1) 0) 10) || (eqb (getD f (k + 2) 0) 10 || eqb (getD f (k + 3) 0) 10)
+
+abbrev pub endsInEight : List ℕ → ℕ → Bool
+endsInEight f k = endsInFour f k || endsInFour f (k + 4)
 
 -- n is the place after the line that stands at p and its newline, which counts also where a last line lacks it
 abbrev pub After : List ℕ → ℕ → ℕ → Type 0

@@ -6,7 +6,7 @@ ghost use lib.ListN.{length, getD, drop};
 ghost use Rattle.graph.specs.Graph.{isDigit, isOutside, fileLimit, begins as beginsWith};
 ghost use Rattle.graph.specs.Scan.{lineIn, turnedAway, stepped, readFrom};
 ghost use Rattle.graph.specs.declared.Line.the-variants.{Size, Edge, Bad as bad};
-ghost use Rattle.read_graph.specs.Parts.{Place, DigitsAt, FieldAt, formOf, PairAt, Other, LineAt, Marked, Unmarked, LinesRead, GraphAt};
+ghost use Rattle.read_graph.specs.Parts.{Place, DigitsAt, FieldAt, formOf, PairAt, Passing, endsInFour, endsInEight, Other, LineAt, Marked, Unmarked, LinesRead, GraphAt};
 use graph::GraphRead;
 use graph::Line;
 use graph::Tally;
@@ -126,12 +126,42 @@ fn two_numbers(edge: bool, a: usize, b: usize) -> Line
     }
 }
 
+// Whether one of four bytes ends a line, and one of eight: no branch is made between them.
+fn ends_in_four(f: &[u8], k: usize) -> bool
+    requires { ⌜ k + 4 ≤ length (now f) ⌝ }
+    ensures { λ r. ⌜ r ≡ endsInFour (now (f .entry)) k ⌝ }
+{
+    ((f[k] == 10) | (f[k + 1] == 10)) | ((f[k + 2] == 10) | (f[k + 3] == 10))
+}
+
+fn ends_in_eight(f: &[u8], k: usize) -> bool
+    requires { ⌜ k + 8 ≤ length (now f) ⌝ }
+    ensures { λ r. ⌜ r ≡ endsInEight (now (f .entry)) k ⌝ }
+{
+    ends_in_four(f, k) | ends_in_four(f, k + 4)
+}
+
+// Passes bytes of the line that p stands in, eight at a time.
+fn pass_eights(f: &[u8], p: usize) -> usize
+    requires { ⌜ Place (now f) p ⌝ }
+    ensures { λ r. ⌜ Passing (now (f .entry)) p r ⌝ }
+{
+    let mut k = p;
+    while k + 8 <= f.len() {
+        if ends_in_eight(f, k) {
+            return k;
+        }
+        k += 8;
+    }
+    k
+}
+
 // Where the line that p stands in ends: at its newline, or with the file.
 fn line_end(f: &[u8], p: usize) -> usize
     requires { ⌜ Place (now f) p ⌝ }
     ensures { λ r. ⌜ r ≡ p + length (lineIn (drop p (now (f .entry)))) ⌝ }
 {
-    let mut k = p;
+    let mut k = pass_eights(f, p);
     while k < f.len() {
         if f[k] == 10 {
             return k;

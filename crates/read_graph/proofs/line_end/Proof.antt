@@ -1,8 +1,8 @@
 -- `read_graph::line_end`: the bytes passed are the line's. Assumes nothing.
-use mathlib.Core.Path.{refl}
 use Prim.Native.Nat.{_-_}
 use lib.ListN.{length}
-use Rattle.read_graph.proofs.Laws.{Passing, line-turn, line-hit, line-last}
+use Rattle.read_graph.specs.Parts.{Passing}
+use Rattle.read_graph.proofs.Laws.{line-turn, line-hit, line-last}
 use borrow.Author.Needs.{needs}
 use Rattle.read_graph.proofs.line_end.Statement.{statement}
 use Rattle.read_graph.proofs.line_end.Tie as tie
@@ -13,8 +13,11 @@ Inv-loop f p k₀ k = Passing f p k
 abbrev μ-loop : tie.MeasureT-loop
 μ-loop f p k₀ k = length f - k
 
+pass-eights-requires : tie.Need-pass-eights-requires Inv-loop μ-loop
+pass-eights-requires c κs = search needs
+
 loop-holds : tie.Need-loop-holds Inv-loop μ-loop
-loop-holds c = record { within = c .pre .within; rest = refl }
+loop-holds c = c .pass-eights .ensures
 
 shared-slice-read-if1 : tie.Need-shared-slice-read-if1 Inv-loop μ-loop
 shared-slice-read-if1 c = search needs
@@ -40,6 +43,7 @@ line-end-spec =
     (tie.spec
     Inv-loop
     μ-loop
+    pass-eights-requires
     loop-holds
     shared-slice-read-if1
     returns
