@@ -41,11 +41,11 @@ more-more : (x : ℕ) (l : List ℕ) → eqb x 32 ≡ false → moreFields (x �
 unfolding moreFields
 more-more x l e = rw (e, moreFields)
 
-fields-space : (x : ℕ) (l : List ℕ) → eqb x 32 ≡ true → fieldsOf (x ∷ l) ≡ [] ∷ fieldsOf l
+pub fields-space : (x : ℕ) (l : List ℕ) → eqb x 32 ≡ true → fieldsOf (x ∷ l) ≡ [] ∷ fieldsOf l
 unfolding fieldsOf
 fields-space x l e = rw (e, fieldsOf)
 
-fields-more : (x : ℕ) (l : List ℕ) → eqb x 32 ≡ false → fieldsOf (x ∷ l) ≡ before x (fieldsOf l)
+pub fields-more : (x : ℕ) (l : List ℕ) → eqb x 32 ≡ false → fieldsOf (x ∷ l) ≡ before x (fieldsOf l)
 unfolding fieldsOf
 fields-more x l e = rw (e, fieldsOf)
 

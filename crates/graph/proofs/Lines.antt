@@ -29,11 +29,11 @@ after-more : (x : ℕ) (r : List ℕ) → eqb x 10 ≡ false → afterLine (x �
 unfolding afterLine
 after-more x r e = rw (e, afterLine)
 
-lines-none : (x : ℕ) (r : List ℕ) → eqb x 10 ≡ true → linesOf (x ∷ r) ≡ [] ∷ linesOf r
+pub lines-none : (x : ℕ) (r : List ℕ) → eqb x 10 ≡ true → linesOf (x ∷ r) ≡ [] ∷ linesOf r
 unfolding linesOf
 lines-none x r e = rw (e, linesOf)
 
-lines-more : (x : ℕ) (r : List ℕ) → eqb x 10 ≡ false → linesOf (x ∷ r) ≡ before x (linesOf r)
+pub lines-more : (x : ℕ) (r : List ℕ) → eqb x 10 ≡ false → linesOf (x ∷ r) ≡ before x (linesOf r)
 unfolding linesOf
 lines-more x r e = rw (e, linesOf)
 

@@ -2,7 +2,7 @@
 use mathlib.Core.Path.{sym, ap, _∙_}
 use native.Mathlib.Omega.{arith}
 use Rattle.boundary_sheets.specs.Calls.{ColourCall}
-use Rattle.boundary_sheets.proofs.Jobs.{colour-small}
+use Rattle.colour.proofs.Plans.{colour-longest}
 use Rattle.boundary_sheets.proofs.Calls.{colour-says}
 use borrow.Author.Needs.{needs}
 use Rattle.zomuwedli.proofs.zomuwedli_colour.Statement.{statement}
@@ -24,7 +24,7 @@ enum-known-w : tie.Need-enum-known-w
 enum-known-w c = search needs
 
 mul-result : tie.Need-mul-result
-mul-result c = let l = colour-small _ _ _ _ (sym (c .before .before .before .before .before .colour .ensures .0) ∙ c .before .w .given .1) in omega arith
+mul-result c = let l = colour-longest _ _ _ _ (sym (c .before .before .before .before .before .colour .ensures .0) ∙ c .before .w .given .1) in omega arith
 
 same-length : tie.Need-same-length
 same-length c = search needs
