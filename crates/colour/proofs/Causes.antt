@@ -1,13 +1,13 @@
 -- What each answer of the job says: for each number its cause, and no other; and what is left in the buffer. Assumes nothing.
 use mathlib.Core.Path.{_≡_, refl, sym, ap, _∙_}
-use mathlib.Core.Bool.{Bool, true, false, not, cond, _||_}
+use mathlib.Core.Bool.{true, false, not, cond}
 use mathlib.Core.List.{List}
-use mathlib.Core.Logic.{_⊎_, inl, inr, _≢_, _↔_}
+use mathlib.Core.Logic.{_⊎_, inl, inr, _↔_}
 use Prim.Native.Nat.{ℕ, _≤_, _<_}
 use native.Mathlib.Omega.{arith}
-use lib.Dec.{T, eqb, ltb}
+use lib.Dec.{T, eqb}
 use lib.ListN.{length, take}
-use borrow.Author.Tests.{lt-ltb, le-ltb, eq-eqb, ne-eqb, ltb-true, ltb-false}
+use borrow.Author.Tests.{lt-ltb, le-ltb, eq-eqb, ne-eqb}
 use Rattle.bounded.proofs.Truth.{T-true, T-false, T-dec, lt-dec, eq-dec, split, clash}
 use Rattle.bounded.proofs.Causes.{cause-iff, number-iff}
 use Rattle.sheet.specs.Sheet.{layout}
@@ -17,7 +17,7 @@ use Rattle.graph.specs.Graph.{fileLines, lineAt, badFile, countLines, isEdge, s
 use Rattle.graph.specs.declared.Line.the-variants.{Edge}
 use Rattle.graph.proofs.Turned.{BadFile, bad-file-iff, loop-iff}
 use Rattle.compose.proofs.Over.{sheet-stands}
-use Rattle.colour.specs.Colour.{colouredNumber, hasLoop, miscounted, outOfRange, verticesOf, graphProblem, graphSheet, ColourResult, refuseIf, colourDone, colourJob}
+use Rattle.colour.specs.Colour.{colouredNumber, hasLoop, outOfRange, verticesOf, graphProblem, graphSheet, ColourResult, colourJob}
 use Rattle.colour.specs.declared.ColourRefusal.{ColourRefusal}
 use Rattle.colour.specs.declared.ColourRefusal.the-variants.{File, Loop, Count, Range, Buffer}
 use Rattle.colour.specs.declared.Coloured.{Coloured}

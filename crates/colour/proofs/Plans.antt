@@ -1,15 +1,15 @@
 -- The plans of the sheet that is written are the proper colourings of the file's graph; its blocks are the edges. Assumes nothing.
 use mathlib.Core.Path.{_≡_, refl, sym, ap, _∙_, subst}
-use mathlib.Core.Bool.{Bool, true, false, not, cond, _&&_, _||_, or-true}
+use mathlib.Core.Bool.{Bool, true, false, not, _&&_, _||_, or-true}
 use mathlib.Core.List.{List, [], _∷_, _++_}
 use mathlib.Core.Logic.{_⊎_, inl, inr, ⊎-elim, _≢_, _↔_, Iff·rfl}
-use Prim.Native.Nat.{ℕ, zero, suc, _+_, _-_, _≤_, _<_}
+use Prim.Native.Nat.{ℕ, suc, _+_, _-_, _≤_, _<_}
 use native.Mathlib.Omega.{arith}
 use lib.Dec.{T, eqb, ltb}
-use lib.ListN.{length, take, getD, List·getD-eq-default}
+use lib.ListN.{length, take, getD}
 use borrow.Author.Tests.{lt-ltb, le-ltb, eq-eqb, ne-eqb, ltb-false}
 use Rattle.bounded.specs.Mask.{bit}
-use Rattle.bounded.proofs.Truth.{T-true, T-of, T-false, T-not, T-dec, T-ext, and-iff, or-iff, not-iff, eqb-iff, ltb-iff, lt-dec, eq-dec, split, both, neither, clash}
+use Rattle.bounded.proofs.Truth.{T-true, T-of, T-not, T-ext, and-iff, or-iff, eqb-iff, ltb-iff, lt-dec, split, both, neither, clash}
 use Rattle.problem.specs.Problem.{Problem, full}
 use Rattle.problem.specs.Held.{Bounded}
 use Rattle.problem.specs.Extend.{solvesWhole}
@@ -17,7 +17,7 @@ use Rattle.problem.proofs.Sound.{Solution, solvesWhole-iff}
 use Rattle.sheet.specs.Sheet.{layout, Keeps}
 use Rattle.sheet.specs.Relation.{rowsOf, rowIn, problemOf}
 use Rattle.sheet.specs.declared.Rows.the-variants.{At}
-use Rattle.graph.specs.Graph.{anyLine, fileLines, lineAt, badFile, badLines, isBad, isSize, edgeFirst, fileLimit, isOutside, strays, isLoop, countLines, isEdge}
+use Rattle.graph.specs.Graph.{anyLine, fileLines, lineAt, badFile, badLines, isBad, isSize, edgeFirst, fileLimit, isOutside, strays, countLines, isEdge}
 use Rattle.graph.specs.Colouring.{joins, adjacent, colouring}
 use Rattle.graph.specs.declared.Line.{Line}
 use Rattle.graph.specs.declared.Line.the-variants.{Comment, Size, Edge, Bad}

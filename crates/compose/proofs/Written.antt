@@ -339,8 +339,5 @@ module _ (L : Layout) (v : ℕ) (P : Problem) (R : Roomy L) (taken : L .takes v 
     pub written-short : length (sheetBytes L v P) ≤ 16904
     written-short = longest L (sheetBytes L v P) (R .narrow) written-keeps
 
-  pub written-version : versionOf (sheetBytes L v P) ≡ v
-  written-version = front .headed .version
-
   pub written-length : length (sheetBytes L v P) ≡ sheetLength L v P
   written-length = front .long

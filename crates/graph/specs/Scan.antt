@@ -1,11 +1,10 @@
 -- A colouring file read from its front: a line and what follows it, the digits at a place, and line after line. The code goes by these;
 -- proofs/ shows that they come to what Graph.antt says of the whole file.
-use mathlib.Core.Path.{_≡_}
 use mathlib.Core.Bool.{Bool, true, false, not, cond, _&&_, _||_}
 use mathlib.Core.List.{List, [], _∷_}
-use Prim.Native.Nat.{ℕ, zero, suc, _+_, _*_, _≤_}
+use Prim.Native.Nat.{ℕ, zero, suc, _+_, _*_}
 use lib.Dec.{eqb}
-use lib.ListN.{length, getD}
+use lib.ListN.{getD}
 use Rattle.graph.specs.Graph.{isDigit, isOutside}
 use Rattle.graph.specs.declared.Line.{Line}
 use Rattle.graph.specs.declared.Line.the-variants.{Comment, Size, Edge, Bad}
