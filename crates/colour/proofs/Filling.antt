@@ -11,12 +11,12 @@ use lib.Seq.{getD-set-same, getD-set-other, ext-getD}
 use lib.Bits.{and-le-l}
 use lib.Pow.{pow-mono, pow-pos}
 use borrow.Author.Tests.{lt-ltb, le-ltb}
-use Rattle.bounded.specs.Mask.{bit, maskOf, without}
+use Rattle.bounded.specs.Mask.{bit, without}
 use Rattle.bounded.proofs.Truth.{T-ext, eqb-iff, lt-dec, eq-dec, T-not}
 use Rattle.bounded.proofs.Mask.{mask-is, bit-none, bit-mask, bit-without16}
 use Rattle.bounded.proofs.Table.{length-tab, getD-tab}
 use Rattle.problem.specs.Problem.{Problem, bothWays}
-use Rattle.problem.specs.Held.{tableLength, tableEntry, tableOf, Bounded}
+use Rattle.problem.specs.Held.{rowWord, tableLength, tableEntry, tableOf, Bounded}
 use Rattle.problem.proofs.BothWays.{both-up, both-down, both-same}
 use Rattle.held.proofs.Full.{below-mask}
 use Rattle.graph.specs.Colouring.{channelsAt, isChannel, mayStand, colouring}
@@ -58,7 +58,7 @@ size-at : (P : Problem) (q : ℕ) → q < 32 → tableEntry P q ≡ P .size q
 unfolding tableEntry
 size-at P q h = rw (lt-ltb q 32 h, tableEntry)
 
-row-at : (P : Problem) (x a : ℕ) → a < 16 → tableEntry P (32 + 16 * x + a) ≡ maskOf 16 (λ b. P .allowed (x / 32) a (x % 32) b)
+row-at : (P : Problem) (x a : ℕ) → a < 16 → tableEntry P (32 + 16 * x + a) ≡ rowWord P (x / 32) (x % 32) a
 unfolding tableEntry
 row-at P x a h =
     let q : ltb (32 + 16 * x + a) 32 ≡ false = le-ltb _ 32 (let z : 32 ≤ 32 + 16 * x + a = omega arith in z) in
@@ -66,10 +66,11 @@ row-at P x a h =
     let v : (32 + 16 * x + a - 32) % 16 ≡ a = omega arith in
     let y : (32 + 16 * x + a - 32) / 16 ≡ x = omega arith in
     let j : (32 + 16 * x + a - 32) / 16 % 32 ≡ x % 32 = ap (λ (z : ℕ). z % 32) y in
-    rw (q, tableEntry) (λ t. maskOf 16 (λ b. P .allowed (i t) (v t) (j t) b))
+    rw (q, tableEntry) (λ t. rowWord P (i t) (j t) (v t))
 
-mask-zero : (f : ℕ → Bool) → ((c : ℕ) → c < 16 → f c ≡ false) → maskOf 16 f ≡ 0
-mask-zero f h = sym (mask-is 16 0 f (omega arith) (λ c l. bit-none c ∙ sym (h c l)))
+row-zero : (P : Problem) (i j a : ℕ) → ((c : ℕ) → P .allowed i a j c ≡ false) → rowWord P i j a ≡ 0
+unfolding rowWord
+row-zero P i j a h = sym (mask-is 16 0 (P .allowed i a j) (omega arith) (λ c l. bit-none c ∙ sym (h c)))
 
 -- ---- what a colouring problem allows
 
@@ -192,6 +193,7 @@ module _ (v k : ℕ) (joined : ℕ → ℕ → Bool) (few : k ≤ 16) where
   -- a row of two different vertices
   pub row-entry : (x a : ℕ) → Pair v (x / 32) (x % 32) → a < k
       → cond (joinedPair joined (x / 32) (x % 32)) (without 16 (2 ^ k - 1) a) (2 ^ k - 1) ≡ tableEntry (colouring v k joined) (32 + 16 * x + a)
+  unfolding rowWord
   row-entry x a Q h =
       mask-is 16 (rowBarring (joinedPair joined (x / 32) (x % 32)) k a) (λ b. (colouring v k joined) .allowed (x / 32) a (x % 32) b) (row-small (joinedPair joined (x / 32) (x % 32)) k a few)
       (λ c l. row-bits (joinedPair joined (x / 32) (x % 32)) k a c few (omega arith) l ∙ sym (⊎-elim
@@ -202,7 +204,7 @@ module _ (v k : ℕ) (joined : ℕ → ℕ → Bool) (few : k ≤ 16) where
 
   -- a row that is none of the problem's
   pub no-row : (x a : ℕ) → a < 16 → ((v ≤ x / 32) ⊎ (k ≤ a)) ⊎ ((v ≤ x % 32) ⊎ (x / 32 ≡ x % 32)) → tableEntry (colouring v k joined) (32 + 16 * x + a) ≡ 0
-  no-row x a h w = row-at (colouring v k joined) x a h ∙ mask-zero _ (λ c l. go c w)
+  no-row x a h w = row-at (colouring v k joined) x a h ∙ row-zero (colouring v k joined) (x / 32) (x % 32) a (λ c. go c w)
     where
       go : (c : ℕ) → ((v ≤ x / 32) ⊎ (k ≤ a)) ⊎ ((v ≤ x % 32) ⊎ (x / 32 ≡ x % 32)) → (colouring v k joined) .allowed (x / 32) a (x % 32) c ≡ false
       go c (inl z) = allows-none v k joined (x / 32) a (x % 32) c z

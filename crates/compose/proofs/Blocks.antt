@@ -10,14 +10,15 @@ use lib.Pow.{pow-mono}
 use Rattle.bounded.specs.Mask.{bit}
 use Rattle.bounded.proofs.Truth.{T-of, T-false, clash, not-iff}
 use Rattle.bounded.proofs.Bounded.{any-iff}
-use Rattle.bounded.proofs.Mask.{mask-is}
 use Rattle.problem.specs.Problem.{Problem}
+use Rattle.problem.proofs.HeldTable.{row-sized}
 use Rattle.sheet.specs.Sheet.{Layout, layout, variablesOf, sizeAt, rowWidth, Keeps}
 use Rattle.sheet.specs.Relation.{rowsOf, rowIn, problemOf}
 use Rattle.sheet.specs.declared.Rows.{Rows}
 use Rattle.sheet.specs.declared.Rows.the-variants.{At, Unconstrained}
-use Rattle.sheet.proofs.Accepted.{Found, found, size-in, listed-of}
+use Rattle.sheet.proofs.Accepted.{Found, found, size-in, listed-of, bounded}
 use Rattle.sheet.proofs.Allows.{unconstrained-allowed, row-tells}
+use Rattle.sheet.proofs.Words.{row-up}
 use Rattle.compose.specs.Compose.{rowNumber, rowBars, pairBars, Roomy}
 use Rattle.compose.proofs.Rows.{all-full, full-mask, bars-none}
 
@@ -56,9 +57,7 @@ module _ (L : Layout) (s : List ℕ) (K : Keeps L s) (i j : ℕ) where
       let rises = f .rises in
       let ends = f .ends in
       let zi = sized L s i (omega arith) in
-      let zj = sized L s j ends in
-      let low = f .low a (omega arith) in
-      mask-is ((problemOf L s) .size j) (rowIn L s j r a) (λ b. (problemOf L s) .allowed i a j b) (rw zj low) (λ b l. row-allows r e a b h l)
+      row-up L s K i a j (listed-of L s i a (omega arith) (omega arith)) ends r rises e ∙ row-sized (bounded L s K) i j a
 
   -- a block bars something
   block-some : (r : ℕ) → rowsOf L s i j ≡ At r → pairBars (problemOf L s) i j ≡ true

@@ -1,26 +1,22 @@
 -- Laws for the code: the rows of the table, the marks, one step of each loop, and writing in turn. Assumes nothing.
 use mathlib.Core.Path.{_≡_, refl, sym, ap, _∙_}
-use mathlib.Core.Bool.{Bool, true, false, and-true, _&&_}
+use mathlib.Core.Bool.{Bool, true, false}
 use mathlib.Core.List.{List, [], _∷_, _++_, append-assoc}
 use mathlib.Core.Logic.{⊎-elim}
 use Prim.Native.Nat.{ℕ, zero, suc, _+_, _-_, _*_, _/_, _%_, _^_, _≤_, _<_}
 use native.Mathlib.Numerals.{add-one}
 use native.Mathlib.Omega.{arith}
-use lib.Bits.{bitAnd, and-le-r}
-use lib.Dec.{T}
 use lib.ListN.{length, getD, set, length-append, List·getD-append}
 use lib.Pow.{pow-pos}
 use lib.Seq.{sets}
 use borrow.Author.Tests.{lt-ltb, le-ltb, eqb-true}
 use Rattle.bounded.specs.Bounded.{oneIf}
-use Rattle.bounded.specs.Mask.{bit}
 use Rattle.bounded.specs.Table.{tab, filled}
 use Rattle.bounded.proofs.Truth.{lt-dec}
-use Rattle.bounded.proofs.Mask.{mask-is, bit-and, full-bit}
 use Rattle.bounded.proofs.Table.{length-tab, getD-tab}
 use Rattle.problem.specs.Problem.{Problem}
-use Rattle.problem.specs.Held.{rowPlace, heldValue, rowAllows, held, RowTable}
-use Rattle.problem.proofs.HeldTable.{heldValue-iff, row-tells}
+use Rattle.problem.specs.Held.{rowWord, held, RowTable}
+use Rattle.problem.proofs.HeldTable.{held-bounded, row-sized}
 use Rattle.sheet.specs.Bytes.{numberBytes}
 use Rattle.sheet.specs.Sheet.{Layout, layout}
 use Rattle.trace.specs.Written.{written}
@@ -32,28 +28,9 @@ use Rattle.compose.proofs.Stands.{length-number}
 
 -- ---- the table
 
-value : (t : List ℕ) (i a : ℕ) → i < (held t) .n → a < (held t) .size i → T (heldValue t i a)
-unfolding held
-value t i a h l = heldValue-iff t i a .1 (h, l)
-
-row-says : {t : List ℕ} → RowTable t → (i j a b : ℕ) → i < j → T (heldValue t i a) → T (heldValue t j b) → (held t) .allowed i a j b ≡ bit (getD t (rowPlace i j a) 0) b
-unfolding rowAllows
-row-says R i j a b h p q = row-tells R i a j b p q (λ e. omega arith)
-
--- a word of the table, met with the settings of j, is the row
-pub row-held : {t : List ℕ} → RowTable t → (i j a full : ℕ) → i < j → j < (held t) .n → a < (held t) .size i → full + 1 ≡ 2 ^ (held t) .size j
-    → bitAnd (getD t (rowPlace i j a) 0) full ≡ rowNumber (held t) i j a
-row-held {t} R i j a full h l m e =
-    let x = getD t (rowPlace i j a) 0 in
-    let k = and-le-r x full in
-    let q : full ≡ 2 ^ (held t) .size j - 1 = omega arith in
-    mask-is ((held t) .size j) (bitAnd x full) (λ b. (held t) .allowed i a j b) (omega arith)
-    (λ b o.
-    bit-and x full b
-    ∙ ap (λ (y : ℕ). bit x b && bit y b) q
-    ∙ ap (λ (y : Bool). bit x b && y) (full-bit ((held t) .size j) b o)
-    ∙ and-true (bit x b)
-    ∙ sym (row-says R i j a b h (value t i a (omega arith) m) (value t j b l o)))
+-- a row of the table is the row of the sheet
+pub row-held : {t : List ℕ} → RowTable t → (i j a : ℕ) → rowWord (held t) i j a ≡ rowNumber (held t) i j a
+row-held R i j a = row-sized (held-bounded R) i j a
 
 -- the settings of j, as the code counts them
 pub full-is : (p y z : ℕ) → p ≡ 2 ^ y → y ≡ z → p - 1 + 1 ≡ 2 ^ z

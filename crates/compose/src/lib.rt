@@ -20,12 +20,12 @@ pub enum Composed {
 
 // ---- what a pair bars
 
-// The row of setting a of i towards a later item j; full has a bit for each setting of j, and the table may have bits beyond.
-fn row_number(t: &[u16], i: usize, j: usize, a: usize, full: usize) -> usize
-    requires { ⌜ Pair (now t) i j × ((a < (held (now t)) .size i) × (full + 1 ≡ 2 ^ (held (now t)) .size j)) ⌝ }
+// The row of setting a of i towards a later item j: it has no bit that j lacks.
+fn row_number(t: &[u16], i: usize, j: usize, a: usize) -> usize
+    requires { ⌜ Pair (now t) i j × (a < (held (now t)) .size i) ⌝ }
     ensures { λ r. ⌜ Is (rowNumber (held (now (t .entry))) i j a) (2 ^ (held (now (t .entry))) .size j) r ⌝ }
 {
-    held::row(t, i, j, a) as usize & full
+    held::row(t, i, j, a) as usize
 }
 
 // Whether some two settings of i and j are barred.
@@ -37,7 +37,7 @@ fn bars(t: &[u16], i: usize, j: usize) -> bool
     let full = bounded::power(held::size(t, j)) - 1;
     let mut a: usize = 0;
     while a < z {
-        if row_number(t, i, j, a, full) != full {
+        if row_number(t, i, j, a) != full {
             return true;
         }
         a += 1;
@@ -127,13 +127,11 @@ fn put_rows(t: &[u16], v: usize, out: &mut [u8], at: usize, i: usize, j: usize) 
     ensures { λ r. ⌜ Wrote (now (out .entry)) at (rowsBytes layout v (held (now (t .entry))) i j ((held (now (t .entry))) .size i) 0) (now (out .exit)) r ⌝ }
 {
     let z = held::size(t, i);
-    let y = held::size(t, j);
-    let full = bounded::power(y) - 1;
-    let w = sheet::row_width(v, y);
+    let w = sheet::row_width(v, held::size(t, j));
     let mut p = at;
     let mut a: usize = 0;
     while a < z {
-        let x = row_number(t, i, j, a, full);
+        let x = row_number(t, i, j, a);
         put_row(out, p, w, x);
         p += w;
         a += 1;

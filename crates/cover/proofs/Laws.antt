@@ -13,11 +13,11 @@ use Rattle.bounded.proofs.Truth.{T-ext, T-of, T-false, T-true, clash, and-iff, 
 use Rattle.bounded.proofs.Bounded.{all-iff, any-iff}
 use Rattle.bounded.proofs.Mask.{bit-without32, within}
 use Rattle.problem.specs.Problem.{Problem, State, allOther, allThird, substitutes}
-use Rattle.problem.specs.Held.{rowPlace, held}
+use Rattle.problem.specs.Held.{rowWord, held}
 use Rattle.problem.specs.Masks.{stateOf}
 use Rattle.problem.specs.declared.Masks.{Masks}
 use Rattle.problem.proofs.Reflect.{Fits, allOther-iff, allThird-iff, Substitutes, substitutes-iff}
-use Rattle.held.specs.Ready.{Ready, Value}
+use Rattle.held.specs.Ready.{Ready}
 use Rattle.cover.specs.Words.{coversIn, servedIn, allServedIn, others, thirds}
 use Rattle.held.proofs.Laws.{row-says, live-value, active-32, word-iff, word-lt}
 
@@ -59,16 +59,15 @@ thirds-out x i j p q = (T-false _ (λ h. thirds-iff x i j i p q p .0 h .0 .1 ref
 
 module _ {t : List ℕ} {m : Masks} (R : Ready t m) where
   -- cover, as one comparison
-  pub substitutes-word : (i a j b l : ℕ) → Value t i a → Value t j b → l < 32 → l ≢ i → l ≢ j → eqb (bitAnd (bitAnd (getD (m .domains) l 0) (getD t (rowPlace j l b) 0)) (getD t (rowPlace i l a) 0)) (bitAnd (getD (m .domains) l 0) (getD t (rowPlace j l b) 0)) ≡ substitutes (held t) (stateOf m) i a j b l
-  substitutes-word i a j b l vi vj k di dj =
-      within 16 (bitAnd (getD (m .domains) l 0) (getD t (rowPlace j l b) 0)) (getD t (rowPlace i l a) 0) (word-lt R l _ k)
+  pub substitutes-word : (i a j b l : ℕ) → l < 32 → eqb (bitAnd (bitAnd (getD (m .domains) l 0) (rowWord (held t) j l b)) (rowWord (held t) i l a)) (bitAnd (getD (m .domains) l 0) (rowWord (held t) j l b)) ≡ substitutes (held t) (stateOf m) i a j b l
+  substitutes-word i a j b l k =
+      within 16 (bitAnd (getD (m .domains) l 0) (rowWord (held t) j l b)) (rowWord (held t) i l a) (word-lt R l _ k)
       ∙ T-ext (
         λ h. substitutes-iff (R .fits) i a j b l .1
-            (λ c o al. let v = live-value R l c o in
-            subst T (sym (row-says (R .table) i a l c vi v (λ e. di (sym e)))) ((simp (all-iff, imp-iff) at h) c (v .value) (word-iff R j b l c vj dj .1 (o, al)))),
+            (λ c o al. subst T (row-says (R .table) i l a c) ((simp (all-iff, imp-iff) at h) c (live-value R l c o .value) (word-iff R j b l c .1 (o, al)))),
         λ h. simp (all-iff, imp-iff)
-            (λ c q u. let x = word-iff R j b l c vj dj .0 u in
-            subst T (row-says (R .table) i a l c vi (live-value R l c (x .0)) (λ e. di (sym e))) (substitutes-iff (R .fits) i a j b l .0 h c (x .0) (x .1))),
+            (λ c q u. let x = word-iff R j b l c .0 u in
+            subst T (sym (row-says (R .table) i l a c)) (substitutes-iff (R .fits) i a j b l .0 h c (x .0) (x .1))),
       )
 
   pub other-loop : (i : ℕ) → i < 32 → (f : ℕ → Bool) → allBelow 32 (λ l. imp (bit (others (m .active) i) l) (f l)) ≡ allOther (held t) (stateOf m) i f

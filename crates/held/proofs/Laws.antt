@@ -1,7 +1,7 @@
 -- Rows of a table and sets of a state that fits it, as words. Assumes nothing.
-use mathlib.Core.Path.{_≡_, refl, sym, ap, _∙_, subst}
-use mathlib.Core.Bool.{Bool, true, false, not, _&&_}
-use mathlib.Core.Logic.{_⊎_, inl, inr, _≢_, _↔_, ⊎-elim}
+use mathlib.Core.Path.{_≡_, sym, ap, _∙_, subst}
+use mathlib.Core.Bool.{Bool, true, false, not}
+use mathlib.Core.Logic.{inl, inr, _↔_}
 use mathlib.Core.List.{List}
 use Prim.Native.Nat.{ℕ, _^_, _≤_, _<_}
 use native.Mathlib.Omega.{arith}
@@ -9,18 +9,17 @@ use native.Mathlib.Nat.{lt-of-le-of-lt}
 use lib.Dec.{T, eqb}
 use lib.Bits.{bitAnd, and-le-l}
 use lib.ListN.{getD}
-use borrow.Author.Tests.{eq-eqb, ne-eqb}
 use Rattle.bounded.specs.Bounded.{imp, allBelow, anyBelow}
 use Rattle.bounded.specs.Mask.{bit}
-use Rattle.bounded.proofs.Truth.{T-ext, T-of, T-dec, T-false, eq-dec, and-iff, imp-iff, not-iff, eqb-iff}
+use Rattle.bounded.proofs.Truth.{T-ext, T-of, T-dec, T-false, and-iff, imp-iff, not-iff}
 use Rattle.bounded.proofs.Bounded.{all-iff, any-iff}
 use Rattle.bounded.proofs.Mask.{bit-and, zero-bits}
 use Rattle.problem.specs.Problem.{Problem, State, allActive, allLive, anyLive}
-use Rattle.problem.specs.Held.{rowPlace, heldSize, heldVariables, heldValue, rowAllows, heldRow, held, RowTable}
+use Rattle.problem.specs.Held.{rowWord, heldSize, heldVariables, held, RowTable}
 use Rattle.problem.specs.Masks.{stateOf}
 use Rattle.problem.specs.declared.Masks.{Masks}
 use Rattle.problem.proofs.Reflect.{Active, Live, Allowed, Fits, allActive-iff, allLive-iff, anyLive-iff}
-use Rattle.problem.proofs.HeldTable.{row-tells, held-few, heldValue-iff}
+use Rattle.problem.proofs.HeldTable.{row-word, held-bounded, held-few, heldValue-iff}
 use Rattle.held.specs.Ready.{Ready, Value, Among}
 
 module _ {P : Problem} {s : State} (F : Fits P s) where
@@ -38,26 +37,13 @@ module _ {P : Problem} {s : State} (F : Fits P s) where
         λ h. simp (all-iff, imp-iff) (λ c k o. allLive-iff F l f .0 h c o),
       )
 
--- the row tells what is allowed, for values of the problem
-pub row-says : {t : List ℕ} → RowTable t → (i a j b : ℕ) → Value t i a → Value t j b → i ≢ j → (held t) .allowed i a j b ≡ bit (getD t (rowPlace i j a) 0) b
-unfolding rowAllows
-row-says R i a j b vi vj d = row-tells R i a j b (vi .listed) (vj .listed) d
+-- a row of a filled table, bit by bit
+pub row-says : {t : List ℕ} → RowTable t → (i j a c : ℕ) → bit (rowWord (held t) i j a) c ≡ (held t) .allowed i a j c
+row-says R = row-word (held-bounded R)
 
-held-apart : (t : List ℕ) (i a j b : ℕ) → Allowed (held t) i a j b → i ≢ j
-unfolding held heldRow
-held-apart t i a j b h = go (heldValue t i a && (heldValue t j b && not (eqb i j))) refl (and-iff (heldRow t i a j b) (heldRow t j b i a) .0 h .0)
-  where
-    go : (g : Bool) → (heldValue t i a && (heldValue t j b && not (eqb i j))) ≡ g → T (elim g as (λ x. Bool) [ true ↦ rowAllows t i a j b | false ↦ false ]) → i ≢ j
-    go true e x = (simp (and-iff, not-iff, eqb-iff) at (T-of e)) .1 .1
-    go false e x = absurd x
-
--- the same with the test that the variables differ
-pub allowed-word : {t : List ℕ} → RowTable t → (i a j b : ℕ) → Value t i a → Value t j b → (held t) .allowed i a j b ≡ (not (eqb i j) && bit (getD t (rowPlace i j a) 0) b)
-allowed-word {t} R i a j b vi vj =
-    ⊎-elim
-    (λ e. rw (eq-eqb i j e) (T-false _ (λ h. held-apart t i a j b h e)))
-    (λ d. rw (ne-eqb i j d) (row-says R i a j b vi vj d))
-    (eq-dec i j)
+-- no two values of one variable are allowed
+pub allowed-apart : {t : List ℕ} → RowTable t → (i a j b : ℕ) → j ≡ i → false ≡ (held t) .allowed i a j b
+allowed-apart R i a j b e = sym (T-false _ (λ h. held-bounded R .listed i a j b h .4 (sym e)))
 
 module _ {t : List ℕ} {m : Masks} (R : Ready t m) where
   -- a value in a domain is a value of the problem
@@ -71,19 +57,19 @@ module _ {t : List ℕ} {m : Masks} (R : Ready t m) where
   pub active-32 : (l : ℕ) → Active (stateOf m) l → l < 32
   active-32 l o = omega (arith, R .fits .active-lt l o, held-few t)
 
-  -- the members of a domain that are allowed with a value of another variable
-  pub word-iff : (i v j c : ℕ) → Value t i v → j ≢ i → T (bit (bitAnd (getD (m .domains) j 0) (getD t (rowPlace i j v) 0)) c) ↔ (Live (stateOf m) j c × Allowed (held t) i v j c)
+  -- the members of a domain that are allowed with a value
+  pub word-iff : (i v j c : ℕ) → T (bit (bitAnd (getD (m .domains) j 0) (rowWord (held t) i j v)) c) ↔ (Live (stateOf m) j c × Allowed (held t) i v j c)
   unfolding stateOf
-  word-iff i v j c vi d = (
-    λ h. let x = (simp (bit-and, and-iff) at h) in (x .0, subst T (sym (row-says (R .table) i v j c vi (live-value j c (x .0)) (λ e. d (sym e)))) (x .1)),
-    λ x. simp (bit-and, and-iff) (x .0, subst T (row-says (R .table) i v j c vi (live-value j c (x .0)) (λ e. d (sym e))) (x .1)),
+  word-iff i v j c = (
+    λ h. let x = (simp (bit-and, and-iff) at h) in (x .0, subst T (row-says (R .table) i j v c) (x .1)),
+    λ x. simp (bit-and, and-iff) (x .0, subst T (sym (row-says (R .table) i j v c)) (x .1)),
   )
 
   pub word-lt : (j y : ℕ) → j < 32 → bitAnd (getD (m .domains) j 0) y < 2 ^ 16
   word-lt j y k = lt-of-le-of-lt (and-le-l (getD (m .domains) j 0) y) (R .proper .domain-lt j k)
 
-  pub word-among : (i v j : ℕ) → Value t i v → j ≢ i → Among m j (bitAnd (getD (m .domains) j 0) (getD t (rowPlace i j v) 0))
-  word-among i v j vi d = record { live = λ u h. word-iff i v j u vi d .0 h .0 }
+  pub word-among : (i v j : ℕ) → Among m j (bitAnd (getD (m .domains) j 0) (rowWord (held t) i j v))
+  word-among i v j = record { live = λ u h. word-iff i v j u .0 h .0 }
 
   -- a domain with a value in it
   pub some-word : (l : ℕ) → l < 32 → not (eqb (getD (m .domains) l 0) 0) ≡ anyLive (held t) (stateOf m) l (λ c. true)

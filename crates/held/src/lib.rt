@@ -2,13 +2,13 @@
 // the table is the set of values allowed with one value.
 ghost use mathlib.Core.Path.{_≡_};
 ghost use mathlib.Core.Bool.{true, false};
+ghost use mathlib.Core.Logic.{_≢_};
 ghost use Prim.Native.Nat.{_<_, _≤_, _+_, _*_};
-ghost use lib.ListN.{getD};
 ghost use lib.Dec.{ltb};
 ghost use Rattle.bounded.specs.Bounded.{imp};
 ghost use Rattle.bounded.specs.Mask.{bit, maskOf};
 ghost use Rattle.problem.specs.Problem.{noneEmpty, anyLive, full, sizeSum};
-ghost use Rattle.problem.specs.Held.{held, rowPlace, RowTable};
+ghost use Rattle.problem.specs.Held.{rowWord, held, RowTable};
 ghost use Rattle.problem.specs.Masks.{stateOf, masksOf, sets, Proper};
 ghost use Rattle.held.specs.Ready.{Ready, Value};
 use bounded::has16;
@@ -58,20 +58,24 @@ pub fn size_sum(t: &[u16]) -> usize
 
 // ---- rows
 
-// The values of j that are allowed with value a of i.
+// The values of another variable j that are allowed with value a of i. Where the row stands is known here, and to what fills the table.
 pub fn row(t: &[u16], i: usize, j: usize, a: usize) -> u16
-    requires { ⌜ RowTable (now t) × (i < 32) × (j < 32) × (a < 16) ⌝ }
-    ensures { λ r. ⌜ r ≡ getD (now (t .entry)) (rowPlace i j a) 0 ⌝ }
+    requires { ⌜ RowTable (now t) × (i < 32) × (j < 32) × (a < 16) × (j ≢ i) ⌝ }
+    ensures { λ r. ⌜ r ≡ rowWord (held (now (t .entry))) i j a ⌝ }
 {
     t[32 + ((i * 32 + j) * 16 + a)]
 }
 
-// Value a of i is allowed with value b of j. No two values of one variable are, whatever the row between them says.
+// Value a of i is allowed with value b of j. No two values of one variable are, and there is no row between them.
 pub fn pair_allowed(t: &[u16], i: usize, a: usize, j: usize, b: usize) -> bool
     requires { ⌜ RowTable (now t) × Value (now t) i a × Value (now t) j b ⌝ }
     ensures { λ r. ⌜ r ≡ (held (now (t .entry))) .allowed i a j b ⌝ }
 {
-    (i != j) & has16(row(t, i, j, a), b)
+    if j == i {
+        false
+    } else {
+        has16(row(t, i, j, a), b)
+    }
 }
 
 // ---- a state

@@ -3,19 +3,20 @@ use mathlib.Core.Path.{_≡_, refl, sym, ap, _∙_, subst}
 use mathlib.Core.Bool.{Bool, true, false, not, _&&_}
 use mathlib.Core.Logic.{_⊎_, inl, inr, _≢_, _↔_}
 use mathlib.Core.List.{List}
-use Prim.Native.Nat.{ℕ, _-_, _/_, _%_, _≤_, _<_}
+use Prim.Native.Nat.{ℕ, _-_, _/_, _%_, _^_, _≤_, _<_}
 use native.Mathlib.Omega.{arith}
 use lib.Dec.{T, eqb}
 use lib.ListN.{getD}
+use lib.Pow.{pow-mono}
 use borrow.Author.Tests.{lt-ltb, le-ltb}
 use Rattle.bounded.specs.Bounded.{lowest}
 use Rattle.bounded.specs.Mask.{bit, maskOf}
 use Rattle.bounded.proofs.Truth.{T-ext, and-iff, not-iff, eqb-iff, ltb-iff, lt-dec}
 use Rattle.bounded.proofs.Bounded.{lowest-unique, lowest-le, lowest-least}
-use Rattle.bounded.proofs.Mask.{bit-mask}
+use Rattle.bounded.proofs.Mask.{mask-lt, mask-is, bit-mask-all}
 use Rattle.bounded.proofs.Table.{length-tab, getD-tab}
 use Rattle.problem.specs.Problem.{Problem, sizeSum}
-use Rattle.problem.specs.Held.{tableLength, rowPlace, heldSize, heldVariables, heldValue, rowAllows, heldRow, held, RowTable, tableEntry, tableOf, Bounded}
+use Rattle.problem.specs.Held.{rowWord, tableLength, rowPlace, heldSize, heldVariables, heldValue, rowAllows, heldRow, held, RowTable, tableEntry, tableOf, Bounded}
 use Rattle.problem.proofs.Count.{sizes-within}
 use Rattle.problem.proofs.Same.{problem-same}
 
@@ -33,15 +34,6 @@ heldRow-iff t i a j b = (λ h. let x = go guard .0 h in (simp (and-iff, not-iff,
     go : (g : Bool) → T (elim g as (λ x. Bool) [ true ↦ rowAllows t i a j b | false ↦ false ]) ↔ (T g × T (rowAllows t i a j b))
     go true = (λ h. (tt, h), λ h. h .1)
     go false = (λ h. absurd h, λ h. h .0)
-
--- in a table that the rule tests may read, one row tells
-pub row-tells : {t : List ℕ} → RowTable t → (i a j b : ℕ) → T (heldValue t i a) → T (heldValue t j b) → i ≢ j → (held t) .allowed i a j b ≡ rowAllows t i a j b
-unfolding held
-row-tells {t} R i a j b vi vj d =
-    T-ext (
-      λ h. heldRow-iff t i a j b .0 ((simp and-iff at h) .0) .1,
-      λ h. simp and-iff (heldRow-iff t i a j b .1 ((vi, (vj, d)), h), heldRow-iff t j b i a .1 ((vj, (vi, λ e. d (sym e))), subst T (R .turned i a j b vi vj d) h)),
-    )
 
 -- a table holds at most 32 variables
 pub held-few : (t : List ℕ) → (held t) .n ≤ 32
@@ -89,12 +81,33 @@ held-bounded {t} R =
           (y .0, y .1, z .0, z .1, x .1 .1);
     }
 
+-- ---- a row
+
+module _ {P : Problem} (B : Bounded P) (i j a : ℕ) where
+  -- "In a row, the bit worth 2^c is set when setting c of j is allowed", and at no other c
+  pub row-word : (c : ℕ) → bit (rowWord P i j a) c ≡ P .allowed i a j c
+  unfolding rowWord
+  row-word = bit-mask-all 16 (P .allowed i a j) (λ k t. omega (arith, B .narrow j, B .listed i a j k t .3))
+
+  -- the settings of j are all that it has bits for
+  pub row-sized : rowWord P i j a ≡ maskOf (P .size j) (P .allowed i a j)
+  unfolding rowWord
+  row-sized =
+      let p : 2 ^ P .size j ≤ 2 ^ 16 = pow-mono (B .narrow j) in
+      sym (mask-is 16 (maskOf (P .size j) (P .allowed i a j)) (P .allowed i a j) (omega (arith, mask-lt (P .size j) (P .allowed i a j)))
+      (λ c l. bit-mask-all (P .size j) (P .allowed i a j) (λ k t. B .listed i a j k t .3) c))
+
+  pub row-within : rowWord P i j a < 2 ^ P .size j
+  row-within = rw row-sized (mask-lt (P .size j) (P .allowed i a j))
+
+-- ---- the table of a problem
+
 module _ (P : Problem) (B : Bounded P) where
   size-entry : (k : ℕ) → k < 32 → tableEntry P k ≡ P .size k
   unfolding tableEntry
   size-entry k l = rw (lt-ltb k 32 l, tableEntry)
 
-  row-entry : (k : ℕ) → 32 ≤ k → tableEntry P k ≡ maskOf 16 (λ b. P .allowed ((k - 32) / 512) ((k - 32) % 16) ((k - 32) / 16 % 32) b)
+  row-entry : (k : ℕ) → 32 ≤ k → tableEntry P k ≡ rowWord P ((k - 32) / 512) ((k - 32) / 16 % 32) ((k - 32) % 16)
   unfolding tableEntry
   row-entry k l = rw (le-ltb k 32 l, tableEntry)
 
@@ -119,8 +132,8 @@ module _ (P : Problem) (B : Bounded P) where
       let f = held-size i in
       (λ h. let x = heldValue-iff (tableOf P) i a .0 h in (omega arith, omega arith), λ h. heldValue-iff (tableOf P) i a .1 (omega arith, omega arith))
 
-  -- the row of value a of i towards j
-  pub table-row : (i j a : ℕ) → i < 32 → j < 32 → a < 16 → getD (tableOf P) (rowPlace i j a) 0 ≡ maskOf 16 (P .allowed i a j)
+  -- the row of value a of i towards j stands at its place
+  table-row : (i j a : ℕ) → i < 32 → j < 32 → a < 16 → getD (tableOf P) (rowPlace i j a) 0 ≡ rowWord P i j a
   unfolding tableOf
   table-row i j a li lj la =
       let k : ℕ = rowPlace i j a in
@@ -129,9 +142,9 @@ module _ (P : Problem) (B : Bounded P) where
       let ea : (rowPlace i j a - 32) % 16 ≡ a = omega arith in
       getD-tab tableLength (tableEntry P) (rowPlace i j a) 0 (omega arith) ∙ (row-entry (rowPlace i j a) (omega arith) ∙ rw (ei, ej, ea))
 
-  table-allows : (i a j b : ℕ) → i < 32 → a < 16 → j < 32 → b < 16 → rowAllows (tableOf P) i a j b ≡ P .allowed i a j b
+  table-allows : (i a j b : ℕ) → i < 32 → a < 16 → j < 32 → rowAllows (tableOf P) i a j b ≡ P .allowed i a j b
   unfolding rowAllows
-  table-allows i a j b li la lj lb = ap (λ (x : ℕ). bit x b) (table-row i j a li lj la) ∙ bit-mask 16 (P .allowed i a j) b lb
+  table-allows i a j b li la lj = ap (λ (x : ℕ). bit x b) (table-row i j a li lj la) ∙ row-word B i j a b
 
   -- a value of the problem is within the table
   in-table : (i a : ℕ) → i < P .n → a < P .size i → (i < 32) × (a < 16)
@@ -143,15 +156,16 @@ module _ (P : Problem) (B : Bounded P) where
         λ h. let x = heldRow-iff (tableOf P) i a j b .0 ((simp and-iff at h) .0) in
             let y = held-value i a .0 (x .0 .0) in
             let z = held-value j b .0 (x .0 .1 .0) in
-            subst T (table-allows i a j b (in-table i a (y .0) (y .1) .0) (in-table i a (y .0) (y .1) .1) (in-table j b (z .0) (z .1) .0) (in-table j b (z .0) (z .1) .1)) (x .1),
+            let p = in-table i a (y .0) (y .1) in
+            subst T (table-allows i a j b (p .0) (p .1) (in-table j b (z .0) (z .1) .0)) (x .1),
         λ h. let x = B .listed i a j b h in
             let p = in-table i a (x .0) (x .1) in
             let q = in-table j b (x .2) (x .3) in
             let vi = held-value i a .1 (x .0, x .1) in
             let vj = held-value j b .1 (x .2, x .3) in
             simp and-iff (
-              heldRow-iff (tableOf P) i a j b .1 ((vi, (vj, x .4)), subst T (sym (table-allows i a j b (p .0) (p .1) (q .0) (q .1))) h),
-              heldRow-iff (tableOf P) j b i a .1 ((vj, (vi, λ e. x .4 (sym e))), subst T (sym (table-allows j b i a (q .0) (q .1) (p .0) (p .1))) (subst T (P .symmetric i a j b) h)),
+              heldRow-iff (tableOf P) i a j b .1 ((vi, (vj, x .4)), subst T (sym (table-allows i a j b (p .0) (p .1) (q .0))) h),
+              heldRow-iff (tableOf P) j b i a .1 ((vj, (vi, λ e. x .4 (sym e))), subst T (sym (table-allows j b i a (q .0) (q .1) (p .0))) (subst T (P .symmetric i a j b) h)),
             ),
       )
 
@@ -167,10 +181,5 @@ module _ (P : Problem) (B : Bounded P) where
         long = length-tab tableLength (tableEntry P);
         narrow = λ i. omega (arith, held-size i, B .narrow i);
         ended = λ i l. held-size i ∙ B .none i (omega (arith, held-variables));
-        turned = λ i a j b vi vj d.
-            let y = held-value i a .0 vi in
-            let z = held-value j b .0 vj in
-            let p = in-table i a (y .0) (y .1) in
-            let q = in-table j b (z .0) (z .1) in
-            table-allows i a j b (p .0) (p .1) (q .0) (q .1) ∙ P .symmetric i a j b ∙ sym (table-allows j b i a (q .0) (q .1) (p .0) (p .1));
+        words = λ i j a li lj la d. table-row i j a li lj la ∙ ap (λ (Q : Problem). rowWord Q i j a) (sym held-same);
       }

@@ -13,6 +13,13 @@ use Rattle.bounded.specs.Mask.{bit, maskOf}
 use Rattle.bounded.specs.Table.{tab}
 use Rattle.problem.specs.Problem.{Problem, maxValues}
 
+-- row: the settings of j that are allowed with setting a of i, as one word of 16 bits. The bit worth 2^c is set where setting c is one of
+-- them, and so no bit at the size of j or beyond.
+unfoldable pub rowWord : Problem → (i j a : ℕ) → ℕ
+rowWord P i j a = maskOf maxValues (P .allowed i a j)
+
+-- ---- the problem of a table
+
 -- the entries of a table
 abbrev pub tableLength : ℕ
 tableLength = 16416
@@ -37,7 +44,7 @@ module _ (t : List ℕ) where
   rowAllows i a j b = bit (getD t (rowPlace i j a) 0) b
 
   -- the row of a towards j allows b: both are values of the problem, of different variables. A pair is allowed where both of its rows
-  -- allow it; in a table whose two ways round agree, either row tells.
+  -- allow it; in a filled table either row tells.
   unfoldable pub heldRow : ℕ → ℕ → ℕ → ℕ → Bool
   heldRow i a j b = elim (heldValue i a && (heldValue j b && not (eqb i j))) [ true ↦ rowAllows i a j b | false ↦ false ]
 
@@ -50,20 +57,20 @@ held t =
       symmetric = λ i a j b. and-comm (heldRow t i a j b) (heldRow t j b i a);
     }
 
--- a filled table, which the rule tests may read: of the right length, no size above 16, none after the first that is 0, and the two ways
--- round of each pair tell the same
+-- a filled table, which the rule tests may read: of the right length, no size above 16, none after the first that is 0, and the row of a
+-- value towards another variable is the word of what is allowed
 pub record RowTable (t : List ℕ) : Type 0 where
   pub long : length t ≡ tableLength
   pub narrow : (i : ℕ) → heldSize t i ≤ maxValues
   pub ended : (i : ℕ) → heldVariables t ≤ i → heldSize t i ≡ 0
-  pub turned : (i a j b : ℕ) → T (heldValue t i a) → T (heldValue t j b) → i ≢ j → rowAllows t i a j b ≡ rowAllows t j b i a
+  pub words : (i j a : ℕ) → i < 32 → j < 32 → a < 16 → j ≢ i → getD t (rowPlace i j a) 0 ≡ rowWord (held t) i j a
 
 -- ---- the table of a problem
 
 -- the entry at place k: a size, or a row
 unfoldable pub tableEntry : Problem → ℕ → ℕ
 tableEntry P k =
-    elim (ltb k 32) [ true ↦ P .size k | false ↦ maskOf maxValues (λ b. P .allowed ((k - 32) / 512) ((k - 32) % 16) ((k - 32) / 16 % 32) b) ]
+    elim (ltb k 32) [ true ↦ P .size k | false ↦ rowWord P ((k - 32) / 512) ((k - 32) / 16 % 32) ((k - 32) % 16) ]
 
 unfoldable pub tableOf : Problem → List ℕ
 tableOf P = tab tableLength (tableEntry P)

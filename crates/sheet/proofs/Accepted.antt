@@ -145,8 +145,13 @@ module _ (L : Layout) (s : List ℕ) where
   unfolding rowsOf
   rows-of i j = refl
 
-  -- rows of i and j that start at r: of two items in order, all within the sheet, none with a bit that j lacks, and something barred
+  -- rows of i and j that start at r: after the item bytes of their block, of two items in order, all within the sheet, none with a bit
+  -- that j lacks, and something barred
   pub record Found (i j r : ℕ) : Type 0 where
+    pub block : ℕ
+    pub starts : r ≡ block + 2
+    pub first : byteAt s block ≡ i
+    pub second : byteAt s (block + 1) ≡ j
     pub rises : i < j
     pub ends : j < variablesOf s
     pub within : r + rowBytes L s i j ≤ length s
@@ -156,7 +161,7 @@ module _ (L : Layout) (s : List ℕ) where
   found-here : (i j k least p r : ℕ) → Here k least p → byteAt s p ≡ i → byteAt s (p + 1) ≡ j → p + 2 ≡ r → Found i j r
   found-here i j k least p r h ei ej er =
       rw (← ei, ← ej, ← er)
-      record { rises = h .block .rises; ends = h .block .ends; within = h .block .within; low = h .low; bars = h .bars }
+      record { block = p; starts = refl; first = refl; second = refl; rises = h .block .rises; ends = h .block .ends; within = h .block .within; low = h .low; bars = h .bars }
 
   found-from : (i j k least p r : ℕ) → Good k least p → rowsFrom L s i j k p ≡ At r → Found i j r
   unfolding rowsFrom

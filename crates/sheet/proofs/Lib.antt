@@ -1,4 +1,5 @@
 pub mod Laws
 pub mod Accepted
 pub mod Allows
+pub mod Words
 pub mod Refusals

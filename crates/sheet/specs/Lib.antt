@@ -1,5 +1,6 @@
 pub mod Bytes
 pub mod Sheet
 pub mod Relation
+pub mod Row
 pub mod Parts
 pub mod Refusals

@@ -69,12 +69,14 @@ pub fn byte(s: &[u8], k: usize) -> usize
     s[k] as usize
 }
 
-// The number of two bytes at k.
+// The number of two bytes at k, the first worth the most.
 pub fn two(s: &[u8], k: usize) -> usize
     requires { ⌜ k + 1 < length (now s) ⌝ }
     ensures { λ r. ⌜ Is (numberAt (now (s .entry)) 2 k) 65536 r ⌝ }
 {
-    byte(s, k) * 256 + byte(s, k + 1)
+    let high = byte(s, k);
+    let low = byte(s, k + 1);
+    high * 256 + low
 }
 
 // The number of four bytes at k.

@@ -1,7 +1,7 @@
 -- The snake rule over words, and the search for a snake step. Assumes nothing.
 use mathlib.Core.Path.{_≡_}
 use mathlib.Core.Bool.{false}
-use mathlib.Core.Logic.{_≢_, _↔_, Iff·rfl}
+use mathlib.Core.Logic.{_↔_, Iff·rfl}
 use mathlib.Core.List.{List}
 use Prim.Native.Nat.{ℕ, _<_}
 use lib.Dec.{T}
@@ -10,12 +10,12 @@ use lib.ListN.{getD}
 use Rattle.bounded.specs.Mask.{bit}
 use Rattle.bounded.proofs.Truth.{T-ext, imp-iff, not-iff}
 use Rattle.problem.specs.Problem.{Problem, State, snake}
-use Rattle.problem.specs.Held.{rowPlace, held}
+use Rattle.problem.specs.Held.{rowWord, held}
 use Rattle.problem.specs.Masks.{stateOf}
 use Rattle.problem.specs.declared.Masks.{Masks}
 use Rattle.problem.proofs.Reflect.{Live, Allowed, Fits, allLive-iff, anyLive-iff, SnakeServes, snakeServes-iff, snake-iff}
 use Rattle.problem.proofs.HeldTable.{held-few, held-narrow}
-use Rattle.held.specs.Ready.{Ready, Value}
+use Rattle.held.specs.Ready.{Ready}
 use Rattle.cover.specs.Words.{allServedIn, thirds}
 use Rattle.snake.specs.Parts.{snakeAt, snakeVariable}
 use Rattle.problem.specs.Reduce.{stepIf, first, nextSnake}
@@ -33,23 +33,23 @@ module _ {P : Problem} {s : State} (F : Fits P s) where
 
 module _ {t : List ℕ} {m : Masks} (R : Ready t m) where
   -- snake: the values of j that are not allowed with v are each served by one that is
-  pub snake-word : (i v j : ℕ) → Value t i v → j < 32 → j ≢ i → allServedIn (held t) (stateOf m) (thirds (m .active) i j) (bitAnd (getD (m .domains) j 0) (getD t (rowPlace i j v) 0)) (getD (m .domains) j 0) j ≡ snakeAt (held t) (stateOf m) i v j
+  pub snake-word : (i v j : ℕ) → i < 32 → j < 32 → allServedIn (held t) (stateOf m) (thirds (m .active) i j) (bitAnd (getD (m .domains) j 0) (rowWord (held t) i j v)) (getD (m .domains) j 0) j ≡ snakeAt (held t) (stateOf m) i v j
   unfolding stateOf
-  snake-word i v j vi q d =
+  snake-word i v j p q =
       T-ext (
         λ h. snakeAt-iff (R .fits) i v j .1
             (λ w o n. let x = allServedIn-iff (R .fits) (thirds (m .active) i j) good (getD (m .domains) j 0) j .0 h w (live-value R j w o .value) (o, λ g. n (is w .0 g .1)) in
-            (x .0, is (x .0) .0 (x .2 .0) .0, (is (x .0) .0 (x .2 .0) .1, λ l al di dj. x .2 .1 l (active-32 R l al) (thirds-iff (m .active) i j l (vi .variable) q (active-32 R l al) .1 ((al, di), dj))))),
+            (x .0, is (x .0) .0 (x .2 .0) .0, (is (x .0) .0 (x .2 .0) .1, λ l al di dj. x .2 .1 l (active-32 R l al) (thirds-iff (m .active) i j l p q (active-32 R l al) .1 ((al, di), dj))))),
         λ h. allServedIn-iff (R .fits) (thirds (m .active) i j) good (getD (m .domains) j 0) j .1
             (λ w k x. let y = snakeAt-iff (R .fits) i v j .0 h w (x .0) (λ al. x .1 (is w .1 (x .0, al))) in
-            (y .0, live-value R j (y .0) (y .1) .value, (is (y .0) .1 (y .1, y .2 .0), λ l lt u. let z = thirds-iff (m .active) i j l (vi .variable) q lt .0 u in y .2 .1 l (z .0 .0) (z .0 .1) (z .1)))),
+            (y .0, live-value R j (y .0) (y .1) .value, (is (y .0) .1 (y .1, y .2 .0), λ l lt u. let z = thirds-iff (m .active) i j l p q lt .0 u in y .2 .1 l (z .0 .0) (z .0 .1) (z .1)))),
       )
     where
       good : ℕ
-      good = bitAnd (getD (m .domains) j 0) (getD t (rowPlace i j v) 0)
+      good = bitAnd (getD (m .domains) j 0) (rowWord (held t) i j v)
 
       is : (c : ℕ) → T (bit good c) ↔ (Live (stateOf m) j c × Allowed (held t) i v j c)
-      is c = word-iff R i v j c vi d
+      is c = word-iff R i v j c
 
 module _ {t : List ℕ} {m : Masks} (R : Ready t m) where
   abbrev P : Problem

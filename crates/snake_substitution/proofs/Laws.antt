@@ -10,12 +10,12 @@ use lib.ListN.{getD}
 use Rattle.bounded.specs.Mask.{bit}
 use Rattle.bounded.proofs.Truth.{T-ext, T-dec, T-false, imp-iff}
 use Rattle.problem.specs.Problem.{Problem, State, snakeSubstitution, slideSpares}
-use Rattle.problem.specs.Held.{rowPlace, held}
+use Rattle.problem.specs.Held.{rowWord, held}
 use Rattle.problem.specs.Masks.{stateOf}
 use Rattle.problem.specs.declared.Masks.{Masks}
 use Rattle.problem.proofs.Reflect.{Live, Allowed, Fits, allLive-iff, anyLive-iff, Substitutes, SlideServes, slideServes-iff, snakeSubstitution-iff}
 use Rattle.problem.proofs.HeldTable.{held-few, held-narrow}
-use Rattle.held.specs.Ready.{Ready, Value}
+use Rattle.held.specs.Ready.{Ready}
 use Rattle.cover.specs.Words.{allServedIn}
 use Rattle.snake_substitution.specs.Parts.{slideAt, slideSet, substitutionValue, substitutionVariable}
 use Rattle.problem.specs.Reduce.{stepIf, first, nextSnakeSubstitution}
@@ -43,38 +43,38 @@ slideSet-out spare x i j p q = T-false _ (λ h. slideSet-iff spare x i j j p q q
 
 module _ {t : List ℕ} {m : Masks} (R : Ready t m) where
   -- slide: the values of k that are allowed with b are each served by one allowed with a; one allowed with both serves for itself
-  pub slide-word : (spare : Bool) (i b a k : ℕ) → Value t i b → Value t i a → k < 32 → k ≢ i → allServedIn (held t) (stateOf m) (slideSet spare (m .active) i k) (bitAnd (getD (m .domains) k 0) (getD t (rowPlace i k a) 0)) (bitAnd (getD (m .domains) k 0) (getD t (rowPlace i k b) 0)) k ≡ slideAt (held t) (stateOf m) spare i b a k
+  pub slide-word : (spare : Bool) (i b a k : ℕ) → i < 32 → k < 32 → allServedIn (held t) (stateOf m) (slideSet spare (m .active) i k) (bitAnd (getD (m .domains) k 0) (rowWord (held t) i k a)) (bitAnd (getD (m .domains) k 0) (rowWord (held t) i k b)) k ≡ slideAt (held t) (stateOf m) spare i b a k
   unfolding stateOf
-  slide-word spare i b a k vb va q n =
+  slide-word spare i b a k p q =
       T-ext (
         λ h. slideAt-iff (R .fits) spare i b a k .1 (λ d o al. to d o al (T-dec (bit good d)) (allServedIn-iff (R .fits) set good bad k .0 h d (live-value R k d o .value))),
         λ h. allServedIn-iff (R .fits) set good bad k .1
             (λ d lt x. let z = isBad d .0 (x .0) in
             let y = slideAt-iff (R .fits) spare i b a k .0 h d (z .0) (z .1) in
-            (y .0, live-value R k (y .0) (y .1) .value, (isGood (y .0) .1 (y .1, y .2 .0), λ l ll u. let w = slideSet-iff spare (m .active) i k l (va .variable) q ll .0 u in y .2 .1 l (w .0) (w .1 .0) (w .1 .1)))),
+            (y .0, live-value R k (y .0) (y .1) .value, (isGood (y .0) .1 (y .1, y .2 .0), λ l ll u. let w = slideSet-iff spare (m .active) i k l p q ll .0 u in y .2 .1 l (w .0) (w .1 .0) (w .1 .1)))),
       )
     where
       set : ℕ
       set = slideSet spare (m .active) i k
 
       good : ℕ
-      good = bitAnd (getD (m .domains) k 0) (getD t (rowPlace i k a) 0)
+      good = bitAnd (getD (m .domains) k 0) (rowWord (held t) i k a)
 
       bad : ℕ
-      bad = bitAnd (getD (m .domains) k 0) (getD t (rowPlace i k b) 0)
+      bad = bitAnd (getD (m .domains) k 0) (rowWord (held t) i k b)
 
       isGood : (c : ℕ) → T (bit good c) ↔ (Live (stateOf m) k c × Allowed (held t) i a k c)
-      isGood c = word-iff R i a k c va n
+      isGood c = word-iff R i a k c
 
       isBad : (c : ℕ) → T (bit bad c) ↔ (Live (stateOf m) k c × Allowed (held t) i b k c)
-      isBad c = word-iff R i b k c vb n
+      isBad c = word-iff R i b k c
 
       to : (d : ℕ) → Live (stateOf m) k d → Allowed (held t) i b k d → T (bit good d) ⊎ (T (bit good d) → ⊥) → ((T (bit bad d) × (T (bit good d) → ⊥)) → ((u : ℕ) × (u < 16) × (T (bit good u) × ((l : ℕ) → l < 32 → T (bit set l) → Substitutes (held t) (stateOf m) k u k d l)))) → (e : ℕ) × Live (stateOf m) k e × SlideServes (held t) (stateOf m) spare i a k d e
       to d o al (inl g) f = (d, o, (isGood d .0 g .1, λ l act ne sp c oc ac. ac))
       to d o al (inr g) f =
           let x = f (isBad d .1 (o, al), g) in
           let y = isGood (x .0) .0 (x .2 .0) in
-          (x .0, y .0, (y .1, λ l act ne sp. x .2 .1 l (active-32 R l act) (slideSet-iff spare (m .active) i k l (va .variable) q (active-32 R l act) .1 (act, (ne, sp)))))
+          (x .0, y .0, (y .1, λ l act ne sp. x .2 .1 l (active-32 R l act) (slideSet-iff spare (m .active) i k l p q (active-32 R l act) .1 (act, (ne, sp)))))
 
 module _ {t : List ℕ} {m : Masks} (R : Ready t m) where
   abbrev P : Problem

@@ -18,7 +18,7 @@ use Rattle.bounded.proofs.Bounded.{any-iff}
 use Rattle.bounded.proofs.Loops.{any-next}
 use Rattle.bounded.proofs.Mask.{bit-and, bit-or, bit-none, bit-mask, bit-without16, bit-without32, mask-is}
 use Rattle.problem.specs.Problem.{remove, eliminate}
-use Rattle.problem.specs.Held.{rowAllows, held}
+use Rattle.problem.specs.Held.{held}
 use Rattle.problem.specs.Masks.{stateOf, masksOf, Proper}
 use Rattle.problem.specs.declared.Masks.{Masks}
 use Rattle.problem.proofs.Reflect.{turn, eliminate-live}
@@ -26,7 +26,7 @@ use Rattle.problem.proofs.Bridge.{masks-is}
 use Rattle.held.specs.Ready.{Ready}
 use Rattle.cover.specs.Words.{others}
 use Rattle.steps.specs.Words.{domainAfter, supportedBy, partnersOf}
-use Rattle.held.proofs.Laws.{live-value, row-says, word-lt}
+use Rattle.held.proofs.Laws.{live-value, word-lt}
 
 -- ---- a union of rows
 
@@ -90,22 +90,20 @@ module _ {t : List ℕ} {m : Masks} (R : Ready t m) where
       (or-iff (eqb j i) (eqb (getD (m .domains) j 0) 0) .0 (T-of h)))))
 
   -- the values of j with a support at i stay
-  pub domain-word : (i j : ℕ) → j < 32 → j ≢ i → bitAnd (getD (m .domains) j 0) (partnersOf t (getD (m .domains) i 0) i j) ≡ domainAfter (held t) (stateOf m) i j
-  unfolding domainAfter partnersOf stateOf rowAllows
+  pub domain-word : (i j : ℕ) → j < 32 → j ≢ i → bitAnd (getD (m .domains) j 0) (partnersOf (held t) (getD (m .domains) i 0) i j) ≡ domainAfter (held t) (stateOf m) i j
+  unfolding domainAfter partnersOf stateOf
   domain-word i j q d =
       mask-is 16 (bitAnd (getD (m .domains) j 0) partners) (eliminate (held t) (stateOf m) i .live j) (word-lt R j _ q)
-      (λ c k. bit-and (getD (m .domains) j 0) partners c ∙ ap (λ (z : Bool). bit (getD (m .domains) j 0) c && z) (bit-mask 16 (λ c. anyBelow 16 (supportedBy t (getD (m .domains) i 0) i j c)) c k)
+      (λ c k. bit-and (getD (m .domains) j 0) partners c ∙ ap (λ (z : Bool). bit (getD (m .domains) j 0) c && z) (bit-mask 16 (λ c. anyBelow 16 (supportedBy (held t) (getD (m .domains) i 0) i j c)) c k)
       ∙ T-ext (
         λ h. let x = simp (and-iff, any-iff) at h in
             let v = x .1 .0 in
-            eliminate-live (held t) (stateOf m) (R .fits) i j c .1
-            (x .0, (d, (v, x .1 .2 .0, turn (held t) i v j c (subst T (sym (row-says (R .table) i v j c (live-value R i v (x .1 .2 .0)) (live-value R j c (x .0)) (λ e. d (sym e)))) (x .1 .2 .1))))),
+            eliminate-live (held t) (stateOf m) (R .fits) i j c .1 (x .0, (d, (v, x .1 .2 .0, turn (held t) i v j c (x .1 .2 .1)))),
         λ h. let x = eliminate-live (held t) (stateOf m) (R .fits) i j c .0 h in
             let y = x .1 .1 in
             let v = y .0 in
-            simp (and-iff, any-iff)
-            (x .0, (v, live-value R i v (y .1) .value, (y .1, subst T (row-says (R .table) i v j c (live-value R i v (y .1)) (live-value R j c (x .0)) (λ e. d (sym e))) (turn (held t) j c i v (y .2))))),
+            simp (and-iff, any-iff) (x .0, (v, live-value R i v (y .1) .value, (y .1, turn (held t) j c i v (y .2)))),
       ))
     where
       partners : ℕ
-      partners = maskOf 16 (λ c. anyBelow 16 (supportedBy t (getD (m .domains) i 0) i j c))
+      partners = maskOf 16 (λ c. anyBelow 16 (supportedBy (held t) (getD (m .domains) i 0) i j c))

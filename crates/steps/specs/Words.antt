@@ -1,19 +1,19 @@
 -- Eliminating a variable as the code does it: the values of another that have a support at it.
 use mathlib.Core.Bool.{Bool, _&&_}
-use mathlib.Core.List.{List}
 use Prim.Native.Nat.{ℕ}
 use Rattle.bounded.specs.Bounded.{anyBelow}
 use Rattle.bounded.specs.Mask.{bit, maskOf}
 use Rattle.problem.specs.Problem.{Problem, State, eliminate}
-use Rattle.problem.specs.Held.{rowAllows}
 
-module _ (P : Problem) (s : State) where
+module _ (P : Problem) where
   -- the domain of j after i is eliminated
-  unfoldable pub domainAfter : (i j : ℕ) → ℕ
-  domainAfter i j = maskOf 16 (eliminate P s i .live j)
+  unfoldable pub domainAfter : (s : State) (i j : ℕ) → ℕ
+  domainAfter s i j = maskOf 16 (eliminate P s i .live j)
 
-abbrev pub supportedBy : List ℕ → (domain i j c v : ℕ) → Bool
-supportedBy t domain i j c v = bit domain v && rowAllows t i v j c
+  -- value c of j has the support v at i, where i has the set `domain` of values
+  abbrev pub supportedBy : (domain i j c v : ℕ) → Bool
+  supportedBy domain i j c v = bit domain v && P .allowed i v j c
 
-unfoldable pub partnersOf : List ℕ → (domain i j : ℕ) → ℕ
-partnersOf t domain i j = maskOf 16 (λ c. anyBelow 16 (supportedBy t domain i j c))
+  -- the values of j with a support there
+  unfoldable pub partnersOf : (domain i j : ℕ) → ℕ
+  partnersOf domain i j = maskOf 16 (λ c. anyBelow 16 (supportedBy domain i j c))

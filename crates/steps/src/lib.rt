@@ -1,5 +1,6 @@
 // What a step makes of a state: a value removed, a variable eliminated.
 ghost use mathlib.Core.Path.{_≡_};
+ghost use mathlib.Core.Logic.{_≢_};
 ghost use Prim.Native.Nat.{_<_, _+_};
 ghost use Rattle.problem.specs.Problem.{remove as removed, eliminate as eliminated};
 ghost use Rattle.problem.specs.Held.{held, RowTable};
@@ -29,10 +30,10 @@ pub fn remove(t: &[u16], m: Masks, i: usize, b: usize) -> Masks
 
 // ---- a variable eliminated
 
-// The values of j with a support at i: the union of the rows of i's domain.
+// The values of another variable j with a support at i: the union of the rows of i's domain.
 fn partners(t: &[u16], domain: u16, i: usize, j: usize) -> u16
-    requires { ⌜ RowTable (now t) × (i < 32) × (j < 32) ⌝ }
-    ensures { λ r. ⌜ r ≡ partnersOf (now (t .entry)) domain i j ⌝ }
+    requires { ⌜ RowTable (now t) × (i < 32) × (j < 32) × (j ≢ i) ⌝ }
+    ensures { λ r. ⌜ r ≡ partnersOf (held (now (t .entry))) domain i j ⌝ }
 {
     let mut x: u16 = 0;
     let mut a: usize = 0;

@@ -5,11 +5,11 @@ ghost use Prim.Native.Nat.{_+_, _*_, _%_, _^_, _<_, _≤_};
 ghost use lib.Dec.{eqb};
 ghost use lib.ListN.{length};
 ghost use Rattle.bounded.specs.Mask.{bit, maskOf};
-ghost use Rattle.problem.specs.Problem.{sizeSum, maxValues};
-ghost use Rattle.problem.specs.Held.{tableLength, tableEntry, tableOf};
+ghost use Rattle.problem.specs.Problem.{sizeSum};
+ghost use Rattle.problem.specs.Held.{rowWord, tableLength, tableEntry, tableOf};
 ghost use Rattle.sheet.specs.Bytes.{byteAt, Is};
 ghost use Rattle.sheet.specs.Sheet.{layout, sizeAt, rowBytes, Keeps, Front};
-ghost use Rattle.sheet.specs.Relation.{rowsOf, rowIn, sizeOf, listed as isListed, allowedOf, problemOf};
+ghost use Rattle.sheet.specs.Relation.{rowsOf, rowIn, sizeOf, listed as isListed, problemOf};
 ghost use Rattle.sheet.specs.Parts.{BlockAt, RowAt, RowFrom, pairRows, entryRows};
 ghost use Rattle.sheet.specs.declared.Rows.the-variants.{At};
 use sheet::Rows;
@@ -116,7 +116,7 @@ fn turned(s: &[u8], i: usize, a: usize, j: usize, r: usize, z: usize) -> usize
 // The row of setting a of i towards another item j, both of the sheet, from the rows of the two.
 fn row_from(s: &[u8], rows: Rows, i: usize, a: usize, j: usize) -> u16
     requires { ⌜ Keeps layout (now s) × RowFrom layout (now s) rows i a j ⌝ }
-    ensures { λ x. ⌜ x ≡ maskOf maxValues (λ b. allowedOf layout (now (s .entry)) i a j b) ⌝ }
+    ensures { λ x. ⌜ x ≡ rowWord (problemOf layout (now (s .entry))) i j a ⌝ }
 {
     let z = byte(s, 8 + j);
     match rows {
@@ -134,7 +134,7 @@ fn row_from(s: &[u8], rows: Rows, i: usize, a: usize, j: usize) -> u16
 // The row of setting a of i towards j: no bit where the sheet lists no such setting or item, or i is j.
 fn row_for(s: &[u8], rows: Rows, i: usize, a: usize, j: usize) -> u16
     requires { ⌜ Keeps layout (now s) × (rows ≡ pairRows layout (now s) i j) ⌝ }
-    ensures { λ x. ⌜ x ≡ maskOf maxValues (λ b. allowedOf layout (now (s .entry)) i a j b) ⌝ }
+    ensures { λ x. ⌜ x ≡ rowWord (problemOf layout (now (s .entry))) i j a ⌝ }
 {
     if !listed(s, i, a) {
         return 0;

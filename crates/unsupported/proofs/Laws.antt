@@ -1,7 +1,7 @@
 -- The test for a support over words, and the search for an unsupported value. Assumes nothing.
 use mathlib.Core.Path.{_≡_, _∙_}
 use mathlib.Core.Bool.{false, not}
-use mathlib.Core.Logic.{_⊎_, inl, inr, _≢_, ⊎-elim}
+use mathlib.Core.Logic.{_⊎_, inl, inr, ⊎-elim}
 use mathlib.Core.List.{List}
 use Prim.Native.Nat.{ℕ, _<_}
 use lib.Dec.{eqb}
@@ -12,12 +12,12 @@ use Rattle.bounded.proofs.Truth.{T-ext, not-iff}
 use Rattle.bounded.proofs.Bounded.{any-iff}
 use Rattle.bounded.proofs.Mask.{zero-bits}
 use Rattle.problem.specs.Problem.{Problem, State, allLive, unsupported}
-use Rattle.problem.specs.Held.{rowPlace, held}
+use Rattle.problem.specs.Held.{rowWord, held}
 use Rattle.problem.specs.Masks.{stateOf}
 use Rattle.problem.specs.declared.Masks.{Masks}
 use Rattle.problem.proofs.Reflect.{Active, Live, allLive-iff, unsupported-iff}
 use Rattle.problem.proofs.HeldTable.{held-few, held-narrow}
-use Rattle.held.specs.Ready.{Ready, Value}
+use Rattle.held.specs.Ready.{Ready}
 use Rattle.problem.specs.Reduce.{stepIf, first, nextUnsupported}
 use Rattle.problem.specs.declared.Record.the-variants.{Unsupported}
 use Rattle.problem.specs.declared.Next.the-variants.{Nothing}
@@ -28,12 +28,12 @@ use Rattle.held.proofs.Bounds.{no-variable, no-value, not-live, no-domain}
 
 module _ {t : List ℕ} {m : Masks} (R : Ready t m) where
   -- bare, as one comparison
-  pub unsupported-word : (i b k : ℕ) → Value t i b → k < 32 → k ≢ i → eqb (bitAnd (getD (m .domains) k 0) (getD t (rowPlace i k b) 0)) 0 ≡ allLive (held t) (stateOf m) k (λ c. not ((held t) .allowed i b k c))
-  unsupported-word i b k vi q d =
-      zero-bits 16 (bitAnd (getD (m .domains) k 0) (getD t (rowPlace i k b) 0)) (word-lt R k _ q)
+  pub unsupported-word : (i b k : ℕ) → k < 32 → eqb (bitAnd (getD (m .domains) k 0) (rowWord (held t) i k b)) 0 ≡ allLive (held t) (stateOf m) k (λ c. not ((held t) .allowed i b k c))
+  unsupported-word i b k q =
+      zero-bits 16 (bitAnd (getD (m .domains) k 0) (rowWord (held t) i k b)) (word-lt R k _ q)
       ∙ T-ext (
-        λ h. simp (allLive-iff (R .fits), not-iff) (λ c o al. (simp (not-iff, any-iff) at h) (c, live-value R k c o .value, word-iff R i b k c vi d .1 (o, al))),
-        λ h. simp (not-iff, any-iff) (λ x. let y = word-iff R i b k (x .0) vi d .0 (x .2) in (simp (allLive-iff (R .fits), not-iff) at h) (x .0) (y .0) (y .1)),
+        λ h. simp (allLive-iff (R .fits), not-iff) (λ c o al. (simp (not-iff, any-iff) at h) (c, live-value R k c o .value, word-iff R i b k c .1 (o, al))),
+        λ h. simp (not-iff, any-iff) (λ x. let y = word-iff R i b k (x .0) .0 (x .2) in (simp (allLive-iff (R .fits), not-iff) at h) (x .0) (y .0) (y .1)),
       )
 
 module _ {t : List ℕ} {m : Masks} (R : Ready t m) where

@@ -38,7 +38,7 @@ loop-holds : tie.Need-loop-holds Inv-loop μ-loop
 loop-holds c = (omega arith, any-none _)
 
 row-number-requires : tie.Need-row-number-requires Inv-loop μ-loop
-row-number-requires c κs = let e = c .before .before .before .before .size .ensures in (c .before .before .before .before .before .before .pre, (omega arith, full-is _ _ _ (c .before .before .power .ensures) (c .before .before .before .size2 .ensures)))
+row-number-requires c κs = let e = c .before .before .before .before .size .ensures in (c .before .before .before .before .before .before .pre, omega arith)
 
 returns : tie.Need-returns Inv-loop μ-loop
 unfolding pairBars

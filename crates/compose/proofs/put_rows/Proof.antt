@@ -5,7 +5,6 @@ use Prim.Native.Nat.{ℕ, _+_, _-_, _^_, _≤_}
 use native.Mathlib.Omega.{arith}
 use denote.Ref.{now}
 use lib.ListN.{length}
-use lib.Pow.{pow-pos}
 use Rattle.problem.specs.Held.{held}
 use Rattle.problem.proofs.HeldTable.{held-few, held-narrow}
 use Rattle.sheet.specs.Bytes.{numberBytes}
@@ -13,16 +12,16 @@ use Rattle.sheet.specs.Sheet.{layout}
 use Rattle.compose.specs.Compose.{rowNumber, rowsBytes}
 use Rattle.compose.specs.Parts.{Underway}
 use Rattle.compose.proofs.Blocks.{roomy-today}
-use Rattle.compose.proofs.Writing.{full-is, begins, writes, part-room, ends, wrote-number, rows-step, rows-none}
+use Rattle.compose.proofs.Writing.{begins, writes, part-room, ends, wrote-number, rows-step, rows-none}
 use borrow.Author.Needs.{needs}
 use Rattle.compose.proofs.put_rows.Statement.{statement}
 use Rattle.compose.proofs.put_rows.Tie as tie
 
 abbrev Inv-loop : tie.InvT-loop
-Inv-loop t v out₀ at i j z y full w p₀ a₀ out p a = (a ≤ (held t) .size i) × Underway out₀ at (rowsBytes layout v (held t) i j ((held t) .size i) 0) out p (rowsBytes layout v (held t) i j ((held t) .size i - a) a)
+Inv-loop t v out₀ at i j z w p₀ a₀ out p a = (a ≤ (held t) .size i) × Underway out₀ at (rowsBytes layout v (held t) i j ((held t) .size i) 0) out p (rowsBytes layout v (held t) i j ((held t) .size i - a) a)
 
 abbrev μ-loop : tie.MeasureT-loop
-μ-loop t v out₀ at i j z y full w p₀ a₀ out p a = (held t) .size i - a
+μ-loop t v out₀ at i j z w p₀ a₀ out p a = (held t) .size i - a
 
 size-requires : tie.Need-size-requires Inv-loop μ-loop
 size-requires c κs = let p = c .before .before .pre .0 in let few = held-few (now (c .before .before .args .t)) in (p .table, omega arith)
@@ -30,33 +29,27 @@ size-requires c κs = let p = c .before .before .pre .0 in let few = held-few (n
 size-requires-2 : tie.Need-size-requires-2 Inv-loop μ-loop
 size-requires-2 c κs = let p = c .before .before .before .pre .0 in let few = held-few (now (c .before .before .before .args .t)) in (p .table, omega arith)
 
-power-requires : tie.Need-power-requires Inv-loop μ-loop
-power-requires c κs = let e = c .size2 .ensures in let l = held-narrow (c .before .before .before .before .pre .0 .table) (c .before .before .before .before .args .j) in omega arith
-
-sub-full : tie.Need-sub-full Inv-loop μ-loop
-sub-full c = let e = c .power .ensures in omega (arith, pow-pos (c .before .size2 .result))
-
 row-width-requires : tie.Need-row-width-requires Inv-loop μ-loop
 row-width-requires c κs = search needs
 
 loop-holds : tie.Need-loop-holds Inv-loop μ-loop
 loop-holds c =
-    let a = c .before .before .before .before .before .before .args in
+    let a = c .before .before .before .before .before .args in
     let S = (held (now (a .t))) .size (a .i) in
     let z : S - 0 ≡ S = omega arith in
-    (omega arith, rw z (begins _ _ _ (c .before .before .before .before .before .before .pre .1 .1)))
+    (omega arith, rw z (begins _ _ _ (c .before .before .before .before .before .pre .1 .1)))
 
 row-number-requires : tie.Need-row-number-requires Inv-loop μ-loop
-row-number-requires c κs = let e = c .before .before .before .before .before .size .ensures in (c .before .before .before .before .before .before .before .before .pre .0, (omega arith, full-is _ _ _ (c .before .before .before .power .ensures) (c .before .before .before .before .size2 .ensures)))
+row-number-requires c κs = let e = c .before .before .before .before .size .ensures in (c .before .before .before .before .before .before .before .pre .0, omega arith)
 
 -- the row of a is the next part
-next : (c : tie.In-loop Inv-loop μ-loop) → let a = c .before .before .before .before .before .before .before .before .args in let l = c .before .loop in let P = held (now (a .t)) in
+next : (c : tie.In-loop Inv-loop μ-loop) → let a = c .before .before .before .before .before .before .before .args in let l = c .before .loop in let P = held (now (a .t)) in
     Underway (a .out .now) (a .at) (rowsBytes layout (a .v) P (a .i) (a .j) (P .size (a .i)) 0) (l .out) (l .p)
     (numberBytes 2 (rowNumber P (a .i) (a .j) (l .a)) ++ rowsBytes layout (a .v) P (a .i) (a .j) (P .size (a .i) - (l .a + 1)) (l .a + 1))
 next c =
-    let a = c .before .before .before .before .before .before .before .before .args in
+    let a = c .before .before .before .before .before .before .before .args in
     let l = c .before .loop in
-    let e = c .before .before .before .before .before .size .ensures in
+    let e = c .before .before .before .before .size .ensures in
     rw (rows-step layout (a .v) (held (now (a .t))) (a .i) (a .j) ((held (now (a .t))) .size (a .i)) (l .a) (omega arith)) at (l .inv .1)
 
 room : (c : tie.In-loop Inv-loop μ-loop) → c .before .loop .p + 2 ≤ length (c .before .loop .out)
@@ -64,12 +57,12 @@ room c = part-room _ _ _ _ _ (numberBytes 2 _) _ (next c)
 
 put-row-requires : tie.Need-put-row-requires Inv-loop μ-loop
 put-row-requires c κs =
-    let a = c .before .before .before .before .before .before .before .before .before .before .args in
+    let a = c .before .before .before .before .before .before .before .before .before .args in
     let P = held (now (a .t)) in
     let w = c .before .before .before .before .row-width .ensures in
     let m = room (c .before .before) in
     let r = c .before .row-number .ensures .below in
-    let x = roomy-today .room (a .v) (P .size (a .j)) (c .before .before .before .before .before .before .before .before .before .before .pre .1 .0 .taken) (held-narrow (c .before .before .before .before .before .before .before .before .before .before .pre .0 .table) (a .j)) in
+    let x = roomy-today .room (a .v) (P .size (a .j)) (c .before .before .before .before .before .before .before .before .before .pre .1 .0 .taken) (held-narrow (c .before .before .before .before .before .before .before .before .before .pre .0 .table) (a .j)) in
     let g : 256 ^ c .before .before .before .before .row-width .result ≡ 256 ^ 2 = ap (λ (y : ℕ). 256 ^ y) (w .is) in
     (w .some, (w .few, (omega arith, omega arith)))
 
@@ -80,12 +73,12 @@ add-a : tie.Need-add-a Inv-loop μ-loop
 add-a c = search needs
 
 loop-less : tie.Need-loop-less Inv-loop μ-loop
-loop-less c = let e = c .before .before .before .before .before .before .before .before .before .before .size .ensures in omega arith
+loop-less c = let e = c .before .before .before .before .before .before .before .before .before .size .ensures in omega arith
 
 loop-again : tie.Need-loop-again Inv-loop μ-loop
 loop-again c =
-    let a = c .before .before .before .before .before .before .before .before .before .before .before .before .before .args in
-    let e = c .before .before .before .before .before .before .before .before .before .before .size .ensures in
+    let a = c .before .before .before .before .before .before .before .before .before .before .before .before .args in
+    let e = c .before .before .before .before .before .before .before .before .before .size .ensures in
     let o = wrote-number _ _ _ (c .before .before .before .before .before .before .before .row-width .result) 2 (c .before .before .before .before .row-number .result) (rowNumber (held (now (a .t))) (a .i) (a .j) (c .before .before .before .before .before .before .loop .a)) (c .before .before .before .before .before .before .before .row-width .ensures .is) (c .before .before .before .before .row-number .ensures .is) (c .before .before .put-row .ensures) in
     (omega arith, writes _ _ _ _ _ (numberBytes 2 (rowNumber (held (now (a .t))) (a .i) (a .j) (c .before .before .before .before .before .before .loop .a))) _ _ _ (next (c .before .before .before .before .before)) o)
 
@@ -94,10 +87,10 @@ same-length c = c .before .loop .inv .1 .same
 
 returns : tie.Need-returns Inv-loop μ-loop
 returns c =
-    let a = c .before .before .before .before .before .before .before .before .args in
+    let a = c .before .before .before .before .before .before .before .args in
     let P = held (now (a .t)) in
     let l = c .before .loop in
-    let e = c .before .before .before .before .before .size .ensures in
+    let e = c .before .before .before .before .size .ensures in
     ends _ _ _ _ _ (rw (rows-none layout (a .v) P (a .i) (a .j) (P .size (a .i)) (l .a) (omega arith)) at (l .inv .1))
 
 pub put-rows-spec : {M : Type 1} → statement M
@@ -108,8 +101,6 @@ put-rows-spec =
     μ-loop
     size-requires
     size-requires-2
-    power-requires
-    sub-full
     row-width-requires
     loop-holds
     row-number-requires

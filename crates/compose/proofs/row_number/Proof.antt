@@ -1,9 +1,7 @@
--- `compose::row_number`: the word at the place of the row, met with the settings of j. Assumes nothing.
-use mathlib.Core.Path.{ap, _∙_}
-use Prim.Native.Nat.{ℕ}
+-- `compose::row_number`: a row of the table. Assumes nothing.
+use mathlib.Core.Path.{_∙_}
 use native.Mathlib.Omega.{arith}
 use denote.Ref.{now}
-use lib.Bits.{bitAnd}
 use Rattle.bounded.proofs.Mask.{mask-lt}
 use Rattle.problem.specs.Held.{held}
 use Rattle.problem.proofs.HeldTable.{held-few, held-narrow}
@@ -18,7 +16,7 @@ row-requires c κs =
     let p = c .before .pre .0 in
     let few = held-few (now (a .t)) in
     let narrow = held-narrow (p .table) (a .i) in
-    (p .table, omega arith, omega arith, omega arith)
+    (p .table, omega arith, omega arith, omega arith, λ e. omega arith)
 
 cast-result : tie.Need-cast-result
 cast-result c = search needs
@@ -26,9 +24,8 @@ cast-result c = search needs
 returns : tie.Need-returns
 returns c =
     let a = c .before .before .args in
-    let p = c .before .before .pre in
     let P = held (now (a .t)) in
-    let e = ap (λ (x : ℕ). bitAnd x (a .full)) (c .row .ensures) ∙ row-held (p .0 .table) (a .i) (a .j) (a .a) (a .full) (p .0 .rises) (p .0 .ends) (p .1 .0) (p .1 .1) in
+    let e = c .row .ensures ∙ row-held (c .before .before .pre .0 .table) (a .i) (a .j) (a .a) in
     let l = mask-lt (P .size (a .j)) (λ b. P .allowed (a .i) (a .a) (a .j) b) in
     record { is = e; below = omega arith }
 

@@ -19,7 +19,7 @@ row-requires-2 c κs = search needs
 returns : tie.Need-returns
 returns c =
     let p = c .before .before .before .before .pre in
-    rw (c .before .row .ensures, c .row2 .ensures) (substitutes-word (p .0) _ _ _ _ _ (p .1) (p .2) (p .3) (p .4) (p .5))
+    rw (c .before .row .ensures, c .row2 .ensures) (substitutes-word (p .0) _ _ _ _ _ (p .3))
 
 pub substitutes-spec : {M : Type 1} → statement M
 substitutes-spec = tie.close (tie.spec mul-w element-copy-out-w row-requires row-requires-2 returns)

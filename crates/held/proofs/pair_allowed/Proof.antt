@@ -1,7 +1,6 @@
 -- `held::pair_allowed`: one row tells, and no two values of one variable are allowed. Assumes nothing.
-use mathlib.Core.Path.{sym}
 use borrow.Author.Needs.{needs}
-use Rattle.held.proofs.Laws.{allowed-word}
+use Rattle.held.proofs.Laws.{allowed-apart, row-says}
 use Rattle.held.proofs.pair_allowed.Statement.{statement}
 use Rattle.held.proofs.pair_allowed.Tie as tie
 
@@ -12,9 +11,10 @@ has16-requires : tie.Need-has16-requires
 has16-requires c κs = search needs
 
 returns : tie.Need-returns
-returns c =
-    let p = c .before .before .before .pre in
-    rw (c .has16 .ensures, c .before .row .ensures) (sym (allowed-word (p .0) _ _ _ _ (p .1) (p .2)))
+returns c = allowed-apart (c .before .before .pre .0) _ _ _ _ (c .if1 .taken)
+
+returns-2 : tie.Need-returns-2
+returns-2 c = rw (c .has16 .ensures, c .before .row .ensures) (row-says (c .before .before .before .before .pre .0) _ _ _ _)
 
 pub pair-allowed-spec : {M : Type 1} → statement M
-pair-allowed-spec = tie.close (tie.spec row-requires has16-requires returns)
+pair-allowed-spec = tie.close (tie.spec row-requires has16-requires returns returns-2)

@@ -17,7 +17,11 @@ element-copy-out-domain : tie.Need-element-copy-out-domain
 element-copy-out-domain c = search needs
 
 row-requires : tie.Need-row-requires
-row-requires c κs = search needs
+row-requires c κs =
+    let p = c .before .before .before .before .pre in
+    let a = c .before .before .before .before .args in
+    let d = other-apart (a .rest) (a .active) _ _ (p .2) (p .1 .variable) (sym (c .before .before .has32 .ensures) ∙ c .before .if1 .taken) in
+    search needs
 
 without32-requires : tie.Need-without32-requires
 without32-requires c κs = search needs
@@ -27,7 +31,7 @@ all-served-requires c κs =
     let p = c .before .before .before .before .before .before .pre in
     let a = c .before .before .before .before .before .before .args in
     let d = other-apart (a .rest) (a .active) _ _ (p .2) (p .1 .variable) (sym (c .before .before .before .before .has32 .ensures) ∙ c .before .before .before .if1 .taken) in
-    (p .0, rw (c .before .row .ensures) (word-among (p .0) _ _ _ (p .1) d), domain-among (p .0) _, rw (c .without32 .ensures) (others-out (a .rest) _ (p .3)))
+    (p .0, rw (c .before .row .ensures) (word-among (p .0) _ _ _), domain-among (p .0) _, rw (c .without32 .ensures) (others-out (a .rest) _ (p .3)))
 
 returns : tie.Need-returns
 returns c =
@@ -35,7 +39,7 @@ returns c =
     let a = c .before .before .before .before .before .before .before .args in
     let e = sym (c .before .before .before .before .before .has32 .ensures) ∙ c .before .before .before .before .if1 .taken in
     let d = other-apart (a .rest) (a .active) _ _ (p .2) (p .1 .variable) e in
-    rw e (c .all-served .ensures ∙ (rw (c .before .without32 .ensures, p .2, c .before .before .row .ensures) (snake-word (p .0) _ _ _ (p .1) (p .3) d)))
+    rw e (c .all-served .ensures ∙ (rw (c .before .without32 .ensures, p .2, c .before .before .row .ensures) (snake-word (p .0) _ _ _ (p .1 .variable) (p .3))))
 
 returns-2 : tie.Need-returns-2
 returns-2 c = rw (sym (c .before .has32 .ensures) ∙ c .if1 .left)

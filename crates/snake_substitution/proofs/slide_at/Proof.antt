@@ -18,10 +18,18 @@ element-copy-out-domain : tie.Need-element-copy-out-domain
 element-copy-out-domain c = search needs
 
 row-requires : tie.Need-row-requires
-row-requires c κs = search needs
+row-requires c κs =
+    let p = c .before .before .before .before .pre in
+    let a = c .before .before .before .before .args in
+    let d = other-apart (a .rest) (a .active) _ _ (p .3) (p .1 .variable) (sym (c .before .before .has32 .ensures) ∙ c .before .if1 .taken) in
+    search needs
 
 row-requires-2 : tie.Need-row-requires-2
-row-requires-2 c κs = search needs
+row-requires-2 c κs =
+    let p = c .before .before .before .before .before .pre in
+    let a = c .before .before .before .before .before .args in
+    let d = other-apart (a .rest) (a .active) _ _ (p .3) (p .1 .variable) (sym (c .before .before .before .has32 .ensures) ∙ c .before .before .if1 .taken) in
+    search needs
 
 slide-set-requires : tie.Need-slide-set-requires
 slide-set-requires c κs = search needs
@@ -32,8 +40,8 @@ all-served-requires c κs =
     let a = c .before .before .before .before .before .before .before .args in
     let d = other-apart (a .rest) (a .active) _ _ (p .3) (p .1 .variable) (sym (c .before .before .before .before .before .has32 .ensures) ∙ c .before .before .before .before .if1 .taken) in (
       p .0,
-      rw (c .before .before .row .ensures) (word-among (p .0) _ _ _ (p .2) d),
-      rw (c .before .row2 .ensures) (word-among (p .0) _ _ _ (p .1) d),
+      rw (c .before .before .row .ensures) (word-among (p .0) _ _ _),
+      rw (c .before .row2 .ensures) (word-among (p .0) _ _ _),
       rw (c .slide-set .ensures) (slideSet-out slideSpares _ _ _ (p .1 .variable) (p .4)),
     )
 
@@ -43,7 +51,7 @@ returns c =
     let a = c .before .before .before .before .before .before .before .before .args in
     let e = sym (c .before .before .before .before .before .before .has32 .ensures) ∙ c .before .before .before .before .before .if1 .taken in
     let d = other-apart (a .rest) (a .active) _ _ (p .3) (p .1 .variable) e in
-    rw e (c .all-served .ensures ∙ (rw (c .before .slide-set .ensures, c .before .before .row2 .ensures, c .before .before .before .row .ensures) (slide-word (p .0) slideSpares _ _ _ _ (p .1) (p .2) (p .4) d)))
+    rw e (c .all-served .ensures ∙ (rw (c .before .slide-set .ensures, c .before .before .row2 .ensures, c .before .before .before .row .ensures) (slide-word (p .0) slideSpares _ _ _ _ (p .1 .variable) (p .4))))
 
 returns-2 : tie.Need-returns-2
 returns-2 c = rw (sym (c .before .has32 .ensures) ∙ c .if1 .left)

@@ -19,7 +19,9 @@ element-copy-out-partners : tie.Need-element-copy-out-partners
 element-copy-out-partners c = search needs
 
 partners-requires : tie.Need-partners-requires
-partners-requires c κs = search needs
+partners-requires c κs =
+    let p = c .before .before .before .before .pre in
+    (p .0 .table, p .1, p .2, eqb-false _ _ (neither _ _ (c .before .if1 .left) .0))
 
 returns : tie.Need-returns
 returns c = domain-gone (c .before .before .before .pre .0) _ _ (c .if1 .taken)

@@ -9,14 +9,15 @@ use Rattle.bounded.specs.Bounded.{anyBelow}
 use Rattle.bounded.specs.Mask.{bit}
 use Rattle.bounded.proofs.Loops.{any-none}
 use Rattle.bounded.proofs.Mask.{bit-none, mask-is}
-use Rattle.problem.specs.Held.{rowAllows}
+use Rattle.problem.specs.Held.{held}
+use Rattle.held.proofs.Laws.{row-says}
 use Rattle.steps.specs.Words.{supportedBy, partnersOf}
 use Rattle.steps.proofs.Steps.{gather-on, gather-off}
 use Rattle.steps.proofs.partners.Statement.{statement}
 use Rattle.steps.proofs.partners.Tie as tie
 
 abbrev Inv-loop : tie.InvT-loop
-Inv-loop t domain i j x₀ a₀ x a = (a ≤ 16) × (x < 2 ^ 16) × ((c : ℕ) → c < 16 → bit x c ≡ anyBelow a (supportedBy t domain i j c))
+Inv-loop t domain i j x₀ a₀ x a = (a ≤ 16) × (x < 2 ^ 16) × ((c : ℕ) → c < 16 → bit x c ≡ anyBelow a (supportedBy (held t) domain i j c))
 
 abbrev μ-loop : tie.MeasureT-loop
 μ-loop t domain i j x₀ a₀ x a = 16 - a
@@ -37,14 +38,14 @@ loop-less : tie.Need-loop-less Inv-loop μ-loop
 loop-less c = search needs
 
 loop-again : tie.Need-loop-again Inv-loop μ-loop
-unfolding rowAllows
 loop-again c =
     let w = c .before .before .before .loop in
+    let R = c .before .before .before .before .before .pre .0 in
     ⊎-elim
     (λ d. let e = sym (c .before .has16 .ensures) ∙ d .0 .taken in (
       omega arith,
       rw (d .2) (or-lt 16 (w .x) _ (w .inv .1) (search needs)),
-      (λ k l. rw (d .2, d .1 .ensures) (gather-on _ (w .x) _ (w .a) k (w .inv .2 k l) (rw e))),
+      (λ k l. rw (d .2, d .1 .ensures) (gather-on _ (w .x) _ (w .a) k (w .inv .2 k l) (rw e (sym (row-says R _ _ _ k))))),
     ))
     (λ d. let e = sym (c .before .has16 .ensures) ∙ d .0 .left in (omega arith, rw (d .1) (w .inv .1), (λ k l. rw (d .1) (gather-off _ (w .x) (w .a) k (w .inv .2 k l) (rw e)))))
     (c .if1 .came)

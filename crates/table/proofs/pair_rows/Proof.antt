@@ -1,7 +1,7 @@
 -- `table::pair_rows`.
 use mathlib.Core.Path.{sym, _∙_}
 use Rattle.sheet.specs.Sheet.{layout}
-use Rattle.table.proofs.Table.{rows-up, rows-down}
+use Rattle.sheet.proofs.Words.{rows-up, rows-down}
 use borrow.Author.Needs.{needs}
 use Rattle.table.proofs.pair_rows.Statement.{statement}
 use Rattle.table.proofs.pair_rows.Tie as tie

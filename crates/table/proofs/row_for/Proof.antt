@@ -4,7 +4,7 @@ use mathlib.Core.Path.{sym, _∙_}
 use denote.Ref.{now}
 use Rattle.sheet.specs.Sheet.{layout}
 use Rattle.sheet.proofs.Accepted.{facts, size-out, listed-out, allowed-left, allowed-right, allowed-same}
-use Rattle.table.proofs.Table.{row-none}
+use Rattle.sheet.proofs.Words.{row-none}
 use borrow.Author.Needs.{needs}
 use native.Mathlib.Omega.{arith}
 use Rattle.table.proofs.row_for.Statement.{statement}

@@ -6,7 +6,7 @@ use lib.ListN.{length}
 use lib.Pow.{pow-mono}
 use Rattle.sheet.specs.Sheet.{layout, sizeAt}
 use Rattle.sheet.proofs.Accepted.{facts, listed-in}
-use Rattle.table.proofs.Table.{rows-up, rows-down, row-free, row-up, row-down}
+use Rattle.sheet.proofs.Words.{rows-up, rows-down, row-free, row-up, row-down}
 use borrow.Author.Needs.{needs}
 use native.Mathlib.Omega.{arith}
 use Rattle.table.proofs.row_from.Statement.{statement}

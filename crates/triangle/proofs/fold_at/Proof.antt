@@ -30,13 +30,13 @@ served-requires c κs =
     let p = c .before .before .before .before .before .before .pre in
     let v = bit-value (p .0) _ _ (sym (c .before .before .before .has16 .ensures) ∙ c .before .before .if1 .taken) in
     let o = thirds-out (c .before .before .before .before .before .before .args .active) _ _ (p .2) (p .3) in
-    (p .0, rw (c .row .ensures) (word-among (p .0) _ _ _ v (λ e. p .4 (sym e))), v, rw (p .1) (o .0), rw (p .1) (o .1))
+    (p .0, rw (c .row .ensures) (word-among (p .0) _ _ _), v, rw (p .1) (o .0), rw (p .1) (o .1))
 
 returns : tie.Need-returns
 returns c =
     let p = c .before .before .before .before .before .before .before .pre in
     let e = sym (c .before .before .before .before .has16 .ensures) ∙ c .before .before .before .if1 .taken in
-    rw e (c .served .ensures ∙ (rw (p .1, c .before .row .ensures) (fold-word (p .0) _ _ _ (bit-value (p .0) _ _ e) (p .2) (p .4))))
+    rw e (c .served .ensures ∙ (rw (p .1, c .before .row .ensures) (fold-word (p .0) _ _ _ (p .2) (p .3))))
 
 returns-2 : tie.Need-returns-2
 returns-2 c = rw (sym (c .before .has16 .ensures) ∙ c .if1 .left)

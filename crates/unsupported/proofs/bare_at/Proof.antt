@@ -16,7 +16,7 @@ row-requires c κs = search needs
 returns : tie.Need-returns
 returns c =
     let p = c .before .before .before .pre in
-    rw (c .row .ensures) (unsupported-word (p .0) _ _ _ (p .1) (p .2) (p .3))
+    rw (c .row .ensures) (unsupported-word (p .0) _ _ _ (p .2))
 
 pub bare-at-spec : {M : Type 1} → statement M
 bare-at-spec = tie.close (tie.spec mul-result element-copy-out-result row-requires returns)

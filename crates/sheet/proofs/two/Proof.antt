@@ -1,0 +1,26 @@
+-- `sheet::two`: the first byte is worth the most. Assumes nothing.
+use native.Mathlib.Omega.{arith}
+use borrow.Author.Needs.{needs}
+use Rattle.sheet.proofs.two.Statement.{statement}
+use Rattle.sheet.proofs.two.Tie as tie
+
+add-byte : tie.Need-add-byte
+add-byte c = search needs
+
+byte-requires : tie.Need-byte-requires
+byte-requires c κs = search needs
+
+mul-result : tie.Need-mul-result
+mul-result c = search needs
+
+byte-requires-2 : tie.Need-byte-requires-2
+byte-requires-2 c κs = search needs
+
+add-result : tie.Need-add-result
+add-result c = search needs
+
+returns : tie.Need-returns
+returns c = record { is = omega arith; below = omega arith }
+
+pub two-spec : {M : Type 1} → statement M
+two-spec = tie.close (tie.spec byte-requires add-byte byte-requires-2 mul-result add-result returns)
