@@ -1,4 +1,4 @@
--- Laws for the code: the rows of the table, the marks, one step of each loop, and writing in turn. Assumes nothing.
+-- Laws for the code: the settings of an item, the marks, one step of each loop, and writing in turn. Assumes nothing.
 use mathlib.Core.Path.{_≡_, refl, sym, ap, _∙_}
 use mathlib.Core.Bool.{Bool, true, false}
 use mathlib.Core.List.{List, [], _∷_, _++_, append-assoc}
@@ -15,8 +15,7 @@ use Rattle.bounded.specs.Table.{tab, filled}
 use Rattle.bounded.proofs.Truth.{lt-dec}
 use Rattle.bounded.proofs.Table.{length-tab, getD-tab}
 use Rattle.problem.specs.Problem.{Problem}
-use Rattle.problem.specs.Held.{rowWord, held, RowTable}
-use Rattle.problem.proofs.HeldTable.{held-bounded, row-sized}
+use Rattle.problem.specs.Held.{held, RowTable}
 use Rattle.sheet.specs.Bytes.{numberBytes}
 use Rattle.sheet.specs.Sheet.{Layout, layout}
 use Rattle.trace.specs.Written.{written}
@@ -26,11 +25,7 @@ use Rattle.compose.specs.Compose.{rowNumber, pairBars, hasBlock, blockCo
 use Rattle.compose.specs.Parts.{markOf, Marked, Wrote, Underway, frontBytes}
 use Rattle.compose.proofs.Stands.{length-number}
 
--- ---- the table
-
--- a row of the table is the row of the sheet
-pub row-held : {t : List ℕ} → RowTable t → (i j a : ℕ) → rowWord (held t) i j a ≡ rowNumber (held t) i j a
-row-held R i j a = row-sized (held-bounded R) i j a
+-- ---- the settings of an item
 
 -- the settings of j, as the code counts them
 pub full-is : (p y z : ℕ) → p ≡ 2 ^ y → y ≡ z → p - 1 + 1 ≡ 2 ^ z
