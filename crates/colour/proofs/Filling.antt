@@ -13,10 +13,11 @@ use lib.Pow.{pow-mono, pow-pos}
 use borrow.Author.Tests.{lt-ltb, le-ltb}
 use Rattle.bounded.specs.Mask.{bit, without}
 use Rattle.bounded.proofs.Truth.{T-ext, eqb-iff, lt-dec, eq-dec, T-not}
-use Rattle.bounded.proofs.Mask.{mask-is, bit-none, bit-mask, bit-without16}
+use Rattle.bounded.proofs.Mask.{bit-mask, bit-without16}
 use Rattle.bounded.proofs.Table.{length-tab, getD-tab}
 use Rattle.problem.specs.Problem.{Problem, bothWays}
 use Rattle.problem.specs.Held.{rowWord, tableLength, tableEntry, tableOf, Bounded}
+use Rattle.problem.proofs.HeldTable.{row-only, row-none}
 use Rattle.problem.proofs.BothWays.{both-up, both-down, both-same}
 use Rattle.held.proofs.Full.{below-mask}
 use Rattle.graph.specs.Colouring.{channelsAt, isChannel, mayStand, colouring}
@@ -67,10 +68,6 @@ row-at P x a h =
     let y : (32 + 16 * x + a - 32) / 16 ≡ x = omega arith in
     let j : (32 + 16 * x + a - 32) / 16 % 32 ≡ x % 32 = ap (λ (z : ℕ). z % 32) y in
     rw (q, tableEntry) (λ t. rowWord P (i t) (j t) (v t))
-
-row-zero : (P : Problem) (i j a : ℕ) → ((c : ℕ) → P .allowed i a j c ≡ false) → rowWord P i j a ≡ 0
-unfolding rowWord
-row-zero P i j a h = sym (mask-is 16 0 (P .allowed i a j) (omega arith) (λ c l. bit-none c ∙ sym (h c)))
 
 -- ---- what a colouring problem allows
 
@@ -193,9 +190,8 @@ module _ (v k : ℕ) (joined : ℕ → ℕ → Bool) (few : k ≤ 16) where
   -- a row of two different vertices
   pub row-entry : (x a : ℕ) → Pair v (x / 32) (x % 32) → a < k
       → cond (joinedPair joined (x / 32) (x % 32)) (without 16 (2 ^ k - 1) a) (2 ^ k - 1) ≡ tableEntry (colouring v k joined) (32 + 16 * x + a)
-  unfolding rowWord
   row-entry x a Q h =
-      mask-is 16 (rowBarring (joinedPair joined (x / 32) (x % 32)) k a) (λ b. (colouring v k joined) .allowed (x / 32) a (x % 32) b) (row-small (joinedPair joined (x / 32) (x % 32)) k a few)
+      row-only (colouring v k joined) (x / 32) (x % 32) a (rowBarring (joinedPair joined (x / 32) (x % 32)) k a) (row-small (joinedPair joined (x / 32) (x % 32)) k a few)
       (λ c l. row-bits (joinedPair joined (x / 32) (x % 32)) k a c few (omega arith) l ∙ sym (⊎-elim
       (λ (m : c < k). allows v k joined (x / 32) a (x % 32) c (Q .first) h (Q .second) m (Q .apart) ∙ sym (ap (λ (t : Bool). t && not (joinedPair joined (x / 32) (x % 32) && eqb c a)) (lt-ltb c k m)))
       (λ (m : k ≤ c). (colouring v k joined) .symmetric (x / 32) a (x % 32) c ∙ allows-none v k joined (x % 32) c (x / 32) a (inr m) ∙ sym (ap (λ (t : Bool). t && not (joinedPair joined (x / 32) (x % 32) && eqb c a)) (le-ltb c k m)))
@@ -204,7 +200,7 @@ module _ (v k : ℕ) (joined : ℕ → ℕ → Bool) (few : k ≤ 16) where
 
   -- a row that is none of the problem's
   pub no-row : (x a : ℕ) → a < 16 → ((v ≤ x / 32) ⊎ (k ≤ a)) ⊎ ((v ≤ x % 32) ⊎ (x / 32 ≡ x % 32)) → tableEntry (colouring v k joined) (32 + 16 * x + a) ≡ 0
-  no-row x a h w = row-at (colouring v k joined) x a h ∙ row-zero (colouring v k joined) (x / 32) (x % 32) a (λ c. go c w)
+  no-row x a h w = row-at (colouring v k joined) x a h ∙ sym (row-none (colouring v k joined) (x / 32) (x % 32) a (λ c. go c w))
     where
       go : (c : ℕ) → ((v ≤ x / 32) ⊎ (k ≤ a)) ⊎ ((v ≤ x % 32) ⊎ (x / 32 ≡ x % 32)) → (colouring v k joined) .allowed (x / 32) a (x % 32) c ≡ false
       go c (inl z) = allows-none v k joined (x / 32) a (x % 32) c z

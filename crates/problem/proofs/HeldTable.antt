@@ -13,7 +13,7 @@ use Rattle.bounded.specs.Bounded.{lowest}
 use Rattle.bounded.specs.Mask.{bit, maskOf}
 use Rattle.bounded.proofs.Truth.{T-ext, and-iff, not-iff, eqb-iff, ltb-iff, lt-dec}
 use Rattle.bounded.proofs.Bounded.{lowest-unique, lowest-le, lowest-least}
-use Rattle.bounded.proofs.Mask.{mask-lt, mask-is, bit-mask-all}
+use Rattle.bounded.proofs.Mask.{mask-lt, mask-is, bit-mask-all, bit-none}
 use Rattle.bounded.proofs.Table.{length-tab, getD-tab}
 use Rattle.problem.specs.Problem.{Problem, sizeSum}
 use Rattle.problem.specs.Held.{rowWord, tableLength, rowPlace, heldSize, heldVariables, heldValue, rowAllows, heldRow, held, RowTable, tableEntry, tableOf, Bounded}
@@ -83,6 +83,15 @@ held-bounded {t} R =
 
 -- ---- a row
 
+-- a word with these bits is the row
+pub row-only : (P : Problem) (i j a x : ℕ) → x < 2 ^ 16 → ((c : ℕ) → c < 16 → bit x c ≡ P .allowed i a j c) → x ≡ rowWord P i j a
+unfolding rowWord
+row-only P i j a x l h = mask-is 16 x (P .allowed i a j) l h
+
+-- where nothing is allowed it has none
+pub row-none : (P : Problem) (i j a : ℕ) → ((c : ℕ) → P .allowed i a j c ≡ false) → 0 ≡ rowWord P i j a
+row-none P i j a h = row-only P i j a 0 (omega arith) (λ c l. bit-none c ∙ sym (h c))
+
 module _ {P : Problem} (B : Bounded P) (i j a : ℕ) where
   -- "In a row, the bit worth 2^c is set when setting c of j is allowed", and at no other c
   pub row-word : (c : ℕ) → bit (rowWord P i j a) c ≡ P .allowed i a j c
@@ -91,10 +100,9 @@ module _ {P : Problem} (B : Bounded P) (i j a : ℕ) where
 
   -- the settings of j are all that it has bits for
   pub row-sized : rowWord P i j a ≡ maskOf (P .size j) (P .allowed i a j)
-  unfolding rowWord
   row-sized =
       let p : 2 ^ P .size j ≤ 2 ^ 16 = pow-mono (B .narrow j) in
-      sym (mask-is 16 (maskOf (P .size j) (P .allowed i a j)) (P .allowed i a j) (omega (arith, mask-lt (P .size j) (P .allowed i a j)))
+      sym (row-only P i j a (maskOf (P .size j) (P .allowed i a j)) (omega (arith, mask-lt (P .size j) (P .allowed i a j)))
       (λ c l. bit-mask-all (P .size j) (P .allowed i a j) (λ k t. B .listed i a j k t .3) c))
 
   pub row-within : rowWord P i j a < 2 ^ P .size j

@@ -1,19 +1,18 @@
 -- The row of a setting towards another item: what the bytes of an accepted sheet say of it. Assumes nothing.
 use mathlib.Core.Path.{_≡_, refl, sym, ap, _∙_}
-use mathlib.Core.Bool.{Bool, true, false, cond}
+use mathlib.Core.Bool.{true, false}
 use mathlib.Core.Logic.{⊎-elim, _≢_}
 use mathlib.Core.List.{List}
 use Prim.Native.Nat.{ℕ, _+_, _-_, _*_, _^_, _≤_, _<_}
 use native.Mathlib.Omega.{arith}
-use lib.Dec.{ltb}
 use lib.Pow.{pow-mono, pow-pos}
 use borrow.Author.Tests.{lt-ltb, le-ltb}
 use Rattle.bounded.specs.Mask.{bit, maskOf}
 use Rattle.bounded.proofs.Truth.{lt-dec}
-use Rattle.bounded.proofs.Mask.{mask-is, mask-lt, bit-mask, bit-none, bit-high, full-bit}
+use Rattle.bounded.proofs.Mask.{mask-lt, bit-mask, bit-high, full-bit}
 use Rattle.problem.specs.Problem.{Problem}
 use Rattle.problem.specs.Held.{rowWord}
-use Rattle.problem.proofs.HeldTable.{row-word}
+use Rattle.problem.proofs.HeldTable.{row-only, row-none, row-word}
 use Rattle.sheet.specs.Bytes.{numberAt}
 use Rattle.sheet.specs.Sheet.{Layout, layout, variablesOf, sizeAt, Keeps}
 use Rattle.sheet.specs.Relation.{rowsFrom, rowsOf, rowIn, rowsAllow, pairAllowed, listed, allowedOf, problemOf}
@@ -33,18 +32,18 @@ module _ (L : Layout) (s : List ℕ) where
   rows-down i j h = simp (le-ltb i j h)
 
   -- nothing is allowed
-  pub row-none : (i a j : ℕ) → ((b : ℕ) → allowedOf L s i a j b ≡ false) → 0 ≡ rowWord (problemOf L s) i j a
-  unfolding rowWord problemOf
-  row-none i a j h = mask-is 16 0 (allowedOf L s i a j) (omega arith) (λ b l. bit-none b ∙ sym (h b))
+  pub none-allowed : (i a j : ℕ) → ((b : ℕ) → allowedOf L s i a j b ≡ false) → 0 ≡ rowWord (problemOf L s) i j a
+  unfolding problemOf
+  none-allowed i a j h = row-none (problemOf L s) i j a h
 
   module _ (y : Keeps L s) (i a j : ℕ) (on : listed L s i a ≡ true) (other : j < variablesOf s) where
     -- what is right at the settings of j, and has no bit beyond them, is the row
     row-is : (x : ℕ) → x < 2 ^ sizeAt s j → ((b : ℕ) → b < sizeAt s j → bit x b ≡ pairAllowed L s i a j b) → x ≡ rowWord (problemOf L s) i j a
-    unfolding rowWord problemOf
+    unfolding problemOf
     row-is x l h =
         let z = facts L s y .front .sizes j other .1 in
         let p : 2 ^ sizeAt s j ≤ 2 ^ 16 = pow-mono z in
-        mask-is 16 x (allowedOf L s i a j) (omega arith)
+        row-only (problemOf L s) i j a x (omega arith)
         (λ b k.
         ⊎-elim
         (λ m. h b m ∙ sym (allowed-listed L s i a j b on (listed-of L s j b other m)))
@@ -105,12 +104,9 @@ module _ (s : List ℕ) (y : Keeps layout s) (i j a : ℕ) (one : i < variablesO
   unfolding sheetRow
   row-sheet =
       ⊎-elim
-      (λ (h : i < j). own (rowsOf layout s i j) refl h ∙ sym (pick (lt-ltb i j h)))
-      (λ (h : j ≤ i). turned (rowsOf layout s j i) refl (let n : j ≡ i → ⊥ = apart in omega arith) ∙ sym (pick (le-ltb i j h)))
+      (λ (h : i < j). rw (lt-ltb i j h) (own (rowsOf layout s i j) refl h))
+      (λ (h : j ≤ i). let n : j ≡ i → ⊥ = apart in rw (le-ltb i j h) (turned (rowsOf layout s j i) refl (omega arith)))
       (lt-dec i j)
-    where
-      pick : {b : Bool} → ltb i j ≡ b → cond (ltb i j) (ownRow s (rowsOf layout s i j) j a) (turnedRow s (rowsOf layout s j i) j a) ≡ cond b (ownRow s (rowsOf layout s i j) j a) (turnedRow s (rowsOf layout s j i) j a)
-      pick e = ap (λ (b : Bool). cond b (ownRow s (rowsOf layout s i j) j a) (turnedRow s (rowsOf layout s j i) j a)) e
 
   -- so in those bytes, too, the bit worth 2^c is set exactly where setting c of j is allowed
   pub row-sheet-bits : (c : ℕ) → bit (sheetRow s i j a) c ≡ P .allowed i a j c

@@ -4,7 +4,7 @@ use mathlib.Core.Path.{sym, _∙_}
 use denote.Ref.{now}
 use Rattle.sheet.specs.Sheet.{layout}
 use Rattle.sheet.proofs.Accepted.{facts, size-out, listed-out, allowed-left, allowed-right, allowed-same}
-use Rattle.sheet.proofs.Words.{row-none}
+use Rattle.sheet.proofs.Words.{none-allowed}
 use borrow.Author.Needs.{needs}
 use native.Mathlib.Omega.{arith}
 use Rattle.table.proofs.row_for.Statement.{statement}
@@ -14,7 +14,7 @@ listed-requires : tie.Need-listed-requires
 listed-requires c κs = search needs
 
 returns : tie.Need-returns
-returns c = row-none layout _ _ _ _ (λ b. allowed-left layout _ _ _ _ b (sym (c .before .listed .ensures) ∙ not-true _ (c .if1 .taken)))
+returns c = none-allowed layout _ _ _ _ (λ b. allowed-left layout _ _ _ _ b (sym (c .before .listed .ensures) ∙ not-true _ (c .if1 .taken)))
 
 byte-requires : tie.Need-byte-requires
 byte-requires c κs = let f = facts layout _ (c .before .before .before .pre .0) in omega arith
@@ -24,10 +24,10 @@ returns-2 c =
     let a = c .before .before .before .before .before .args in
     let s = now (a .s) in
     let z = size-out layout s (a .j) (omega arith) in
-    row-none layout s (a .i) (a .a) (a .j) (λ b. allowed-right layout s (a .i) (a .a) (a .j) b (listed-out layout s (a .j) b (omega arith)))
+    none-allowed layout s (a .i) (a .a) (a .j) (λ b. allowed-right layout s (a .i) (a .a) (a .j) b (listed-out layout s (a .j) b (omega arith)))
 
 returns-3 : tie.Need-returns-3
-returns-3 c = row-none layout _ _ _ _ (λ b. allowed-same layout _ _ _ _ b (c .if3 .taken))
+returns-3 c = none-allowed layout _ _ _ _ (λ b. allowed-same layout _ _ _ _ b (c .if3 .taken))
 
 row-from-requires : tie.Need-row-from-requires
 row-from-requires c κs = (c .before .before .before .before .before .before .pre .0, record { found = c .before .before .before .before .before .before .pre .1; one = sym (c .before .before .before .before .listed .ensures) ∙ not-false _ (c .before .before .before .if1 .left); other = omega arith; apart = c .if3 .left })
