@@ -76,11 +76,11 @@ all-or (suc n) f = go (T-dec (f n)) (all-or n f)
 
 -- ---- lowest
 
-lowest-here : (n : ℕ) (f : ℕ → Bool) → f zero ≡ true → lowest (suc n) f ≡ zero
+pub lowest-here : (n : ℕ) (f : ℕ → Bool) → f zero ≡ true → lowest (suc n) f ≡ zero
 unfolding lowest
 lowest-here n f e = rw (e, lowest)
 
-lowest-later : (n : ℕ) (f : ℕ → Bool) → f zero ≡ false → lowest (suc n) f ≡ suc (lowest n (λ k. f (suc k)))
+pub lowest-later : (n : ℕ) (f : ℕ → Bool) → f zero ≡ false → lowest (suc n) f ≡ suc (lowest n (λ k. f (suc k)))
 unfolding lowest
 lowest-later n f e = rw (e, lowest)
 

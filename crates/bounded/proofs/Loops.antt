@@ -1,15 +1,15 @@
 -- What a loop that goes up from 0 knows of the tests: at its start, after one turn more, where it stops early, and at its end.
 -- Assumes nothing.
-use mathlib.Core.Path.{_≡_, refl, ap, subst, _∙_}
+use mathlib.Core.Path.{_≡_, refl, sym, ap, subst, _∙_}
 use mathlib.Core.Bool.{Bool, true, false, _||_}
-use mathlib.Core.Logic.{_⊎_, inl, inr, ⊎-elim}
+use mathlib.Core.Logic.{_⊎_, inl, inr, ⊎-elim, _↔_}
 use Prim.Native.Nat.{ℕ, _+_, _≤_, _<_}
 use native.Mathlib.Numerals.{add-one}
 use native.Mathlib.Omega.{arith}
 use lib.Dec.{T}
-use Rattle.bounded.specs.Bounded.{allBelow, anyBelow, lowest, sumTo}
-use Rattle.bounded.proofs.Truth.{T-true, T-false, T-of, T-not, T-ext, or-iff, at-or-below}
-use Rattle.bounded.proofs.Bounded.{all-iff, any-iff, lowest-unique, lowest-least}
+use Rattle.bounded.specs.Bounded.{allBelow, anyBelow, lowest, atLowest, sumTo}
+use Rattle.bounded.proofs.Truth.{T-true, T-false, T-of, T-not, T-ext, split, or-iff, at-or-below}
+use Rattle.bounded.proofs.Bounded.{all-iff, any-iff, lowest-is, lowest-unique, lowest-least}
 
 -- ---- all
 
@@ -84,6 +84,49 @@ lowest-hit f n k l p q = lowest-unique n f k (omega arith) (λ m h t. lowest-lea
 -- a loop's end: i has come to n
 pub lowest-end : (f : ℕ → Bool) (n i : ℕ) → n ≤ i → i ≤ n → lowest i f ≡ i → lowest n f ≡ n
 lowest-end f n i l m e = let q : i ≡ n = omega arith in subst (λ (k : ℕ). lowest k f ≡ k) q e
+
+-- ---- at the lowest
+
+module _ {A : Type 0} (f : ℕ → Bool) (g : ℕ → A) (z : A) where
+  at-lowest-some : (n : ℕ) → anyBelow n f ≡ true → atLowest n f g z ≡ g (lowest n f)
+  unfolding atLowest
+  at-lowest-some n e = rw (e, atLowest)
+
+  -- a loop's end: there is none
+  pub at-lowest-end : (n : ℕ) → anyBelow n f ≡ false → atLowest n f g z ≡ z
+  unfolding atLowest
+  at-lowest-end n e = rw (e, atLowest)
+
+  -- none before k, and one at k
+  pub at-lowest-hit : (n k : ℕ) → k < n → anyBelow k f ≡ false → f k ≡ true → atLowest n f g z ≡ g k
+  at-lowest-hit n k l p q =
+      at-lowest-some n (any-hit f n k l q)
+      ∙ ap g (lowest-unique n f k (omega arith) (λ m h t. T-not (any-each f k p m h) t) (λ h. T-of q))
+
+  -- what decides it
+  pub at-lowest-is : (n k : ℕ) → k < n → T (f k) → ((m : ℕ) → m < k → T (f m) → ⊥) → atLowest n f g z ≡ g k
+  at-lowest-is n k l t h = at-lowest-hit n k l (any-intro f k (λ m i. T-false (f m) (h m i))) (T-true (f k) t)
+
+  pub at-lowest-none : (n : ℕ) → ((k : ℕ) → k < n → T (f k) → ⊥) → atLowest n f g z ≡ z
+  at-lowest-none n h = at-lowest-end n (any-intro f n (λ k l. T-false (f k) (h k l)))
+
+  -- there is one, or none
+  pub at-lowest-or : (n : ℕ) → ((k : ℕ) × (k < n) × T (f k) × ((m : ℕ) → m < k → T (f m) → ⊥)) ⊎ ((k : ℕ) → k < n → T (f k) → ⊥)
+  at-lowest-or n =
+      ⊎-elim
+      (λ e. let x = lowest-is n f (any-iff n f .0 (T-of e)) in inl (lowest n f, x .0, x .1, lowest-least n f))
+      (λ e. inr (λ k l. T-not (any-each f n e k l)))
+      (split (anyBelow n f))
+
+-- two tests that hold at the same numbers
+pub at-lowest-same : {A : Type 0} (n m : ℕ) (f h : ℕ → Bool) (g : ℕ → A) (z : A)
+    → ((k : ℕ) → ((k < n) × T (f k)) ↔ ((k < m) × T (h k))) → atLowest n f g z ≡ atLowest m h g z
+at-lowest-same n m f h g z same =
+    ⊎-elim
+    (λ x. let y = same (x .0) .0 (x .1, x .2) in
+    at-lowest-is f g z n (x .0) (x .1) (x .2) (x .3) ∙ sym (at-lowest-is h g z m (x .0) (y .0) (y .1) (λ k l t. x .3 k l (same k .1 (omega (arith, y .0), t) .1))))
+    (λ x. at-lowest-none f g z n x ∙ sym (at-lowest-none h g z m (λ k l t. let y = same k .1 (l, t) in x k (y .0) (y .1))))
+    (at-lowest-or f g z n)
 
 -- ---- sums
 

@@ -8,12 +8,13 @@ use native.Mathlib.Numerals.{add-one}
 use native.Mathlib.Omega.{arith}
 use lib.Dec.{T, eqb}
 use lib.Bits.{bitAnd, and-step, and-shr, and-le-l, bitOr, or-step, or-shr}
+use lib.Count.{trailingZeros, under}
 use lib.Pow.{shr-shr, pow-add, pow-pos, high}
 use borrow.Author.Tests.{eq-eqb, ne-eqb, eqb-true, eqb-false}
-use Rattle.bounded.specs.Bounded.{allBelow, anyBelow, imp}
+use Rattle.bounded.specs.Bounded.{allBelow, anyBelow, lowest, imp}
 use Rattle.bounded.specs.Mask.{bit, maskOf, without}
 use Rattle.bounded.proofs.Truth.{T-ext, T-of, and-iff, imp-iff, eqb-iff, split, clash, at-or-below, lt-dec}
-use Rattle.bounded.proofs.Bounded.{all-iff}
+use Rattle.bounded.proofs.Bounded.{all-iff, lowest-here, lowest-later}
 use Rattle.bounded.proofs.Loops.{all-each, any-each, any-intro}
 
 -- ---- a digit is 0 or 1
@@ -190,6 +191,36 @@ bit-without16 = bit-without 16 (others 16 refl)
 pub bit-without32 : (x b c : ℕ) → b < 32 → c < 32 → bit (without 32 x b) c ≡ (bit x c && not (eqb c b))
 unfolding allBelow
 bit-without32 = bit-without 32 (others 32 refl)
+
+-- ---- the members left out, and the lowest member
+
+-- a set and what it leaves out are all
+either : (b : Bool) (x : ℕ) → cond b x 0 + cond (not b) x 0 ≡ x
+either true x = omega arith
+either false x = omega arith
+
+two-sums : (n : ℕ) (f : ℕ → Bool) → maskOf n f + maskOf n (λ c. not (f c)) + 1 ≡ 2 ^ n
+unfolding maskOf
+two-sums zero f = refl
+two-sums (suc n) f = omega (arith, two-sums n f, either (f n) (2 ^ n), double n)
+
+-- the members that x lacks
+pub bit-not16 : (x c : ℕ) → x < 2 ^ 16 → c < 16 → bit (65535 - x) c ≡ not (bit x c)
+bit-not16 x c l m =
+    let e : 65535 - x ≡ maskOf 16 (λ c. not (bit x c)) = omega (arith, two-sums 16 (bit x), mask-is 16 x (bit x) l (λ c k. refl)) in
+    ap (λ (y : ℕ). bit y c) e ∙ bit-mask 16 (λ c. not (bit x c)) c m
+
+-- the zeros below a set's lowest member are its number
+pub zeros-lowest : (n x : ℕ) → trailingZeros n x ≡ lowest n (bit x)
+unfolding trailingZeros lowest
+zeros-lowest zero x = refl
+zeros-lowest (suc n) x = go (x % 2) refl (zeros-lowest n (x / 2))
+  where
+    go : (r : ℕ) → x % 2 ≡ r → trailingZeros n (x / 2) ≡ lowest n (bit (x / 2)) → under (x % 2) (trailingZeros n (x / 2)) ≡ lowest (suc n) (bit x)
+    go zero e ih =
+        ap (λ (r : ℕ). under r (trailingZeros n (x / 2))) e ∙ ap suc (ih ∙ (λ i. lowest n (λ k. sym (bit-suc x k) i)))
+        ∙ sym (lowest-later n (bit x) (bit-zero x ∙ ne-eqb (x % 2) 1 (λ h. omega arith)))
+    go (suc r) e ih = ap (λ (r : ℕ). under r (trailingZeros n (x / 2))) e ∙ sym (lowest-here n (bit x) (bit-zero x ∙ eq-eqb (x % 2) 1 (omega arith)))
 
 -- ---- whole words
 

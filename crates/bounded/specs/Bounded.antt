@@ -21,6 +21,10 @@ unfoldable pub lowest : ℕ → (ℕ → Bool) → ℕ
 lowest zero f = zero
 lowest (suc n) f = elim (f zero) [ true ↦ zero | false ↦ suc (lowest n (λ k. f (suc k))) ]
 
+-- what g gives for the lowest number below n at which f holds, or z where there is none
+unfoldable pub atLowest : {A : Type 0} → ℕ → (ℕ → Bool) → (ℕ → A) → A → A
+atLowest n f g z = elim (anyBelow n f) [ true ↦ g (lowest n f) | false ↦ z ]
+
 -- f 0 + f 1 + .. + f (n - 1)
 unfoldable pub sumTo : ℕ → (ℕ → ℕ) → ℕ
 sumTo zero f = zero

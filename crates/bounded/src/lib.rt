@@ -2,6 +2,7 @@
 ghost use mathlib.Core.Path.{_≡_};
 ghost use mathlib.Core.Bool.{cond};
 ghost use Prim.Native.Nat.{_^_, _<_, _≤_};
+ghost use Rattle.bounded.specs.Bounded.{lowest};
 ghost use Rattle.bounded.specs.Mask.{bit, without as withoutOf};
 
 // Whether c is in a set of 32.
@@ -34,6 +35,13 @@ pub fn without32(x: u32, b: usize) -> u32
     ensures { λ r. ⌜ r ≡ withoutOf 32 x b ⌝ }
 {
     x & !(1u32 << b)
+}
+
+// The lowest member of a set of 16; 16 where it has none.
+pub fn lowest16(x: u16) -> usize
+    ensures { λ r. ⌜ r ≡ lowest 16 (bit x) ⌝ }
+{
+    u16::trailing_zeros(x) as usize
 }
 
 // 2 to the power z.

@@ -1,4 +1,5 @@
 pub mod Reflect
+pub mod Spoiler
 pub mod Published
 pub mod Sound
 pub mod Count

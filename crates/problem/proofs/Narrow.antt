@@ -7,54 +7,33 @@ use mathlib.Core.Logic.{_⊎_, inl, inr, _≢_}
 use Prim.Native.Nat.{ℕ, zero, suc, _<_, _≤_}
 use native.Mathlib.Omega.{arith}
 use lib.Dec.{T, eqb}
-use Rattle.bounded.specs.Bounded.{imp}
-use Rattle.bounded.proofs.Truth.{imp-fails, not-iff, eqb-iff, lt-dec}
-use Rattle.problem.specs.Problem.{Problem, State, allOther, noneEmpty, substitutes, unsupported, snake, triangle, neighbourhood, snakeSubstitution}
+use Rattle.bounded.proofs.Truth.{lt-dec}
+use Rattle.problem.specs.Problem.{Problem, State, noneEmpty, unsupported, snake, triangle, neighbourhood, snakeSubstitution, firstBreak}
 use Rattle.problem.specs.Reduce.{holds, kindOf, nextUnsupported, nextSnake, nextTriangle, nextNeighbourhood, kindBound, nextOfKind, next, run}
 use Rattle.problem.specs.declared.Record.{Record}
 use Rattle.problem.specs.declared.Record.the-variants.{Unsupported, Snake, Triangle, Neighbourhood, SnakeSubstitution}
+use Rattle.problem.specs.declared.Break.{Break}
+use Rattle.problem.specs.declared.Break.the-variants.{At, Nowhere}
 use Rattle.problem.specs.declared.Next.the-variants.{Step, Nothing}
-use Rattle.problem.proofs.Reflect.{Active, Live, Allowed, Fits, allActive-or, allLive-or, allOther-iff, substitutes-iff, neighbourhood-iff, snakeSubstitution-iff}
+use Rattle.problem.proofs.Reflect.{Allowed, Fits, neighbourhood-iff, snakeSubstitution-iff}
+use Rattle.problem.proofs.Spoiler.{BreakSays, break-iff}
 use Rattle.problem.proofs.Trace.{trace-fits}
 use Rattle.problem.proofs.Run.{never, first-found, first-where, stepIf-found, next-open, next-shut, kind-found, neighbourhood-complete, run-next}
 
 -- ---- where the slide holds, a cover holds
 
-module _ (P : Problem) (s : State) where
-  -- a value of another active variable that is allowed with b and not with a
-  abbrev Spoils : (i a b : ℕ) → Type 0
-  Spoils i a b = (k : ℕ) × Active s k × (k ≢ i) × ((d : ℕ) × Live s k d × Allowed P i b k d × (Allowed P i a k d → ⊥))
-
-  -- a covers b at every other variable, or a value is found that speaks against it
-  covers-or : (i a b : ℕ) → T (allOther P s i (λ l. substitutes P s i a i b l)) ⊎ Spoils i a b
-  unfolding allOther substitutes
-  covers-or i a b =
-      elim (allActive-or P s (λ l. imp (not (eqb l i)) (substitutes P s i a i b l))) [
-        | inl t ↦ inl t
-        | inr x ↦ inr (at (x .0) (x .1) (imp-fails (not (eqb (x .0) i)) (substitutes P s i a i b (x .0)) (x .2)))
-      ]
-    where
-      at : (k : ℕ) → Active s k → T (not (eqb k i)) × (T (substitutes P s i a i b k) → ⊥) → Spoils i a b
-      at k h y =
-          elim (allLive-or P s k (λ c. imp (P .allowed i b k c) (P .allowed i a k c))) [
-            | inl t ↦ absurd (y .1 t)
-            | inr z ↦ let w = imp-fails (P .allowed i b k (z .0)) (P .allowed i a k (z .0)) (z .2) in (k, h, (λ e. not-iff (eqb k i) .0 (y .0) (eqb-iff k i .1 e)), (z .0, z .1, w .0, w .1))
-          ]
-
 module _ (P : Problem) {s : State} (F : Fits P s) where
-  -- the cover is the slide's own, or its e covers its d
+  -- the cover is the slide's own, or its e covers its d, where its own breaks
   pub slide-covered : (i b a : ℕ) → T (snakeSubstitution P s false i b a) → (k : ℕ) × (d : ℕ) × (e : ℕ) × T (neighbourhood P s k d e)
-  slide-covered i b a h = go (covers-or P s i a b)
+  slide-covered i b a h = go (firstBreak P s i b a) (break-iff F i b a (firstBreak P s i b a) .0 refl)
     where
-      go : T (allOther P s i (λ l. substitutes P s i a i b l)) ⊎ Spoils P s i a b → (k : ℕ) × (d : ℕ) × (e : ℕ) × T (neighbourhood P s k d e)
-      go (inl t) =
-          let x = snakeSubstitution-iff F false i b a .0 h in
-          (i, b, a, neighbourhood-iff F i b a .1 (x .0, (x .1 .0, (x .1 .1 .0, λ l o q. substitutes-iff F i a i b l .0 (allOther-iff F i (λ l. substitutes P s i a i b l) .0 t l o q)))))
-      go (inr y) =
-          let k = y .0 in
-          let d = y .3 .0 in
-          let z = snakeSubstitution-iff F false i b a .0 h .1 .1 .1 k (y .1) (y .2) d (y .3 .1) (y .3 .2) in
-          (k, d, z .0, neighbourhood-iff F k d (z .0) .1 (y .3 .1, (z .1, ((λ q. y .3 .3 (subst (λ (c : ℕ). Allowed P i a k c) q (z .2 .0))), λ l o q. z .2 .1 l o q (λ w. w .0)))))
+      go : (x : Break) → BreakSays P s i b a x → (k : ℕ) × (d : ℕ) × (e : ℕ) × T (neighbourhood P s k d e)
+      go Nowhere c = let x = snakeSubstitution-iff F false i b a .0 h in (i, b, a, neighbourhood-iff F i b a .1 (x .0, (x .1 .0, (x .1 .1 .0, c))))
+      go (At k d) y =
+          let l = y .0 .0 in
+          let c = y .1 .0 in
+          let z = snakeSubstitution-iff F false i b a .0 h .1 .1 .1 k (l .0) (l .1 .0) d (c .0) (c .1 .0) in
+          (k, d, z .0, neighbourhood-iff F k d (z .0) .1 (c .0, (z .1, ((λ q. c .1 .1 (subst (λ (e : ℕ). Allowed P i a k e) q (z .2 .0))), λ l o q. z .2 .1 l o q (λ w. w .0)))))
 
 -- ---- so the search comes to a step of a lower kind
 

@@ -1,13 +1,14 @@
 -- What each test of specs/Problem.antt says, as a proposition, in a state that fits. Assumes nothing.
-use mathlib.Core.Path.{_≡_, subst}
-use mathlib.Core.Bool.{Bool, _&&_}
+use mathlib.Core.Path.{_≡_, refl, sym, subst}
+use mathlib.Core.Bool.{Bool, true, false, not, _&&_}
 use mathlib.Core.Logic.{_⊎_, inl, inr, _≢_, _↔_, Iff·rfl}
 use Prim.Native.Nat.{ℕ, _<_}
 use lib.Dec.{T}
-use Rattle.bounded.specs.Bounded.{imp}
-use Rattle.bounded.proofs.Truth.{and-iff, imp-iff, imp-fails, not-iff, eqb-iff, ltb-iff}
+use Rattle.bounded.specs.Bounded.{imp, anyBelow, lowest, atLowest}
+use Rattle.bounded.proofs.Truth.{T-dec, and-iff, imp-iff, imp-fails, not-iff, eqb-iff, ltb-iff}
 use Rattle.bounded.proofs.Bounded.{all-iff, any-iff, all-or, lowest-is}
-use Rattle.problem.specs.Problem.{Problem, State, full, maxVariables, maxValues, allActive, allLive, anyLive, lowestLive, allOther, allThird, stateFits, noneEmpty, substitutes, unsupported, snakeServes, snake, triangleServes, triangle, neighbourhood, slideServes, snakeSubstitution, remove, eliminate}
+use Rattle.problem.specs.Problem.{Problem, State, full, maxVariables, maxValues, allActive, allLive, anyLive, lowestLive, allOther, allThird, stateFits, noneEmpty, unspoilt, spoils, spoiler, unsupported, snakeServes, snake, triangleServes, triangle, neighbourhood, slideServes, snakeSubstitution, remove, eliminate}
+use Rattle.problem.specs.declared.Cover.the-variants.{Spoilt, Holds}
 use Rattle.problem.specs.Manual.{supported, arcConsistent, finished}
 
 abbrev pub Active : State → ℕ → Type 0
@@ -88,6 +89,10 @@ allActive-or P s f = elim (all-or (P .n) (λ l. imp (s .active l) (f l))) [ inl 
 -- ---- the rules, as propositions, and their tests
 
 module _ (P : Problem) (s : State) where
+  -- "on at l, allowed with b and barred with a"
+  abbrev pub Spoils : (i a j b l c : ℕ) → Type 0
+  Spoils i a j b l c = Live s l c × (Allowed P j b l c × (Allowed P i a l c → ⊥))
+
   abbrev pub Substitutes : (i a j b l : ℕ) → Type 0
   Substitutes i a j b l = (c : ℕ) → Live s l c → Allowed P j b l c → Allowed P i a l c
 
@@ -131,10 +136,34 @@ module _ (P : Problem) (s : State) where
   abbrev pub NoneEmpty : Type 0
   NoneEmpty = (i : ℕ) → Active s i → (a : ℕ) × Live s i a
 
+module _ (P : Problem) (s : State) where
+  pub spoils-iff : (i a j b l c : ℕ) → T (spoils P s i a j b l c) ↔ Spoils P s i a j b l c
+  unfolding spoils
+  spoils-iff i a j b l c = simp (and-iff, not-iff) Iff·rfl
+
+  unspoilt-any : (i a j b l : ℕ) → unspoilt (spoiler P s i a j b l) ≡ not (anyBelow (P .size l) (spoils P s i a j b l))
+  unfolding spoiler atLowest
+  unspoilt-any i a j b l = go (anyBelow (P .size l) (spoils P s i a j b l))
+    where
+      go : (x : Bool) → unspoilt (elim x [ true ↦ Spoilt (lowest (P .size l) (spoils P s i a j b l)) | false ↦ Holds ]) ≡ not x
+      go true = refl
+      go false = refl
+
+  -- the cover test's answer read as yes or no
+  pub unspoilt-none : (i a j b l : ℕ) → T (unspoilt (spoiler P s i a j b l)) ↔ ((c : ℕ) → c < P .size l → Spoils P s i a j b l c → ⊥)
+  unspoilt-none i a j b l =
+      let any = anyBelow (P .size l) (spoils P s i a j b l) in (
+        λ t c k x. not-iff any .0 (subst T (unspoilt-any i a j b l) t) (any-iff (P .size l) (spoils P s i a j b l) .1 (c, k, spoils-iff i a j b l c .1 x)),
+        λ h. subst T (sym (unspoilt-any i a j b l)) (not-iff any .1 (λ t. let x = any-iff (P .size l) (spoils P s i a j b l) .0 t in h (x .0) (x .1) (spoils-iff i a j b l (x .0) .0 (x .2)))),
+      )
+
 module _ {P : Problem} {s : State} (F : Fits P s) where
-  pub substitutes-iff : (i a j b l : ℕ) → T (substitutes P s i a j b l) ↔ Substitutes P s i a j b l
-  unfolding substitutes
-  substitutes-iff i a j b l = simp (allLive-iff F, imp-iff) Iff·rfl
+  -- none spoils the cover where a covers b
+  pub unspoilt-iff : (i a j b l : ℕ) → T (unspoilt (spoiler P s i a j b l)) ↔ Substitutes P s i a j b l
+  unspoilt-iff i a j b l = (
+    λ t c o y. elim (T-dec (P .allowed i a l c)) [ inl x ↦ x | inr n ↦ absurd (unspoilt-none P s i a j b l .0 t c (F .live-lt l c o) (o, (y, n))) ],
+    λ h. unspoilt-none P s i a j b l .1 (λ c k x. x .1 .1 (h c (x .0) (x .1 .0))),
+  )
 
   pub unsupported-iff : (i b k : ℕ) → T (unsupported P s i b k) ↔ Unsupported P s i b k
   unfolding unsupported
@@ -145,7 +174,7 @@ module _ {P : Problem} {s : State} (F : Fits P s) where
 
   pub snakeServes-iff : (i v j w w' : ℕ) → T (snakeServes P s i v j w w') ↔ SnakeServes P s i v j w w'
   unfolding snakeServes
-  snakeServes-iff i v j w w' = simp (and-iff, allThird-iff F, substitutes-iff) Iff·rfl
+  snakeServes-iff i v j w w' = simp (and-iff, allThird-iff F, unspoilt-iff) Iff·rfl
 
   pub snake-iff : (i v : ℕ) → T (snake P s i v) ↔ Snake P s i v
   unfolding snake
@@ -153,7 +182,7 @@ module _ {P : Problem} {s : State} (F : Fits P s) where
 
   pub triangleServes-iff : (i j v u : ℕ) → T (triangleServes P s i j v u) ↔ TriangleServes P s i j v u
   unfolding triangleServes
-  triangleServes-iff i j v u = simp (and-iff, allThird-iff F, substitutes-iff) Iff·rfl
+  triangleServes-iff i j v u = simp (and-iff, allThird-iff F, unspoilt-iff) Iff·rfl
 
   pub triangle-iff : (i j : ℕ) → T (triangle P s i j) ↔ Triangle P s i j
   unfolding triangle
@@ -161,11 +190,11 @@ module _ {P : Problem} {s : State} (F : Fits P s) where
 
   pub neighbourhood-iff : (i b a : ℕ) → T (neighbourhood P s i b a) ↔ Neighbourhood P s i b a
   unfolding neighbourhood
-  neighbourhood-iff i b a = simp (and-iff, allOther-iff F, not-iff, eqb-iff, substitutes-iff) Iff·rfl
+  neighbourhood-iff i b a = simp (and-iff, allOther-iff F, not-iff, eqb-iff, unspoilt-iff) Iff·rfl
 
   pub slideServes-iff : (spare : Bool) (i a k d e : ℕ) → T (slideServes P s spare i a k d e) ↔ SlideServes P s spare i a k d e
   unfolding slideServes
-  slideServes-iff spare i a k d e = simp (and-iff, allOther-iff F, imp-iff, not-iff, eqb-iff, substitutes-iff) Iff·rfl
+  slideServes-iff spare i a k d e = simp (and-iff, allOther-iff F, imp-iff, not-iff, eqb-iff, unspoilt-iff) Iff·rfl
 
   pub snakeSubstitution-iff : (spare : Bool) (i b a : ℕ) → T (snakeSubstitution P s spare i b a) ↔ SnakeSubstitution P s spare i b a
   unfolding snakeSubstitution

@@ -6,7 +6,11 @@ use Prim.Native.Nat.{ℕ}
 use native.Mathlib.Nat.{lt-irrefl, lt-trans}
 use lib.Dec.{eqb, ltb}
 use borrow.Author.Tests.{ltb-true}
-use Rattle.bounded.specs.Bounded.{imp, allBelow, anyBelow, lowest, sumTo, countBelow}
+use Rattle.bounded.specs.Bounded.{imp, allBelow, anyBelow, lowest, atLowest, sumTo, countBelow}
+use Rattle.problem.specs.declared.Cover.{Cover}
+use Rattle.problem.specs.declared.Cover.the-variants.{Spoilt, Holds}
+use Rattle.problem.specs.declared.Break.{Break}
+use Rattle.problem.specs.declared.Break.the-variants.{At, Nowhere}
 
 -- A binary constraint problem. The format's items are variables, its settings values, both numbered from 0.
 pub record Problem : Type 0 where
@@ -56,6 +60,21 @@ maxVariables = 32
 abbrev pub maxValues : ℕ
 maxValues = 16
 
+-- the cover test's answer, where it is only asked whether the cover holds
+abbrev pub unspoilt : Cover → Bool
+unspoilt (Spoilt c) = false
+unspoilt Holds = true
+
+-- the break that the answer tells of, where the test was made at l
+abbrev pub breakAt : (l : ℕ) → Cover → Break
+breakAt l (Spoilt c) = At l c
+breakAt l Holds = Nowhere
+
+-- there is no break
+abbrev pub unbroken : Break → Bool
+unbroken (At l c) = false
+unbroken Nowhere = true
+
 module _ (P : Problem) (s : State) where
   -- ---- quantifiers: at every item in, at every setting on at l, at some setting on at l, and the lowest such setting
 
@@ -90,10 +109,15 @@ module _ (P : Problem) (s : State) where
 
   -- ---- the rules
 
-  -- "Setting a covers b at item l when every setting on at l that is allowed with b is allowed with a": a substitutes for b at l.
-  -- a is a setting of i and b one of j. The cover of one item's settings has i for j too; fold compares settings of two items.
-  unfoldable pub substitutes : (i a j b l : ℕ) → Bool
-  substitutes i a j b l = allLive l (λ c. imp (P .allowed j b l c) (P .allowed i a l c))
+  -- setting c "spoils the cover at l when it is on at l, allowed with b and barred with a". a is a setting of i and b one of j. The cover of
+  -- one item's settings has i for j too; fold compares settings of two items.
+  unfoldable pub spoils : (i a j b l c : ℕ) → Bool
+  spoils i a j b l c = s .live l c && (P .allowed j b l c && not (P .allowed i a l c))
+
+  -- "the cover test answers the lowest setting at l that spoils it, or that there is none". There is none where a substitutes for b at l:
+  -- "Setting a covers b at item l when every setting on at l that is allowed with b is allowed with a."
+  unfoldable pub spoiler : (i a j b l : ℕ) → Cover
+  spoiler i a j b l = atLowest (P .size l) (spoils i a j b l) Spoilt Holds
 
   -- kind 1, bare: "b is on at i and no setting on at another item k is allowed with it"
   unfoldable pub unsupported : (i b k : ℕ) → Bool
@@ -101,7 +125,7 @@ module _ (P : Problem) (s : State) where
 
   -- kind 2: w' "is allowed with v and covers w at every item other than i and j"
   unfoldable pub snakeServes : (i v j w w' : ℕ) → Bool
-  snakeServes i v j w w' = P .allowed i v j w' && allThird i j (λ l. substitutes j w' j w l)
+  snakeServes i v j w w' = P .allowed i v j w' && allThird i j (λ l. unspoilt (spoiler j w' j w l))
 
   -- kind 2, snake: "v is on at i; for every other item j and every setting w on at j barred with v, some w' on at j" serves
   unfoldable pub snake : (i v : ℕ) → Bool
@@ -109,7 +133,7 @@ module _ (P : Problem) (s : State) where
 
   -- kind 3: u "is allowed with v, and covers v at every item other than i and j"
   unfoldable pub triangleServes : (i j v u : ℕ) → Bool
-  triangleServes i j v u = P .allowed i u j v && allThird i j (λ l. substitutes i u j v l)
+  triangleServes i j v u = P .allowed i u j v && allThird i j (λ l. unspoilt (spoiler i u j v l))
 
   -- kind 3, fold: "j is another item; for every v on at j some u on at i" serves
   unfoldable pub triangle : (i j : ℕ) → Bool
@@ -117,12 +141,12 @@ module _ (P : Problem) (s : State) where
 
   -- kind 4, cover: "a and b are different and on at i; a covers b at every other item"
   unfoldable pub neighbourhood : (i b a : ℕ) → Bool
-  neighbourhood i b a = s .live i b && (s .live i a && (not (eqb a b) && allOther i (λ l. substitutes i a i b l)))
+  neighbourhood i b a = s .live i b && (s .live i a && (not (eqb a b) && allOther i (λ l. unspoilt (spoiler i a i b l))))
 
   -- kind 5: e "is allowed with a and covers d at every item other than k". With `spare` the item i is left out of these items, as
   -- the paper (Cooper, "Strengthening neighbourhood substitution") has it; the format is narrower and keeps it in.
   unfoldable pub slideServes : (spare : Bool) (i a k d e : ℕ) → Bool
-  slideServes spare i a k d e = P .allowed i a k e && allOther k (λ l. imp (not (spare && eqb l i)) (substitutes k e k d l))
+  slideServes spare i a k d e = P .allowed i a k e && allOther k (λ l. imp (not (spare && eqb l i)) (unspoilt (spoiler k e k d l)))
 
   -- kind 5, slide: "a and b are different and on at i; for each other item k and each d on at k allowed with b, some e on at k" serves
   unfoldable pub snakeSubstitution : (spare : Bool) (i b a : ℕ) → Bool
@@ -130,6 +154,20 @@ module _ (P : Problem) (s : State) where
       s .live i b
       && (s .live i a
       && (not (eqb a b) && allOther i (λ k. allLive k (λ d. imp (P .allowed i b k d) (anyLive k (λ e. slideServes spare i a k d e))))))
+
+  -- ---- why a cover fails
+
+  -- item l is another item, and there a does not cover b; both are settings of i
+  unfoldable pub breaks : (i b a l : ℕ) → Bool
+  breaks i b a l = s .active l && (not (eqb l i) && not (unspoilt (spoiler i a i b l)))
+
+  -- "the lowest item where the cover breaks and the lowest setting that spoils it there"; or nowhere
+  unfoldable pub firstBreak : (i b a : ℕ) → Break
+  firstBreak i b a = atLowest (P .n) (breaks i b a) (λ l. breakAt l (spoiler i a i b l)) Nowhere
+
+  -- all that kind 4 asks but the cover: "i in, a and b different and on, and no item in left without a setting"
+  unfoldable pub coverAsked : (i b a : ℕ) → Bool
+  coverAsked i b a = s .active i && (not (eqb a b) && (s .live i a && (s .live i b && noneEmpty)))
 
   -- ---- what a step does
 

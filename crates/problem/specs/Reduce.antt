@@ -3,9 +3,11 @@ use mathlib.Core.Bool.{Bool, true, false, _&&_}
 use mathlib.Core.List.{List, [], _∷_}
 use Prim.Native.Nat.{ℕ, zero, suc}
 use Rattle.bounded.specs.Bounded.{anyBelow}
-use Rattle.problem.specs.Problem.{Problem, State, noneEmpty, unsupported, snake, triangle, neighbourhood, snakeSubstitution, slideSpares, remove, eliminate, liveCount}
+use Rattle.problem.specs.Problem.{Problem, State, noneEmpty, unsupported, snake, triangle, neighbourhood, snakeSubstitution, slideSpares, firstBreak, coverAsked, remove, eliminate, liveCount}
 use Rattle.problem.specs.declared.Record.{Record}
 use Rattle.problem.specs.declared.Record.the-variants.{Unsupported, Snake, Triangle, Neighbourhood, SnakeSubstitution}
+use Rattle.problem.specs.declared.Break.{Break}
+use Rattle.problem.specs.declared.Break.the-variants.{Nowhere}
 use Rattle.problem.specs.declared.Next.{Next}
 use Rattle.problem.specs.declared.Next.the-variants.{Step, Nothing}
 use Rattle.problem.specs.declared.End.{End}
@@ -32,6 +34,15 @@ holds P s (SnakeSubstitution i b a) = snakeSubstitution P s slideSpares i b a
 -- "No step is taken once some item in has no setting on."
 unfoldable pub lawful : Problem → State → Record → Bool
 lawful P s r = noneEmpty P s && holds P s r
+
+-- what is named of a record that is not lawful: where its cover breaks, for a record of kind 4 that asks nothing else in vain, and nothing
+-- for every other cause
+unfoldable pub brokenCover : Problem → State → Record → Break
+brokenCover P s (Neighbourhood i b a) = elim (coverAsked P s i b a) [ true ↦ firstBreak P s i b a | false ↦ Nowhere ]
+brokenCover P s (Unsupported i b k) = Nowhere
+brokenCover P s (Snake i v) = Nowhere
+brokenCover P s (Triangle i j) = Nowhere
+brokenCover P s (SnakeSubstitution i b a) = Nowhere
 
 -- the state after the step
 unfoldable pub after : Problem → State → Record → State

@@ -1,6 +1,7 @@
-// The types that the definitions of specs/ share with the code, the state that holds nothing, and whether a
-// search found a step.
+// The types that the definitions of specs/ share with the code, the state that holds nothing, and what an answer says where only yes or no
+// is asked.
 ghost use mathlib.Core.Path.{_≡_};
+ghost use Rattle.problem.specs.Problem.{unspoilt as unspoiltOf, unbroken as unbrokenOf};
 ghost use Rattle.problem.specs.Masks.{emptyMasks};
 ghost use Rattle.problem.specs.Reduce.{isStep};
 
@@ -32,6 +33,18 @@ pub enum End {
     Rest,
 }
 
+// What the cover test answers: the lowest value that spoils the cover, or that none does.
+pub enum Cover {
+    Spoilt(usize),
+    Holds,
+}
+
+// Where a cover breaks first: at the lowest variable that has a value that spoils it, and the lowest such value there; or nowhere.
+pub enum Break {
+    At { variable: usize, value: usize },
+    Nowhere,
+}
+
 // What a hand call comes to: the value that the variable was eliminated with, or the reason why it was not.
 pub enum Call {
     Eliminated(usize),
@@ -58,5 +71,28 @@ pub fn is_step(x: Next) -> bool
     match x {
         Next::Step(_) => true,
         Next::Nothing => false,
+    }
+}
+
+// Whether a cover holds.
+pub fn unspoilt(x: Cover) -> bool
+    ensures { λ r. ⌜ r ≡ unspoiltOf x ⌝ }
+{
+    match x {
+        Cover::Spoilt(_) => false,
+        Cover::Holds => true,
+    }
+}
+
+// Whether a cover breaks nowhere.
+pub fn unbroken(x: Break) -> bool
+    ensures { λ r. ⌜ r ≡ unbrokenOf x ⌝ }
+{
+    match x {
+        Break::At {
+            variable: _,
+            value: _,
+        } => false,
+        Break::Nowhere => true,
     }
 }

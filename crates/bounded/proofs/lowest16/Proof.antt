@@ -1,0 +1,16 @@
+-- `bounded::lowest16`: the zeros below the lowest member. Assumes nothing.
+use lib.Count.{trailing-le}
+use native.Mathlib.Omega.{arith}
+use Rattle.bounded.proofs.Mask.{zeros-lowest}
+use Rattle.bounded.proofs.lowest16.Statement.{statement}
+use Rattle.bounded.proofs.lowest16.Tie as tie
+use borrow.Author.Needs.{needs}
+
+cast-result : tie.Need-cast-result
+cast-result c = let h = trailing-le 16 (c .args .x) in search needs
+
+returns : tie.Need-returns
+returns c = zeros-lowest 16 (c .args .x)
+
+pub lowest16-spec : {M : Type 1} → statement M
+lowest16-spec = tie.close (tie.spec cast-result returns)
