@@ -454,7 +454,8 @@ pub fn long_trace(random: &mut Random) -> (Draft, Vec<Step>) {
 pub fn doubtful_step(random: &mut Random, problem: &Problem, state: &State) -> Step {
     let n = problem.sizes().len();
     let with_two: Vec<usize> = state.active().iter().copied().filter(|&i| state.live(i).len() > 1).collect();
-    let i = if with_two.is_empty() { random.below(n) } else { random.pick(&with_two) };
+    // Higher ones more often: the first items of `long_trace` are free, and no cover breaks at them.
+    let i = if with_two.is_empty() { random.below(n) } else { random.pick(&with_two).max(random.pick(&with_two)) };
     let live = |random: &mut Random| match state.live(i) {
         [] => random.below(4),
         live => random.pick(live),

@@ -23,7 +23,7 @@ const LARGE_SHEETS: u64 = 200;
 const HAND_LISTS: u64 = 14_000;
 const TRACES: u64 = 12_000;
 const UNLAWFUL_TRACES: u64 = 6_000;
-const LONG_TRACES: u64 = 400;
+const LONG_TRACES: u64 = 500;
 const FILES: u64 = 60_000;
 const LONG_FILES: u64 = 200;
 
@@ -706,10 +706,10 @@ fn damaged_calls(comparison: &mut Comparison, random: &mut Random, lending: &Len
     Lending { trace: &trace, plan: &plan, ..*lending }.put_back(comparison, length);
 }
 
-/// Lawful steps, and after some of them one that is mostly unlawful; one in four sheets has an item emptied by them.
+/// Lawful steps, and after some of them one that is mostly unlawful; of three in ten sheets they empty an item.
 fn unlawful_case(comparison: &mut Comparison, random: &mut Random) {
     let draft = if random.chance(60) { generate::small_draft(random) } else { generate::random_draft(random) };
-    let emptied = if random.chance(25) { generate::emptied(random, draft.clone()) } else { None };
+    let emptied = if random.chance(30) { generate::emptied(random, draft.clone()) } else { None };
     match emptied {
         Some((draft, steps)) => doubtful_calls(comparison, random, &draft.bytes(), &steps, steps.len()),
         None => {
