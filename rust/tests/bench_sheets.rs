@@ -281,7 +281,7 @@ fn line(answer: Answer<()>, result: &[u8]) -> String {
 }
 
 /// Every case is answered as the file has it, by this implementation.
-fn answers(put_back: &mut dyn FnMut(&[u8], &[u8], &[u8], &mut [u8]) -> Answer<()>) {
+fn answers(mut put_back: impl FnMut(&[u8], &[u8], &[u8], &mut [u8]) -> Answer<()>) {
     let cases = bench_cases();
     assert!(cases.len() >= 400, "only {} cases of putting back", cases.len());
     for (name, [sheet, trace, plan, mut result], expected) in cases {
@@ -292,18 +292,18 @@ fn answers(put_back: &mut dyn FnMut(&[u8], &[u8], &[u8], &mut [u8]) -> Answer<()
 
 #[test]
 fn the_reference_answers_the_bench_cases() {
-    answers(&mut reference::put_back);
+    answers(reference::put_back);
 }
 
 #[test]
 fn the_fast_implementation_answers_the_bench_cases() {
     let mut workspace = Workspace::new();
-    answers(&mut |sheet, trace, plan, result| workspace.put_back(sheet, trace, plan, result));
+    answers(|sheet, trace, plan, result| workspace.put_back(sheet, trace, plan, result));
 }
 
 #[test]
 fn the_library_answers_the_bench_cases() {
-    answers(&mut put_back);
+    answers(put_back);
 }
 
 #[test]

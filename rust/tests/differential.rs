@@ -42,10 +42,12 @@ const JOBS: [&str; 6] = ["read", "run", "start", "hand call", "put back", "colou
 const COLOUR: usize = 5;
 const KINDS: [&str; 5] = ["bare", "snake", "fold", "cover", "slide"];
 
-/// Why a record is refused with 17. The first is the one that names an item and a setting. Each but the last two is counted where it alone
-/// speaks against the record, so that one who forgets it names something.
+/// The one cause of 17 that names an item and a setting.
+const BREAKS: &str = "a cover that breaks";
+
+/// Why a record is refused with 17. Each but the last two is counted where it alone speaks against the record.
 const CAUSES: [&str; 11] = [
-    "a cover that breaks",
+    BREAKS,
     "a cover, a = b",
     "a cover, i out or not below n",
     "a cover, a or b off",
@@ -110,7 +112,7 @@ struct Counts {
     lent_records: [u64; 6],
     /// Records refused with 17, by CAUSES; those after a lawful one, and those whose number is more than a byte holds, the latter also where
     /// they name an item and a setting.
-    unlawful: [u64; CAUSES.len()],
+    unlawful: BTreeMap<&'static str, u64>,
     unlawful_later: u64,
     unlawful_far_on: u64,
     named_far_on: u64,
@@ -152,7 +154,7 @@ impl Counts {
     }
 
     fn of_causes(&self) -> [(&'static str, u64); CAUSES.len()] {
-        std::array::from_fn(|cause| (CAUSES[cause], self.unlawful[cause]))
+        CAUSES.map(|cause| (cause, *self.unlawful.get(cause).unwrap_or(&0)))
     }
 
     fn of_decoding(&self, number: u8) -> u64 {
@@ -461,11 +463,11 @@ impl Comparison {
     /// Counts why a record was refused with 17; only a cover that breaks may name something, and it must.
     fn count_unlawful(&mut self, problem: &Problem, trace: &[u8], unlawful: Unlawful) {
         let cause = cause_of(problem, trace, unlawful.record);
-        assert_eq!(unlawful.spoiler().is_some(), cause == 0, "{unlawful:?} for: {}", CAUSES[cause]);
-        self.counts.unlawful[cause] += 1;
+        assert_eq!(unlawful.spoiler().is_some(), cause == BREAKS, "{unlawful:?} for: {cause}");
+        *self.counts.unlawful.entry(cause).or_default() += 1;
         self.counts.unlawful_later += u64::from(unlawful.record > 0);
         self.counts.unlawful_far_on += u64::from(unlawful.record > 255);
-        self.counts.named_far_on += u64::from(unlawful.record > 255 && cause == 0);
+        self.counts.named_far_on += u64::from(unlawful.record > 255 && cause == BREAKS);
     }
 
     /// Counts what an accepted lent trace holds.
@@ -483,9 +485,8 @@ impl Comparison {
     }
 }
 
-/// Which of CAUSES it is that a record gets 17, the records before it being lawful. It is looked for here by what the record says, and not by
-/// what was answered.
-fn cause_of(problem: &Problem, trace: &[u8], record: u16) -> usize {
+/// Which of CAUSES it is that this record gets 17, those before it being lawful: by what it says, and not by what was answered.
+fn cause_of(problem: &Problem, trace: &[u8], record: u16) -> &'static str {
     let (mut state, mut rest) = (State::full(problem), &trace[1..]);
     for _ in 0..record {
         let (step, after) = Step::read(rest).expect("a lawful record");
@@ -493,24 +494,23 @@ fn cause_of(problem: &Problem, trace: &[u8], record: u16) -> usize {
         rest = after;
     }
     let (step, _) = Step::read(rest).expect("a whole record");
-    let several = CAUSES.len() - 1;
-    let Step::Neighbourhood { i, b, a } = step else {
-        return if state.emptied() { several } else { [5, 6, 7, several, 8][step.kind() - 1] };
-    };
-    let alone = if !state.is_active(i) {
-        2
-    } else if !state.is_live(i, a) || !state.is_live(i, b) {
-        3
-    } else if a == b {
-        1
-    } else {
+    match step {
         // Whether the rule holds does not ask for items that are emptied.
-        return [[0, several], [4, 9]][usize::from(state.emptied())][usize::from(problem.neighbourhood(&state, i, b, a))];
-    };
-    if state.emptied() {
-        several
-    } else {
-        alone
+        Step::Neighbourhood { i, b, a } if a != b && state.is_live(i, a) && state.is_live(i, b) => {
+            match (state.emptied(), problem.neighbourhood(&state, i, b, a)) {
+                (false, _) => BREAKS,
+                (true, false) => "a cover that breaks, an item emptied",
+                (true, true) => "a cover that holds, an item emptied",
+            }
+        }
+        _ if state.emptied() => "several",
+        Step::Neighbourhood { i, .. } if !state.is_active(i) => "a cover, i out or not below n",
+        Step::Neighbourhood { i, b, a } if a == b && state.is_live(i, a) => "a cover, a = b",
+        Step::Neighbourhood { .. } => "a cover, a or b off",
+        Step::Unsupported { .. } => "bare",
+        Step::Snake { .. } => "snake",
+        Step::Triangle { .. } => "fold",
+        Step::SnakeSubstitution { .. } => "slide",
     }
 }
 
