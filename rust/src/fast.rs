@@ -197,7 +197,7 @@ impl Table {
         self.rows[i][a][j] & state.settings[j]
     }
 
-    /// The values live at l that spoil it for a, a value of i, to cover b, a value of j: those allowed with b and barred with a.
+    /// The values live at l that spoil a cover of b, a value of j, by a, a value of i: they are allowed with b and barred with a.
     fn spoilers(&self, state: &State, (i, a): (usize, usize), (j, b): (usize, usize), l: usize) -> u16 {
         self.rows[j][b][l] & !self.rows[i][a][l] & state.settings[l]
     }
@@ -557,7 +557,7 @@ impl Reduction {
         self.is_live(i, a) && self.is_live(i, b) && a != b
     }
 
-    /// What 17 of an unlawful step names: the item where a cover breaks and the value that spoils it, one word of rows each; else nothing.
+    /// What 17 of an unlawful step names: the lowest item where a cover breaks, and the lowest bit of the word of what spoils it there.
     #[cold]
     fn named(&self, table: &Table, step: Step) -> (u8, u8) {
         match step {

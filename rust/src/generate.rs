@@ -434,7 +434,7 @@ pub fn emptied(random: &mut Random, mut draft: Draft) -> Option<(Draft, Vec<Step
     Some((draft, steps))
 }
 
-/// A sheet of 32 items of 16 settings whose first items are free, and a lawful trace of more than 255 covers at these, in no order.
+/// A sheet of 32 items of 16 settings whose first items are free, and a lawful trace of covers at these, in no order: 254 of them, or more.
 pub fn long_trace(random: &mut Random) -> (Draft, Vec<Step>) {
     let free = random.between(20, 29);
     let mut draft = large_draft(random);
@@ -461,24 +461,24 @@ pub fn doubtful_step(random: &mut Random, problem: &Problem, state: &State) -> S
         live => random.pick(live),
     };
     let (b, mut a) = (live(random), live(random));
+    // Two different ones, where the item has them.
     for _ in 0..8 {
         a = if a == b { live(random) } else { a };
     }
+    // The first ones more often: those that the sheet lists.
+    let early = |random: &mut Random, list: Vec<usize>| list[random.below(list.len()).min(random.below(list.len()))];
     match random.below(12) {
         0..=4 => Step::Neighbourhood { i, b, a },
         5 => Step::Neighbourhood { i, b, a: b },
         6 => {
-            let out: Vec<usize> = (0..n).filter(|&i| !state.is_active(i)).chain([n, 31, 32, 33, 64 + i, 128 + i, 255]).collect();
-            Step::Neighbourhood { i: out[random.below(out.len()).min(random.below(out.len()))], b, a }
+            let out = (0..n).filter(|&i| !state.is_active(i)).chain([n, 31, 32, 33, 64 + i, 128 + i, 255]).collect();
+            Step::Neighbourhood { i: early(random, out), b, a }
         }
         7 => {
-            let off: Vec<usize> = (0..=MAX_SETTINGS).filter(|&c| !state.is_live(i, c)).chain([32 + b, 64 + a, 255]).collect();
-            let off = off[random.below(off.len()).min(random.below(off.len()))];
-            if random.chance(50) {
-                Step::Neighbourhood { i, b: off, a }
-            } else {
-                Step::Neighbourhood { i, b, a: off }
-            }
+            let off = (0..=MAX_SETTINGS).filter(|&c| !state.is_live(i, c)).chain([32 + b, 64 + a, 255]).collect();
+            let off = early(random, off);
+            let (b, a) = if random.chance(50) { (off, a) } else { (b, off) };
+            Step::Neighbourhood { i, b, a }
         }
         8 => Step::Unsupported { i, b, k: random.below(n) },
         9 => Step::Snake { i, v: a },

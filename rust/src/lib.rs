@@ -15,7 +15,8 @@
 //!
 //! Each answers a `Result`, and a refused call changes no byte that was lent to it. The error is a [`Refusal`], and of putting back a
 //! [`PutBackRefusal`], in which 17 tells the record and, where a cover breaks, what spoils it. The library allocates nothing, keeps nothing
-//! between calls and may be called from several threads. [`records`] takes a trace apart and [`trace_of`] writes one; these two are plain Rust.
+//! between calls and may be called from several threads. [`records`] takes a trace apart and [`trace_of`] writes one; these two are plain
+//! Rust.
 //!
 //! Here two items of two settings each are unequal: the run takes out both, and nothing is left to plan.
 //!

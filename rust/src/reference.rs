@@ -575,8 +575,8 @@ pub fn replay(problem: &Problem, trace: &[u8]) -> Answer<(Vec<(State, Step)>, St
     Ok((steps, state))
 }
 
-/// What 17 names of an unlawful record: "for a kind 4 record with i in, a and b different and on, and no item in left without a setting, the
-/// lowest item where the cover breaks and the lowest setting that spoils it there; for every other cause both are 255".
+/// What 17 names of an unlawful record: "for a kind 4 record with i in, a and b different and on, and no item in left without a setting,
+/// the lowest item where the cover breaks and the lowest setting that spoils it there; for every other cause both are 255".
 fn named(problem: &Problem, state: &State, step: Step) -> (u8, u8) {
     match step {
         Step::Neighbourhood { i, b, a } if two_live(state, i, b, a) && !state.emptied() => {

@@ -189,9 +189,9 @@ impl std::error::Error for Refusal {}
 /// What 17 carries: which record of a lent trace is not lawful and, where a cover breaks, what spoils it.
 ///
 /// Item and setting are named for a cover, kind 4, whose item is in, whose settings a and b are different and on, and where no item in is
-/// without a setting on: `item` is the lowest other item where a does not cover b, and `setting` the lowest setting on there that is allowed
-/// with b and barred with a. With every other cause both are [`NOT_NAMED`]. To mend such a trace, switch that setting off first, or
-/// name another a.
+/// without a setting on: `item` is the lowest other item where a does not cover b, and `setting` the lowest setting on there that is
+/// allowed with b and barred with a. With every other cause both are [`NOT_NAMED`]. To mend such a trace, switch that setting off first,
+/// or name another a.
 ///
 /// ```
 /// use zomuwedli::{put_back, trace_of, Record, Unlawful, OUT};

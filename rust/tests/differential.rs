@@ -110,8 +110,8 @@ struct Counts {
     /// Runs whose number of steps is more than a byte holds.
     long_runs: u64,
     lent_records: [u64; 6],
-    /// Records refused with 17, by CAUSES; those after a lawful one, and those whose number is more than a byte holds, the latter also where
-    /// they name an item and a setting.
+    /// Records refused with 17, by CAUSES; those after a lawful one, and those whose number is more than a byte holds, the latter also
+    /// where they name an item and a setting.
     unlawful: BTreeMap<&'static str, u64>,
     unlawful_later: u64,
     unlawful_far_on: u64,

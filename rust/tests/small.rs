@@ -1,5 +1,5 @@
-//! Demands 2 and 3 by brute force on very small sheets: all plans of what a trace leaves, and all lists of hand calls from a few states; and
-//! what 17 carries, for every cover that can be written after a few traces.
+//! Demands 2 and 3 by brute force on very small sheets: all plans of what a trace leaves, and all lists of hand calls from a few states;
+//! and what 17 carries, for every cover of two settings after a few traces.
 //!
 //! The proved library does the jobs, by both its layers (support/proved.rs); the reference says which rule holds; the plans are counted out here.
 //!
