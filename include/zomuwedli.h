@@ -11,7 +11,8 @@
  *
  * Answers. Each call answers one number. Its low byte, zomuwedli_number(answer), is 0 where the job was done, and otherwise the one number
  * of the call's first fault, as ZOMUWEDLI_REFUSALS lists them. A refused call changes no byte of any buffer. The other fields of an answer
- * are 0 where the call was refused; the functions after each declaration take them out.
+ * are 0 where the call was refused, but for 17 of putting back, which has fields of its own; the functions after each declaration take them
+ * out. To compare a refused answer with a constant, take its number first.
  *
  * Stack. No contract speaks of it. Leave each call as much as its constant says, which is above what tests/stack.c measures on sheets of
  * 32 items of 16 settings, a trace of 512 records and colouring files of 64 KiB:
@@ -60,6 +61,9 @@ extern "C" {
 
 /* The plan's byte for an item that is out. */
 #define ZOMUWEDLI_OUT 255
+
+/* The item and the setting of 17 where none is named. */
+#define ZOMUWEDLI_NOT_NAMED 255
 
 /* The stack for each call, as above, and for any but putting back. */
 #define ZOMUWEDLI_READ_STACK (4 * 1024)
@@ -170,6 +174,14 @@ static inline unsigned zomuwedli_setting(uint64_t answer) { return (unsigned)(an
  * out; the result has as many. */
 uint64_t zomuwedli_put_back(const uint8_t *sheet, size_t sheet_length, const uint8_t *trace, size_t trace_length, const uint8_t *plan,
                             size_t plan_length, uint8_t *result, size_t result_length);
+
+/* What an answer with 17, ZOMUWEDLI_REFUSED_RECORD_UNLAWFUL, carries; of any other answer these are without meaning. The record's number
+ * counts from 0, and the records before it are lawful. Where it is a cover (kind 4, b and a at item i) against which nothing else speaks,
+ * the item is the lowest at which a does not cover b, and the setting is the lowest on there that is allowed with b and barred with a:
+ * switch it off first, or name another a. With every other cause both are ZOMUWEDLI_NOT_NAMED. */
+static inline unsigned zomuwedli_unlawful_record(uint64_t answer) { return (unsigned)(answer >> 8 & 0xffff); }
+static inline unsigned zomuwedli_unlawful_item(uint64_t answer) { return (unsigned)(answer >> 24 & 0xff); }
+static inline unsigned zomuwedli_unlawful_setting(uint64_t answer) { return (unsigned)(answer >> 32 & 0xff); }
 
 /* ---- The sheet of a colouring file: from a DIMACS graph colouring file and a number of channels, the sheet whose plans are the proper
  * colourings. Vertex v is item v - 1, each item's settings are the channels, and each edge's block bars equal settings and nothing else.

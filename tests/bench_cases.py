@@ -220,20 +220,27 @@ class Problem:
         return set(range(self.n)), [set(range(z)) for z in self.sizes]
 
 
-def covers(P, st, i, a, j, b, l):
-    return all(P.ok(i, a, l, c) for c in st[1][l] if P.ok(j, b, l, c))
+def spoiler(P, st, i, a, j, b, l):
+    """The lowest setting on at l that is allowed with b of j and barred with a of i, or None: a covers b at l."""
+    return next((c for c in sorted(st[1][l]) if P.ok(j, b, l, c) and not P.ok(i, a, l, c)), None)
 
 
 def others(st, *without):
     return [l for l in sorted(st[0]) if l not in without]
 
 
+def breach(P, st, i, a, j, b, *without):
+    """The lowest item in, these left out, at which a of i does not cover b of j, and the setting that spoils it; or None."""
+    spoilt = ((l, spoiler(P, st, i, a, j, b, l)) for l in others(st, *without))
+    return next(((l, c) for l, c in spoilt if c is not None), None)
+
+
 def snake_fix(P, st, i, v, j, w):
-    return [x for x in sorted(st[1][j]) if P.ok(i, v, j, x) and all(covers(P, st, j, x, j, w, l) for l in others(st, i, j))]
+    return [x for x in sorted(st[1][j]) if P.ok(i, v, j, x) and breach(P, st, j, x, j, w, i, j) is None]
 
 
 def fold_fix(P, st, i, j, v):
-    return [u for u in sorted(st[1][i]) if P.ok(i, u, j, v) and all(covers(P, st, i, u, j, v, l) for l in others(st, i, j))]
+    return [u for u in sorted(st[1][i]) if P.ok(i, u, j, v) and breach(P, st, i, u, j, v, i, j) is None]
 
 
 def inside(P, st, i, *values):
@@ -255,13 +262,21 @@ def holds(P, st, r):
     if not inside(P, st, i, b, a) or a == b:
         return False
     if kind == 4:
-        return all(covers(P, st, i, a, i, b, l) for l in others(st, i))
-    return all(any(P.ok(i, a, k, e) and all(covers(P, st, k, e, k, d, l) for l in others(st, k)) for e in st[1][k])
+        return breach(P, st, i, a, i, b, i) is None
+    return all(any(P.ok(i, a, k, e) and breach(P, st, k, e, k, d, k) is None for e in st[1][k])
                for k in others(st, i) for d in st[1][k] if P.ok(i, b, k, d))
 
 
 def empty(st):
     return any(not st[1][i] for i in st[0])
+
+
+def named(P, st, r):
+    """The item and the setting that 17 of this record carries: those of a cover that breaks, and 255 for every other cause."""
+    kind, i, b, a = (*r, None)[:4]
+    if kind != 4 or a == b or not inside(P, st, i, b, a) or empty(st):
+        return 255, 255
+    return breach(P, st, i, a, i, b, i)
 
 
 def after(P, st, r):
@@ -356,8 +371,8 @@ def hand_job(s, state, item):
 
 
 def put_back_job(s, trace, plan, out):
-    def refused(k):
-        return f"refused {k} {out.hex()}"
+    def refused(*numbers):
+        return f"refused {' '.join(map(str, numbers))} {out.hex()}"
 
     got = read(s)
     if isinstance(got, int):
@@ -376,7 +391,7 @@ def put_back_job(s, trace, plan, out):
             return refused(16)
         r = tuple(trace[p + 1:p + 1 + size])
         if empty(st) or not holds(P, st, r):
-            return refused(17)
+            return refused(17, len(done), *named(P, st, r))
         done.append((st, r))
         st = after(P, st, r)
         p += 1 + size
@@ -567,6 +582,91 @@ many = [r for i in range(32) for r in [(4, i, b, 15) for b in range(15)] + [(2, 
 assert len(many) == 512
 back("512 records", free, trace_bytes(many), b"\xff" * 32, expected="done " + "0f" * 32)
 back("one record more", free, trace_bytes(many + [(2, 0, 15)]), b"\xff" * 32, expected="refused 17")
+# what 17 carries: each cause by name. A putting back refused with 17 for its last record, which has this number; the plan is not looked at
+def unlawful(name, s, records, item=255, setting=255, behind=b""):
+    out = pattern(s[5])
+    back(f"17: {name}", s, trace_bytes(records) + behind, bytes(s[5]), out, f"refused 17 {len(records) - 1} {item} {setting} {out.hex()}")
+
+
+def spoilt(sizes, i, *bars):
+    """A sheet in which setting 1 of item i is barred with these settings (item, setting), and all else is allowed: but for these, setting
+    1 covers setting 0, and every setting covers setting 1."""
+    blocks = []
+    for l in sorted({l for l, _ in bars}):
+        barred, (low, high) = {c for k, c in bars if k == l}, sorted((i, l))
+        ok = [[not ((x if i == low else y) == 1 and (y if i == low else x) in barred) for y in range(sizes[high])] for x in range(sizes[low])]
+        blocks.append((low, high, [sum(1 << y for y in range(sizes[high]) if row[y]) for row in ok]))
+    return sheet(sizes, sorted(blocks))
+
+
+THREES = [3] * 4
+for i, at in itertools.permutations(range(4), 2):
+    place = {0: "the first", 3: "the last"}.get(at, "a middle")
+    unlawful(f"a cover at item {i} breaks at {place} item, {at}", spoilt(THREES, i, (at, (i + at) % 3)), [(4, i, 0, 1)], at, (i + at) % 3)
+twice = spoilt(THREES, 1, (0, 2), (3, 0))
+unlawful("a cover breaks at two items, the lower is named", twice, [(4, 1, 0, 1)], 0, 2)
+unlawful("another b, the same break", twice, [(4, 1, 2, 1)], 0, 2)
+back("the other way round nothing breaks", twice, trace_bytes([(4, 1, 1, 0)]), bytes(4), expected="done")
+unlawful("with the lower item out the cover breaks at the higher", twice, [(2, 0, 0), (4, 1, 0, 1)], 3, 0)
+between = spoilt(THREES, 0, (1, 0), (2, 2), (3, 1))
+unlawful("the item between is out, and would break the cover if it were in", between, [(2, 1, 1), (4, 0, 0, 1)], 2, 2)
+unlawful("two items between are out", between, [(2, 1, 1), (2, 2, 0), (4, 0, 0, 1)], 3, 1)
+back("all items that would break it are out", between, trace_bytes([(2, 1, 1), (2, 2, 0), (2, 3, 0), (4, 0, 0, 1)]), X("01ffffff"), expected="done")
+several = spoilt(THREES, 0, (1, 1), (1, 2))
+unlawful("two settings spoil a cover, the lower is named", several, [(4, 0, 0, 1)], 1, 1)
+unlawful("with the lower off the higher is named", several, [(4, 1, 1, 2), (4, 0, 0, 1)], 1, 2)
+unlawful("a lower setting is off that would spoil it", spoilt(THREES, 0, (2, 0), (2, 1), (2, 2)), [(4, 2, 0, 1), (4, 0, 0, 1)], 2, 1)
+# item 1: setting 0 is allowed with both, 1 barred with both, 2 barred with b only, 3 allowed with b only
+unlawful("settings below that do not spoil it", sheet([2, 4], [(0, 1, [9, 5])]), [(4, 0, 0, 1)], 1, 3)
+unlawful("the same, its items exchanged", sheet([4, 2], [(0, 1, [3, 0, 2, 1])]), [(4, 1, 0, 1)], 0, 3)
+unlawful("the highest item and setting there are", spoilt([16] * 32, 0, (31, 15)), [(4, 0, 0, 1)], 31, 15)
+unlawful("the highest settings of i", sheet([16, 2], [(0, 1, [3] * 14 + [2, 1])]), [(4, 0, 15, 14)], 1, 0)
+unlawful("a bare setting as a", sheet([2, 3], [(0, 1, [7, 0])]), [(4, 0, 0, 1)], 1, 0)
+# a kind 4 record that names nothing
+unlawful("a and b are one setting", between, [(4, 0, 1, 1)])
+unlawful("a and b are one setting, after a lawful record", between, [(2, 1, 1), (4, 0, 0, 0)])
+unlawful("i is out", between, [(2, 0, 0), (4, 0, 0, 1)])
+for i in (4, 5, 31, 32, 33, 128, 255):
+    unlawful(f"i is {i}, not below n", between, [(4, i, 0, 1)])
+unlawful("a is off", spoilt(THREES, 0, (1, 0), (2, 2)), [(4, 0, 1, 0), (4, 0, 0, 1)])
+unlawful("b is off", between, [(4, 0, 2, 0), (4, 0, 2, 1)])
+unlawful("a and b are off", between, [(4, 0, 2, 0), (4, 0, 1, 0), (4, 0, 2, 1)])
+for c in (3, 4, 15, 16, 17, 32, 64, 255):
+    unlawful(f"a is {c}, not a setting of i", between, [(4, 0, 0, c)])
+    unlawful(f"b is {c}, not a setting of i", between, [(4, 0, c, 1)])
+unlawful("a and b are 255", between, [(4, 0, 255, 255)])
+# items 2 and 3 of one setting, barred: a bare empties one of them. Items 0 and 1 have a cover that breaks.
+empties = sheet([2, 2, 1, 1], [(0, 1, [3, 1]), (2, 3, [0])])
+unlawful("a cover that breaks, no item emptied", empties, [(4, 0, 0, 1)], 1, 1)
+unlawful("an item elsewhere is emptied, and the cover breaks", empties, [(1, 2, 0, 3), (4, 0, 0, 1)])
+unlawful("an item elsewhere is emptied, and the cover would be lawful", empties, [(1, 3, 0, 2), (4, 0, 1, 0)])
+unlawful("i itself is emptied", sheet([2, 2, 2], [(0, 1, [0, 0]), (1, 2, [3, 1])]), [(1, 0, 0, 1), (1, 0, 1, 1), (4, 0, 0, 1)])
+unlawful("a lower item is emptied", sheet([1, 1, 2, 2], [(0, 1, [0]), (2, 3, [3, 1])]), [(1, 0, 0, 1), (4, 2, 0, 1)])
+unlawful("a fold emptied an item", sheet([1, 2, 1, 2], [(0, 2, [0]), (1, 2, [0, 0]), (1, 3, [3, 1])]), [(3, 0, 1), (4, 1, 0, 1)])
+# the other kinds name nothing, whichever cover it is that breaks
+for name, r in (("bare", (1, 0, 0, 1)), ("snake", (2, 0, 0)), ("fold", (3, 0, 1)), ("slide", (5, 0, 0, 1))):
+    unlawful(f"kind {r[0]}, {name}", C, [r])
+    unlawful(f"kind {r[0]}, {name}, after a lawful record", sheet([2, 2, 2, 2], [(0, 1, NE2), (0, 2, NE2), (1, 2, NE2)]), [(2, 3, 0), r])
+    unlawful(f"kind {r[0]}, {name}, an item emptied", empties, [(1, 2, 0, 3), r])
+unlawful("kind 4 where the others name nothing", C, [(4, 0, 0, 1)], 1, 1)
+unlawful("a cover that breaks before a record that is cut short", between, [(4, 0, 0, 1)], 1, 0, X("0302"))
+unlawful("a cover that breaks before another that does", between, [(4, 0, 0, 1)], 1, 0, X("0404020001"))
+# record numbers: covers and snakes on a sheet of 512 settings, each of which uses up one. Item 30 comes down to settings 0 and 15, and item
+# 31 to setting 15; setting 15 of item 30 is barred with every setting of item 31.
+block = sheet([16] * 32, [(30, 31, [65535] * 15 + [0])])
+down = [r for i in range(30) for r in [(4, i, b, 15) for b in range(15)] + [(2, i, 15)]] + [(4, 30, b, 0) for b in range(1, 15)] \
+    + [(4, 31, b, 15) for b in range(15)]
+for k in (0, 1, 254, 255, 256, 257, 480, 494, 509):
+    unlawful(f"record {k}, a cover that breaks", block, down[:k] + [(4, 30, 0, 15)], 31, max(0, k - 494))
+for k in (255, 256, 511, 512):
+    unlawful(f"record {k}, i is out", free, many[:k] + [(4, 0, 0, 15)])
+    unlawful(f"record {k}, a snake", free, many[:k] + [(2, 0, 15)])
+unlawful("record 511, b is off: one setting is on", free, many[:511] + [(4, 31, 14, 15)])
+# the step list of docs/FORMAT.md, "Putting back", that is refused; its records exchanged; and the list that is accepted
+gates = X("01000000170300020202040001000300010002000f0007")
+unlawful("the step list that is refused", gates, [(2, 1, 0), (4, 0, 0, 1)], 2, 3)
+unlawful("its records exchanged", gates, [(4, 0, 0, 1)], 1, 1, X("03020100"))
+back("the step list mended", gates, trace_bytes([(2, 1, 0), (4, 2, 3, 2), (4, 0, 0, 1)]), X("01ff02"), expected="done 010002")
 for k in range(60):
     s = random_sheet(rng.randint(2, 5), 4, 0.8, rng.choice([0.1, 0.3]))
     P = Problem(s)
@@ -585,6 +685,23 @@ for k in range(60):
     for p in rng.sample(plans, min(2, len(plans))):
         back(f"random {k}, a plan of what is left", s, trace_bytes(trace), bytes(p), expected="done")
     back(f"random {k}, any bytes", s, trace_bytes(trace), bytes(rng.randint(0, 3) for _ in range(P.n)))
+rng = random.Random(20261117)
+for k in range(120):
+    s = random_sheet(rng.randint(3, 6), 4, 0.8, rng.choice([0.2, 0.4]))
+    P = Problem(s)
+    st, trace = P.full(), []
+    for _ in range(rng.randint(0, 6)):
+        good = [] if empty(st) else [r for r in candidates(P) if holds(P, st, r)]
+        if not good:
+            break
+        # items stay in where they can, so that there is something to break
+        trace.append(rng.choice([r for r in good if r[0] not in (2, 3)] or good))
+        st = after(P, st, trace[-1])
+    choices = [i for i in sorted(st[0]) if len(st[1][i]) > 1]
+    i = rng.choice(choices or [0])
+    settings = rng.sample(sorted(st[1][i]), 2) if choices and rng.random() < 0.8 else [rng.randrange(4), rng.randrange(4)]
+    trace.append((4, i, *settings) if rng.random() < 0.8 else rng.choice(list(candidates(P))))
+    back(f"random {k}, a last record that may be unlawful", s, trace_bytes(trace), bytes(P.n))
 
 # ---- the sheet of a colouring file
 

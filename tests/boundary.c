@@ -144,20 +144,83 @@ static void hand_state_refused(size_t length)
     free(state);
 }
 
+/* Each refusal but 17, which has a part of its own below: the whole answer is the number. */
 static void put_back(void)
 {
-    const uint8_t plan[] = {ZOMUWEDLI_OUT, ZOMUWEDLI_OUT}, slide[] = {1, 4, ZOMUWEDLI_SLIDE, 0, 0, 1};
+    const uint8_t plan[] = {ZOMUWEDLI_OUT, ZOMUWEDLI_OUT};
     uint8_t *result = lent(2);
+    EXPECT(zomuwedli_put_back(sheet_b, 15, trace_b, sizeof trace_b, plan, 2, result, 2) == ZOMUWEDLI_REFUSED_SHEET_LENGTH);
     EXPECT(zomuwedli_put_back(sheet_b, sizeof sheet_b, trace_b, sizeof trace_b, plan, 1, result, 2) == ZOMUWEDLI_REFUSED_PLAN_LENGTH);
     EXPECT(zomuwedli_put_back(sheet_b, sizeof sheet_b, trace_b, sizeof trace_b, plan, 2, result, 1) == ZOMUWEDLI_REFUSED_RESULT_LENGTH);
     EXPECT(zomuwedli_put_back(sheet_b, sizeof sheet_b, NULL, 0, plan, 2, result, 2) == ZOMUWEDLI_REFUSED_TRACE_FRONT);
     EXPECT(zomuwedli_put_back(sheet_b, sizeof sheet_b, trace_b, 8, plan, 2, result, 2) == ZOMUWEDLI_REFUSED_RECORD_SHAPE);
-    EXPECT(zomuwedli_put_back(sheet_b, sizeof sheet_b, slide, sizeof slide, plan, 2, result, 2) == ZOMUWEDLI_REFUSED_RECORD_UNLAWFUL);
     EXPECT(zomuwedli_put_back(sheet_b, sizeof sheet_b, trace_b, 5, plan, 2, result, 2) == ZOMUWEDLI_REFUSED_PLAN_UNFIT);
     EXPECT(as_lent(result, 2));
     EXPECT(zomuwedli_put_back(sheet_b, sizeof sheet_b, trace_b, sizeof trace_b, plan, 2, result, 2) == 0);
     EXPECT(result[0] == 0 && result[1] == 1);
     free(result);
+}
+
+/* Putting back with 17 and these three numbers, and nothing beside them; no byte of the result is changed. The trace is a copy of exactly so
+ * many bytes on the heap, so that memcheck sees a byte beyond it. */
+static void unlawful(const uint8_t *sheet, size_t sheet_length, const uint8_t *bytes, size_t length, unsigned record, unsigned item,
+                     unsigned setting)
+{
+    const uint8_t plan[32] = {0};
+    uint8_t *trace = lent(length), *result = lent(sheet[5]);
+    memcpy(trace, bytes, length);
+    uint64_t answer = zomuwedli_put_back(sheet, sheet_length, trace, length, plan, sheet[5], result, sheet[5]);
+    EXPECT(zomuwedli_number(answer) == ZOMUWEDLI_REFUSED_RECORD_UNLAWFUL);
+    EXPECT(zomuwedli_unlawful_record(answer) == record);
+    EXPECT(zomuwedli_unlawful_item(answer) == item);
+    EXPECT(zomuwedli_unlawful_setting(answer) == setting);
+    EXPECT(answer == (17 | (uint64_t)record << 8 | (uint64_t)item << 24 | (uint64_t)setting << 32));
+    EXPECT(as_lent(result, sheet[5]));
+    free(trace);
+    free(result);
+}
+
+/* The sheet of docs/FORMAT.md, "Putting back": setting 1 of item 0 is barred with setting 1 of item 1 and with setting 3 of item 2. */
+static const uint8_t sheet_cover[] = {1, 0, 0, 0, 23, 3, 0, 2, 2, 2, 4, 0, 1, 0, 3, 0, 1, 0, 2, 0, 15, 0, 7};
+
+static void unlawful_records(void)
+{
+    const uint8_t spoiled[] = {1, 3, ZOMUWEDLI_SNAKE, 1, 0, 4, ZOMUWEDLI_COVER, 0, 0, 1};
+    const uint8_t exchanged[] = {1, 4, ZOMUWEDLI_COVER, 0, 0, 1, 3, ZOMUWEDLI_SNAKE, 1, 0};
+    const uint8_t mended[] = {1, 3, ZOMUWEDLI_SNAKE, 1, 0, 4, ZOMUWEDLI_COVER, 2, 3, 2, 4, ZOMUWEDLI_COVER, 0, 0, 1};
+    const uint8_t itself[] = {1, 3, ZOMUWEDLI_SNAKE, 1, 0, 4, ZOMUWEDLI_COVER, 0, 1, 1}, out[] = {1, 3, 2, 1, 0, 3, 2, 1, 0};
+    const uint8_t slide[] = {1, 4, ZOMUWEDLI_SLIDE, 0, 0, 1}, plan[] = {1, ZOMUWEDLI_OUT, 2};
+    uint8_t *result = lent(3);
+    unlawful(sheet_cover, sizeof sheet_cover, spoiled, sizeof spoiled, 1, 2, 3);
+    unlawful(sheet_cover, sizeof sheet_cover, exchanged, sizeof exchanged, 0, 1, 1);
+    unlawful(sheet_cover, sizeof sheet_cover, itself, sizeof itself, 1, ZOMUWEDLI_NOT_NAMED, ZOMUWEDLI_NOT_NAMED);
+    unlawful(sheet_cover, sizeof sheet_cover, out, sizeof out, 1, ZOMUWEDLI_NOT_NAMED, ZOMUWEDLI_NOT_NAMED);
+    unlawful(sheet_b, sizeof sheet_b, slide, sizeof slide, 0, ZOMUWEDLI_NOT_NAMED, ZOMUWEDLI_NOT_NAMED);
+    EXPECT(zomuwedli_put_back(sheet_cover, sizeof sheet_cover, spoiled, sizeof spoiled, plan, 3, result, 3) == UINT64_C(0x0000000302000111));
+    EXPECT(zomuwedli_put_back(sheet_cover, sizeof sheet_cover, mended, sizeof mended, plan, 3, result, 3) == 0);
+    EXPECT(result[0] == 1 && result[1] == 0 && result[2] == 2);
+    free(result);
+}
+
+/* Record numbers that one byte does not hold, named and not: the longest sheet's, with setting 15 of item 30 barred with every setting of
+ * item 31; its trace takes covers at the items before, 15 for each. */
+static void unlawful_far_on(void)
+{
+    enum { COVERS = 300, AT = 1 + 5 * COVERS };
+    uint8_t free_sheet[LONGEST_SHEET], trace[LONGEST_TRACE + 4], sheet[LONGEST_SHEET + 34];
+    fill_longest(free_sheet, trace);
+    memcpy(trace + LONGEST_TRACE, (const uint8_t[]){3, ZOMUWEDLI_SNAKE, 31, 0}, 4);
+    unlawful(free_sheet, sizeof free_sheet, trace, sizeof trace, 512, ZOMUWEDLI_NOT_NAMED, ZOMUWEDLI_NOT_NAMED);
+    memset(sheet, 0xff, sizeof sheet);
+    memcpy(sheet, free_sheet, sizeof free_sheet);
+    memcpy(sheet + LONGEST_SHEET, (const uint8_t[]){30, 31}, 2);
+    memset(sheet + sizeof sheet - 2, 0, 2);
+    sheet[4] = sizeof sheet;
+    sheet[7] = 1;
+    memcpy(trace + AT, (const uint8_t[]){4, ZOMUWEDLI_COVER, 30, 0, 15}, 5);
+    unlawful(sheet, sizeof sheet, trace, AT + 5, COVERS, 31, 0);
+    memcpy(trace + AT, (const uint8_t[]){4, ZOMUWEDLI_COVER, 0, 1, 15}, 5);
+    unlawful(sheet, sizeof sheet, trace, AT + 5, COVERS, ZOMUWEDLI_NOT_NAMED, ZOMUWEDLI_NOT_NAMED);
 }
 
 static void longest_trace(void)
@@ -410,6 +473,8 @@ int main(void)
     hand_state_refused(ZOMUWEDLI_HAND_STATE_LENGTH - 1);
     hand_state_refused(ZOMUWEDLI_HAND_STATE_LENGTH + 1);
     put_back();
+    unlawful_records();
+    unlawful_far_on();
     longest_trace();
     colour_done(sizeof path_sheet);
     colour_done(ZOMUWEDLI_MAX_SHEET);

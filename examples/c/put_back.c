@@ -1,5 +1,6 @@
 /* Puts a lent trace back: from a sheet, a trace, whoever wrote it, and a plan for the items left, the plan of the full sheet. The plan is
- * named item by item, 255 for an item that is out.
+ * named item by item, 255 for an item that is out. After `refused 17` stand the record's number, from 0, and the item where its cover
+ * breaks and the setting that spoils it, or 255 and 255.
  *
  *     make examples
  *     target/c/put_back examples/B.sheet examples/B.trace 255 255
@@ -29,6 +30,20 @@ static int read_plan(struct lent *lent, char **settings)
     return 1;
 }
 
+/* 17 says which record it is and, where a cover breaks, what spoils it. */
+static int refuse_record(const char *name, uint64_t answer)
+{
+    unsigned number = zomuwedli_number(answer), record = zomuwedli_unlawful_record(answer);
+    unsigned item = zomuwedli_unlawful_item(answer), setting = zomuwedli_unlawful_setting(answer);
+    printf("refused %u %u %u %u\n", number, record, item, setting);
+    fprintf(stderr, "sheet %s: refused %u: %s; it is record %u", name, number, zomuwedli_text(number), record);
+    if (item != ZOMUWEDLI_NOT_NAMED) {
+        fprintf(stderr, ", and at item %u setting %u spoils the cover", item, setting);
+    }
+    fprintf(stderr, "\n");
+    return REFUSED;
+}
+
 /* The read check tells how long the result is: one byte for each item. */
 static int print_put_back(const struct lent *lent, const char *name)
 {
@@ -38,6 +53,9 @@ static int print_put_back(const struct lent *lent, const char *name)
     if (zomuwedli_number(answer) == 0) {
         answer = zomuwedli_put_back(lent->sheet, lent->sheet_length, lent->trace, lent->trace_length, lent->plan, lent->plan_length,
                                     result, n);
+    }
+    if (zomuwedli_number(answer) == ZOMUWEDLI_REFUSED_RECORD_UNLAWFUL) {
+        return refuse_record(name, answer);
     }
     if (zomuwedli_number(answer) != 0) {
         return refuse(name, zomuwedli_number(answer));

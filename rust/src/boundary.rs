@@ -1,8 +1,8 @@
 //! The six C functions of the proved library over slices: the one place with unsafe code.
 //!
 //! Each function answers one word (docs/FORMAT.md, "The state's bytes and the C boundary"): bits 0 to 7 hold 0 or the number of the
-//! refusal, the bits above what a call that was done answers. Here the word is taken apart and nothing more: a state is a slice of any
-//! length and a refusal a number, so that the tests, which have this file too, can ask for 200 and 201.
+//! refusal, the bits above what a call that was done answers, or what 17 of putting back carries. Here the word is taken apart and nothing
+//! more: a state is a slice of any length and a refusal a number, so that the tests, which have this file too, can ask for 200 and 201.
 
 extern "C" {
     fn zomuwedli_read(sheet: *const u8, sheet_length: usize) -> u64;
@@ -59,8 +59,17 @@ pub fn hand_call(sheet: &[u8], state: &mut [u8], item: u64) -> Result<u8, u8> {
     taken(word, 16).map(|fields| fields as u8)
 }
 
+/// Why putting back was refused.
+#[derive(Clone, Copy, PartialEq, Eq, Debug)]
+pub enum PutBackFault {
+    /// By a number other than 17, which has nothing beside it.
+    Number(u8),
+    /// By 17.
+    Unlawful { record: u16, item: u8, setting: u8 },
+}
+
 /// Nothing but that it was done.
-pub fn put_back(sheet: &[u8], trace: &[u8], plan: &[u8], result: &mut [u8]) -> Result<(), u8> {
+pub fn put_back(sheet: &[u8], trace: &[u8], plan: &[u8], result: &mut [u8]) -> Result<(), PutBackFault> {
     // SAFETY: each pointer and length are of one live slice; the one that is written is lent as mutable, so that none overlaps it.
     let word = unsafe {
         zomuwedli_put_back(
@@ -74,7 +83,16 @@ pub fn put_back(sheet: &[u8], trace: &[u8], plan: &[u8], result: &mut [u8]) -> R
             result.len(),
         )
     };
-    taken(word, 8).map(|_| ())
+    put_back_taken(word)
+}
+
+/// The word that putting back answers, taken apart: 17 alone has fields, up to bit 39.
+pub fn put_back_taken(word: u64) -> Result<(), PutBackFault> {
+    const UNLAWFUL: u8 = 17;
+    if word as u8 == UNLAWFUL && word >> 40 == 0 {
+        return Err(PutBackFault::Unlawful { record: (word >> 8) as u16, item: (word >> 24) as u8, setting: (word >> 32) as u8 });
+    }
+    taken(word, 8).map(|_| ()).map_err(PutBackFault::Number)
 }
 
 /// The bytes written.

@@ -5,7 +5,8 @@
 //! covers it there for good: for each two values one mark, the lowest item at which the one may fail to cover the other, only moves up
 //! (`Reduction::gap`). And a rule that failed rests on a few items only: it is not tested again before one of them changes (`Failed`).
 
-use zomuwedli::{Accepted, End, Refusal, Taken, Written, HAND_STATE_LENGTH, MAX_FILE, MAX_ITEMS, MAX_SETTINGS, OUT, STATE_LENGTH};
+use zomuwedli::{Accepted, End, Refusal, Taken, Unlawful, Written};
+use zomuwedli::{HAND_STATE_LENGTH, MAX_FILE, MAX_ITEMS, MAX_SETTINGS, NOT_NAMED, OUT, STATE_LENGTH};
 
 use super::{Answer, Done, Fault};
 
@@ -196,9 +197,9 @@ impl Table {
         self.rows[i][a][j] & state.settings[j]
     }
 
-    /// Whether a, a value of i, fails to cover b, a value of j, at the active variable l.
-    fn fails_at(&self, state: &State, (i, a): (usize, usize), (j, b): (usize, usize), l: usize) -> bool {
-        self.rows[j][b][l] & !self.rows[i][a][l] & state.settings[l] != 0
+    /// The values live at l that spoil a cover of b, a value of j, by a, a value of i: they are allowed with b and barred with a.
+    fn spoilers(&self, state: &State, (i, a): (usize, usize), (j, b): (usize, usize), l: usize) -> u16 {
+        self.rows[j][b][l] & !self.rows[i][a][l] & state.settings[l]
     }
 
     /// The lowest variable from `from` on, `apart` left out, at which a fails to cover b. A variable out has no value live, and the two
@@ -210,7 +211,7 @@ impl Table {
 
     /// The lowest variable, i and j left out, at which u, a value of i, fails to cover v, a value of j.
     fn fold_gap(&self, state: &State, (i, u): (usize, usize), (j, v): (usize, usize)) -> usize {
-        (0..self.count).find(|&l| self.fails_at(state, (i, u), (j, v), l) && l != i && l != j).unwrap_or(NONE)
+        (0..self.count).find(|&l| self.spoilers(state, (i, u), (j, v), l) != 0 && l != i && l != j).unwrap_or(NONE)
     }
 
     /// The values at j that lose their last support when i goes out.
@@ -547,8 +548,25 @@ impl Reduction {
             Step::Triangle { i, j } => {
                 has(self.state.items, i) && has(self.state.items, j) && i != j && self.triangle_fails(table, i, j).is_none()
             }
-            Step::Neighbourhood { i, b, a } => self.is_live(i, a) && self.is_live(i, b) && a != b && self.gap(table, i, b, a) == NONE,
-            Step::SnakeSubstitution { i, b, a } => self.is_live(i, a) && self.is_live(i, b) && a != b && self.slides(table, i, b, a),
+            Step::Neighbourhood { i, b, a } => self.two_live(i, b, a) && self.gap(table, i, b, a) == NONE,
+            Step::SnakeSubstitution { i, b, a } => self.two_live(i, b, a) && self.slides(table, i, b, a),
+        }
+    }
+
+    fn two_live(&self, i: usize, b: usize, a: usize) -> bool {
+        self.is_live(i, a) && self.is_live(i, b) && a != b
+    }
+
+    /// What 17 of an unlawful step names: the lowest item where a cover breaks, and the lowest bit of the word of what spoils it there.
+    #[cold]
+    fn named(&self, table: &Table, step: Step) -> (u8, u8) {
+        match step {
+            Step::Neighbourhood { i, b, a } if self.two_live(i, b, a) && !self.emptied => {
+                let item = table.next_gap(&self.state, i, b, a, 0, NONE);
+                let spoilers = table.spoilers(&self.state, (i, a), (i, b), item);
+                (item as u8, spoilers.trailing_zeros() as u8)
+            }
+            _ => (NOT_NAMED, NOT_NAMED),
         }
     }
 
@@ -669,9 +687,9 @@ impl Workspace {
     }
 
     /// The steps of a trace that take an item out, each with the state before it: the others change nothing when undone.
-    fn replay(&mut self, trace: &[u8]) -> Result<Vec<(State, Step)>, Refusal> {
+    fn replay(&mut self, trace: &[u8]) -> Answer<Vec<(State, Step)>> {
         if trace.first() != Some(&1) {
-            return Err(Refusal::TraceFront);
+            return Err(Refusal::TraceFront.into());
         }
         self.reduction.begin(&self.table, self.table.full_state());
         let mut steps = Vec::new();
@@ -679,7 +697,8 @@ impl Workspace {
         while place < trace.len() {
             let (step, length) = Step::read(&trace[place..])?;
             if self.reduction.emptied || !self.reduction.lawful(&self.table, step) {
-                return Err(Refusal::RecordUnlawful);
+                let (item, setting) = self.reduction.named(&self.table, step);
+                return Err(Unlawful { record: records_before(trace, place), item, setting }.into());
             }
             if matches!(step, Step::Snake { .. } | Step::Triangle { .. }) {
                 steps.push((self.reduction.state.clone(), step));
@@ -689,6 +708,13 @@ impl Workspace {
         }
         Ok(steps)
     }
+}
+
+/// How many records of a trace stand before this place. Counted where one is refused, so that a lawful trace is not slower for it.
+#[cold]
+fn records_before(trace: &[u8], place: usize) -> u16 {
+    let next = |&at: &usize| Some(at + 1 + usize::from(trace[at])).filter(|&next| next <= place);
+    (std::iter::successors(Some(1), next).count() - 1) as u16
 }
 
 // ---- The colouring file -------------------------------------------------------------------------------------------------------------

@@ -422,6 +422,71 @@ fn lawful_step(random: &mut Random, problem: &Problem, state: &State, kind: usiz
     candidates[from..].iter().chain(&candidates[..from]).copied().take(60).find(|&step| problem.lawful(state, step))
 }
 
+/// A sheet with a block that bars everything, and the bare steps that leave one of its items without a setting; nothing where the sheet has
+/// no block.
+pub fn emptied(random: &mut Random, mut draft: Draft) -> Option<(Draft, Vec<Step>)> {
+    let place = random.below(draft.blocks.len().max(1));
+    let block = draft.blocks.get_mut(place)?;
+    block.rows.fill(0);
+    let (i, j) = (usize::from(block.i), usize::from(block.j));
+    let (i, k) = if random.chance(50) { (i, j) } else { (j, i) };
+    let steps = (0..usize::from(draft.sizes[i])).map(|b| Step::Unsupported { i, b, k }).collect();
+    Some((draft, steps))
+}
+
+/// A sheet of 32 items of 16 settings whose first items are free, and a lawful trace of covers at these, in no order: 254 of them, or more.
+pub fn long_trace(random: &mut Random) -> (Draft, Vec<Step>) {
+    let free = random.between(20, 29);
+    let mut draft = large_draft(random);
+    draft.blocks.retain(|block| usize::from(block.i) >= free);
+    let mut steps = Vec::new();
+    for i in 0..free {
+        let a = random.below(MAX_SETTINGS);
+        steps.extend((0..MAX_SETTINGS).filter(|&b| b != a).map(|b| Step::Neighbourhood { i, b, a }));
+    }
+    shuffle(random, &mut steps);
+    steps.truncate(random.between(254, steps.len()));
+    (draft, steps)
+}
+
+/// A step that is mostly unlawful in this state: a cover of a setting on by another one, which often breaks, the same with one thing more
+/// that speaks against it, and a step of another kind.
+pub fn doubtful_step(random: &mut Random, problem: &Problem, state: &State) -> Step {
+    let n = problem.sizes().len();
+    let with_two: Vec<usize> = state.active().iter().copied().filter(|&i| state.live(i).len() > 1).collect();
+    // Higher ones more often: the first items of `long_trace` are free, and no cover breaks at them.
+    let i = if with_two.is_empty() { random.below(n) } else { random.pick(&with_two).max(random.pick(&with_two)) };
+    let live = |random: &mut Random| match state.live(i) {
+        [] => random.below(4),
+        live => random.pick(live),
+    };
+    let (b, mut a) = (live(random), live(random));
+    // Two different ones, where the item has them.
+    for _ in 0..8 {
+        a = if a == b { live(random) } else { a };
+    }
+    // The first ones more often: those that the sheet lists.
+    let early = |random: &mut Random, list: Vec<usize>| list[random.below(list.len()).min(random.below(list.len()))];
+    match random.below(12) {
+        0..=4 => Step::Neighbourhood { i, b, a },
+        5 => Step::Neighbourhood { i, b, a: b },
+        6 => {
+            let out = (0..n).filter(|&i| !state.is_active(i)).chain([n, 31, 32, 33, 64 + i, 128 + i, 255]).collect();
+            Step::Neighbourhood { i: early(random, out), b, a }
+        }
+        7 => {
+            let off = (0..=MAX_SETTINGS).filter(|&c| !state.is_live(i, c)).chain([32 + b, 64 + a, 255]).collect();
+            let off = early(random, off);
+            let (b, a) = if random.chance(50) { (off, a) } else { (b, off) };
+            Step::Neighbourhood { i, b, a }
+        }
+        8 => Step::Unsupported { i, b, k: random.below(n) },
+        9 => Step::Snake { i, v: a },
+        10 => Step::Triangle { i, j: random.below(n) },
+        _ => Step::SnakeSubstitution { i, b, a },
+    }
+}
+
 /// A trace with a fault in its records or its bytes, or in both: whether it shows is for the reader to say.
 pub fn damaged_trace(random: &mut Random, steps: &[Step]) -> Vec<u8> {
     let mut records: Vec<Vec<u8>> = steps.iter().map(|step| step.record()).collect();

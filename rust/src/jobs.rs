@@ -2,7 +2,8 @@
 
 use std::fmt;
 
-use crate::{boundary, HandState, Refusal, State};
+use crate::boundary::{self, PutBackFault};
+use crate::{HandState, PutBackRefusal, Refusal, State, Unlawful};
 
 /// What reading a sheet that keeps the layout answers.
 ///
@@ -202,7 +203,7 @@ pub fn hand_call(sheet: &[u8], state: &mut HandState, item: u64) -> Result<Taken
 }
 
 /// Puts the items that a trace took out back: from a plan for the items left, the plan of the full sheet. Refused: 1 to 9, then 18, 20, 15,
-/// then 16 and 17 record by record, then 19.
+/// then 16 and 17 record by record, then 19. 17 carries which record it is and, where a cover breaks, what spoils it ([`Unlawful`]).
 ///
 /// Any lawful trace is accepted, whoever wrote it. The plan has a byte for each item, [`OUT`](crate::OUT) for one that is out; the result
 /// has as many, and a refused call leaves it as it was. The call keeps a state for each record on the stack, for which
@@ -218,12 +219,18 @@ pub fn hand_call(sheet: &[u8], state: &mut HandState, item: u64) -> Result<Taken
 /// put_back(&sheet, &trace, &[OUT, OUT], &mut plan)?;
 /// assert_eq!(plan, [0, 1]);
 ///
-/// assert_eq!(put_back(&sheet, &trace, &[OUT, 0], &mut plan), Err(Refusal::PlanUnfit));
+/// let refused = put_back(&sheet, &trace, &[OUT, 0], &mut plan).unwrap_err();
+/// assert_eq!((refused.refusal, refused.unlawful), (Refusal::PlanUnfit, None));
 /// assert_eq!(plan, [0, 1]);
 /// # Ok::<(), Refusal>(())
 /// ```
-pub fn put_back(sheet: &[u8], trace: &[u8], plan: &[u8], result: &mut [u8]) -> Result<(), Refusal> {
-    boundary::put_back(sheet, trace, plan, result).map_err(refusal)
+pub fn put_back(sheet: &[u8], trace: &[u8], plan: &[u8], result: &mut [u8]) -> Result<(), PutBackRefusal> {
+    boundary::put_back(sheet, trace, plan, result).map_err(|fault| match fault {
+        PutBackFault::Number(number) => PutBackRefusal { refusal: refusal(number), unlawful: None },
+        PutBackFault::Unlawful { record, item, setting } => {
+            PutBackRefusal { refusal: Refusal::RecordUnlawful, unlawful: Some(Unlawful { record, item, setting }) }
+        }
+    })
 }
 
 /// What a job that writes a sheet answers.

@@ -13,8 +13,10 @@
 //! | [`put_back`]: from a trace and a plan for the items left, the plan of the full sheet | 1 to 9, 18, 20, 15, 16, 17, 19 |
 //! | [`colour`]: from a graph colouring file and a channel count, the sheet of its proper colourings | 21, 22, 23, 24, 25 |
 //!
-//! Each answers a `Result`, and a refused call changes no byte that was lent to it. The library allocates nothing, keeps nothing between
-//! calls and may be called from several threads. [`records`] takes a trace apart and [`trace_of`] writes one; these two are plain Rust.
+//! Each answers a `Result`, and a refused call changes no byte that was lent to it. The error is a [`Refusal`], and of putting back a
+//! [`PutBackRefusal`], in which 17 tells the record and, where a cover breaks, what spoils it. The library allocates nothing, keeps nothing
+//! between calls and may be called from several threads. [`records`] takes a trace apart and [`trace_of`] writes one; these two are plain
+//! Rust.
 //!
 //! Here two items of two settings each are unequal: the run takes out both, and nothing is left to plan.
 //!
@@ -113,7 +115,7 @@ mod trace;
 mod readme {}
 
 pub use jobs::{colour, hand_call, put_back, read, run, start, Accepted, End, Run, Taken, Written};
-pub use refusal::Refusal;
+pub use refusal::{PutBackRefusal, Refusal, Unlawful};
 pub use state::{HandState, State};
 pub use trace::{records, trace_of, Record, Records};
 
@@ -205,6 +207,17 @@ pub const HAND_STATE_LENGTH: usize = 68;
 /// # Ok::<(), zomuwedli::Refusal>(())
 /// ```
 pub const OUT: u8 = 255;
+
+/// The item and the setting of [`Unlawful`] where none is named.
+///
+/// ```
+/// use zomuwedli::{put_back, Unlawful, NOT_NAMED, OUT};
+///
+/// // A sheet of one item. The second record takes it out again.
+/// let refused = put_back(&[1, 0, 0, 0, 9, 1, 0, 0, 2], &[1, 3, 2, 0, 1, 3, 2, 0, 1], &[OUT], &mut [0]).unwrap_err();
+/// assert_eq!(refused.unlawful, Some(Unlawful { record: 1, item: NOT_NAMED, setting: NOT_NAMED }));
+/// ```
+pub const NOT_NAMED: u8 = 255;
 
 /// The stack that is enough for any call but putting back, in bytes.
 ///

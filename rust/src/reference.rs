@@ -3,11 +3,12 @@
 //! library: tests/support has it.
 //!
 //! Its words and ours ("Terms" there): item, setting = variable, value; in, on = active, live; partner = support; plan = solution;
-//! covers = substitutes; bare, snake, fold, cover, slide = unsupported, snake, triangle, neighbourhood, snake substitution.
+//! covers = has no spoiler; bare, snake, fold, cover, slide = unsupported, snake, triangle, neighbourhood, snake substitution.
 
 use std::collections::BTreeSet;
 
-use zomuwedli::{Accepted, End, Refusal, Taken, Written, HAND_STATE_LENGTH, MAX_FILE, MAX_ITEMS, MAX_SETTINGS, OUT, STATE_LENGTH};
+use zomuwedli::{Accepted, End, Refusal, Taken, Unlawful, Written};
+use zomuwedli::{HAND_STATE_LENGTH, MAX_FILE, MAX_ITEMS, MAX_SETTINGS, NOT_NAMED, OUT, STATE_LENGTH};
 
 use super::{Answer, Done, Fault};
 
@@ -192,20 +193,22 @@ impl State {
 // ---- The five rules -----------------------------------------------------------------------------------------------------------------
 
 impl Problem {
-    /// "Setting a covers b at item l when every setting on at l that is allowed with b is allowed with a."
-    /// Here a is a value of i and b one of j: the same variable, but in the fold.
-    fn substitutes(&self, state: &State, (i, a): (usize, usize), (j, b): (usize, usize), l: usize) -> bool {
-        state.live(l).iter().all(|&x| !self.allowed(j, b, l, x) || self.allowed(i, a, l, x))
+    /// "A setting spoils the cover at l when it is on at l, allowed with b and barred with a; the cover test answers the lowest setting at
+    /// l that spoils it, or that there is none." Here a is a value of i and b one of j: the same variable, but in the fold.
+    fn spoiler(&self, state: &State, (i, a): (usize, usize), (j, b): (usize, usize), l: usize) -> Option<usize> {
+        state.live(l).iter().copied().find(|&x| self.allowed(j, b, l, x) && !self.allowed(i, a, l, x))
     }
 
-    /// a covers b "at every item other than" the two named.
-    fn substitutes_apart(&self, state: &State, a: (usize, usize), b: (usize, usize), apart: [usize; 2]) -> bool {
-        state.active().iter().filter(|l| !apart.contains(l)).all(|&l| self.substitutes(state, a, b, l))
+    /// The lowest variable other than the two named where the cover breaks, and the lowest value that spoils it there; or nothing, where a
+    /// covers b "at every item other than" these.
+    fn breach(&self, state: &State, a: (usize, usize), b: (usize, usize), apart: [usize; 2]) -> Option<(usize, usize)> {
+        let mut thirds = state.active().iter().copied().filter(|l| !apart.contains(l));
+        thirds.find_map(|l| Some((l, self.spoiler(state, a, b, l)?)))
     }
 
-    /// Value a of variable i covers b there at every other variable.
-    fn substitutes_everywhere(&self, state: &State, i: usize, a: usize, b: usize) -> bool {
-        self.substitutes_apart(state, (i, a), (i, b), [i, i])
+    /// The same for two values of one variable, at every other one.
+    fn breach_of_two(&self, state: &State, i: usize, a: usize, b: usize) -> Option<(usize, usize)> {
+        self.breach(state, (i, a), (i, b), [i, i])
     }
 
     /// "A partner of a setting at another item is a setting on there and allowed with it."
@@ -227,7 +230,7 @@ impl Problem {
 
     /// The lowest w': "some w' on at j is allowed with v and covers w at every item other than i and j".
     fn replacement(&self, state: &State, (i, v): (usize, usize), (j, w): (usize, usize)) -> Option<usize> {
-        let serves = |new: &usize| self.allowed(i, v, j, *new) && self.substitutes_apart(state, (j, *new), (j, w), [i, j]);
+        let serves = |new: &usize| self.allowed(i, v, j, *new) && self.breach(state, (j, *new), (j, w), [i, j]).is_none();
         state.live(j).iter().copied().find(serves)
     }
 
@@ -240,27 +243,32 @@ impl Problem {
     /// The lowest u: "some u on at i is allowed with v, and covers v at every item other than i and j (every setting there allowed with v
     /// is allowed with u)".
     fn stand_in(&self, state: &State, i: usize, (j, v): (usize, usize)) -> Option<usize> {
-        let serves = |u: &usize| self.allowed(i, *u, j, v) && self.substitutes_apart(state, (i, *u), (j, v), [i, j]);
+        let serves = |u: &usize| self.allowed(i, *u, j, v) && self.breach(state, (i, *u), (j, v), [i, j]).is_none();
         state.live(i).iter().copied().find(serves)
     }
 
     /// cover: "a and b are different and on at i; a covers b at every other item".
     pub fn neighbourhood(&self, state: &State, i: usize, b: usize, a: usize) -> bool {
-        a != b && state.is_live(i, a) && state.is_live(i, b) && self.substitutes_everywhere(state, i, a, b)
+        two_live(state, i, b, a) && self.breach_of_two(state, i, a, b).is_none()
     }
 
     /// slide: "a and b are different and on at i; for each other item k and each d on at k allowed with b, some e ..."
     pub fn snake_substitution(&self, state: &State, i: usize, b: usize, a: usize) -> bool {
         let follows = |k: usize| state.live(k).iter().all(|&d| !self.allowed(i, b, k, d) || self.slides(state, (i, a), (k, d)));
-        a != b && state.is_live(i, a) && state.is_live(i, b) && state.others(i).all(follows)
+        two_live(state, i, b, a) && state.others(i).all(follows)
     }
 
     /// "Some e on at k is allowed with a and covers d at every item other than k." "The slide rule here includes i among the items where e
     /// covers d." A setting covers itself, so d is the first to be tried.
     fn slides(&self, state: &State, (i, a): (usize, usize), (k, d): (usize, usize)) -> bool {
-        let serves = |&e: &usize| self.allowed(i, a, k, e) && self.substitutes_everywhere(state, k, e, d);
+        let serves = |&e: &usize| self.allowed(i, a, k, e) && self.breach_of_two(state, k, e, d).is_none();
         self.allowed(i, a, k, d) || state.live(k).iter().any(serves)
     }
+}
+
+/// "a and b are different and on at i."
+fn two_live(state: &State, i: usize, b: usize, a: usize) -> bool {
+    a != b && state.is_live(i, a) && state.is_live(i, b)
 }
 
 // ---- Steps --------------------------------------------------------------------------------------------------------------------------
@@ -485,7 +493,7 @@ pub fn hand_call(sheet: &[u8], state: &mut [u8], item: u64) -> Answer<Taken> {
     if !fits(&problem, &before) {
         return Err(Refusal::StateMisfit.into());
     }
-    let i = named(&before, item).ok_or(Refusal::ItemNotIn)?;
+    let i = item_in(&before, item).ok_or(Refusal::ItemNotIn)?;
     if before.emptied() {
         return Err(Refusal::ItemEmpty.into());
     }
@@ -504,7 +512,7 @@ fn fits(problem: &Problem, state: &State) -> bool {
 }
 
 /// The item that a hand call names, if it is in. "Named item not below n or not in"; items in are below n where the state fits.
-fn named(state: &State, item: u64) -> Option<usize> {
+fn item_in(state: &State, item: u64) -> Option<usize> {
     state.active.iter().copied().find(|&i| i as u64 == item)
 }
 
@@ -547,9 +555,9 @@ pub fn steps_of(trace: &[u8]) -> Result<Vec<Step>, Refusal> {
 
 /// The steps of a trace, each with the state before it, and the last state. "No byte, or byte 0 is not 1"; then each record in turn:
 /// its shape, and then "not lawful in the state reached, or an item in has no setting on".
-pub fn replay(problem: &Problem, trace: &[u8]) -> Result<(Vec<(State, Step)>, State), Refusal> {
+pub fn replay(problem: &Problem, trace: &[u8]) -> Answer<(Vec<(State, Step)>, State)> {
     let [1, records @ ..] = trace else {
-        return Err(Refusal::TraceFront);
+        return Err(Refusal::TraceFront.into());
     };
     let mut rest = records;
     let mut state = State::full(problem);
@@ -557,13 +565,26 @@ pub fn replay(problem: &Problem, trace: &[u8]) -> Result<(Vec<(State, Step)>, St
     while !rest.is_empty() {
         let (step, after) = Step::read(rest)?;
         if state.emptied() || !problem.lawful(&state, step) {
-            return Err(Refusal::RecordUnlawful);
+            let (item, setting) = named(problem, &state, step);
+            return Err(Unlawful { record: steps.len() as u16, item, setting }.into());
         }
         let next = problem.perform(&state, step);
         steps.push((std::mem::replace(&mut state, next), step));
         rest = after;
     }
     Ok((steps, state))
+}
+
+/// What 17 names of an unlawful record: "for a kind 4 record with i in, a and b different and on, and no item in left without a setting,
+/// the lowest item where the cover breaks and the lowest setting that spoils it there; for every other cause both are 255".
+fn named(problem: &Problem, state: &State, step: Step) -> (u8, u8) {
+    match step {
+        Step::Neighbourhood { i, b, a } if two_live(state, i, b, a) && !state.emptied() => {
+            let (item, setting) = problem.breach_of_two(state, i, a, b).expect("nothing else speaks against the record");
+            (item as u8, setting as u8)
+        }
+        _ => (NOT_NAMED, NOT_NAMED),
+    }
 }
 
 // ---- The colouring file -------------------------------------------------------------------------------------------------------------

@@ -2,6 +2,8 @@
 
 use std::fmt;
 
+use crate::NOT_NAMED;
+
 /// Why a call was turned away: one case for each number of docs/FORMAT.md, "Where each thing is turned away".
 ///
 /// A call is refused for its first fault, and a refused call changes no byte that was lent to it. The boundary's own numbers, 200 and 201,
@@ -183,3 +185,118 @@ impl fmt::Display for Refusal {
 }
 
 impl std::error::Error for Refusal {}
+
+/// What 17 carries: which record of a lent trace is not lawful and, where a cover breaks, what spoils it.
+///
+/// Item and setting are named for a cover, kind 4, whose item is in, whose settings a and b are different and on, and where no item in is
+/// without a setting on: `item` is the lowest other item where a does not cover b, and `setting` the lowest setting on there that is
+/// allowed with b and barred with a. With every other cause both are [`NOT_NAMED`]. To mend such a trace, switch that setting off first,
+/// or name another a.
+///
+/// ```
+/// use zomuwedli::{put_back, trace_of, Record, Unlawful, OUT};
+///
+/// // A pond gate (half, full), a tail gate (hours 0 and 1) and a sluice (shut, a quarter, half, wide open). With the pond gate full the
+/// // tail gate opens at hour 0, and the sluice is not wide open.
+/// let sheet = [1, 0, 0, 0, 23, 3, 0, 2, 2, 2, 4, 0, 1, 0, 3, 0, 1, 0, 2, 0, 15, 0, 7];
+/// let tail_gate_out = Record::Snake { item: 1, setting: 0 };
+/// let half_off = Record::Cover { item: 0, setting: 0, by: 1 };
+/// let mut result = [0; 3];
+///
+/// let refused = put_back(&sheet, &trace_of([tail_gate_out, half_off]), &[1, OUT, 2], &mut result).unwrap_err();
+/// assert_eq!(refused.unlawful, Some(Unlawful { record: 1, item: 2, setting: 3 }));
+///
+/// // Wide open goes off first: the sluice's half covers it.
+/// let wide_open_off = Record::Cover { item: 2, setting: 3, by: 2 };
+/// put_back(&sheet, &trace_of([tail_gate_out, wide_open_off, half_off]), &[1, OUT, 2], &mut result)?;
+/// assert_eq!(result, [1, 0, 2]);
+/// # Ok::<(), zomuwedli::Refusal>(())
+/// ```
+#[must_use]
+#[derive(Clone, Copy, PartialEq, Eq, Hash, Debug)]
+pub struct Unlawful {
+    /// The record's number, from 0: how many lawful records stand before it, at most [`MAX_RECORDS`](crate::MAX_RECORDS).
+    pub record: u16,
+    /// The lowest item where the cover breaks, or [`NOT_NAMED`].
+    pub item: u8,
+    /// The lowest setting that spoils the cover there, or [`NOT_NAMED`].
+    pub setting: u8,
+}
+
+impl Unlawful {
+    /// The item where the cover breaks and the setting that spoils it, where they are named.
+    ///
+    /// ```
+    /// use zomuwedli::{Unlawful, NOT_NAMED};
+    ///
+    /// assert_eq!(Unlawful { record: 1, item: 2, setting: 3 }.spoiler(), Some((2, 3)));
+    /// assert_eq!(Unlawful { record: 1, item: NOT_NAMED, setting: NOT_NAMED }.spoiler(), None);
+    /// ```
+    #[must_use]
+    pub fn spoiler(self) -> Option<(u8, u8)> {
+        (self.item != NOT_NAMED).then_some((self.item, self.setting))
+    }
+}
+
+/// Why a putting back was turned away: the refusal and, with 17, what it carries.
+///
+/// It is a [`Refusal`] where that is asked for, so that `?` goes on:
+///
+/// ```
+/// use zomuwedli::{put_back, Refusal};
+///
+/// fn put(trace: &[u8]) -> Result<(), Refusal> {
+///     // Sheet B: two items of two settings, unequal.
+///     put_back(&[1, 0, 0, 0, 16, 2, 0, 1, 2, 2, 0, 1, 0, 2, 0, 1], trace, &[0, 1], &mut [0; 2])?;
+///     Ok(())
+/// }
+///
+/// assert_eq!(put(&[1]), Ok(()));
+/// assert_eq!(put(&[]), Err(Refusal::TraceFront));
+/// // A cover of setting 0 of item 0 by setting 1: setting 1 of item 1 is allowed with 0 and barred with 1.
+/// assert_eq!(put(&[1, 4, 4, 0, 0, 1]), Err(Refusal::RecordUnlawful));
+/// ```
+///
+/// As an error it says what it carries:
+///
+/// ```
+/// use zomuwedli::{put_back, Refusal};
+///
+/// let sheet = [1, 0, 0, 0, 16, 2, 0, 1, 2, 2, 0, 1, 0, 2, 0, 1];
+/// let refused = put_back(&sheet, &[1, 4, 4, 0, 0, 1], &[0, 1], &mut [0; 2]).unwrap_err();
+/// assert_eq!(refused.refusal, Refusal::RecordUnlawful);
+/// assert_eq!(
+///     refused.to_string(),
+///     "refused 17: a record is not lawful in the state reached, or an item in has no setting on there; \
+///      it is record 0, and at item 1 setting 1 spoils the cover"
+/// );
+/// ```
+#[must_use]
+#[derive(Clone, Copy, PartialEq, Eq, Hash, Debug)]
+pub struct PutBackRefusal {
+    /// The refusal.
+    pub refusal: Refusal,
+    /// What 17 carries: there exactly with [`Refusal::RecordUnlawful`].
+    pub unlawful: Option<Unlawful>,
+}
+
+impl From<PutBackRefusal> for Refusal {
+    fn from(refused: PutBackRefusal) -> Refusal {
+        refused.refusal
+    }
+}
+
+/// As a [`Refusal`] is shown, and with 17 also the record, and the item and setting where they are named.
+impl fmt::Display for PutBackRefusal {
+    fn fmt(&self, f: &mut fmt::Formatter<'_>) -> fmt::Result {
+        self.refusal.fmt(f)?;
+        let Some(unlawful) = self.unlawful else { return Ok(()) };
+        write!(f, "; it is record {}", unlawful.record)?;
+        match unlawful.spoiler() {
+            Some((item, setting)) => write!(f, ", and at item {item} setting {setting} spoils the cover"),
+            None => Ok(()),
+        }
+    }
+}
+
+impl std::error::Error for PutBackRefusal {}

@@ -8,10 +8,12 @@ use std::collections::BTreeSet;
 use std::fs;
 use std::path::Path;
 
+use support::boundary::{put_back_taken, PutBackFault};
 use support::decoder::{decode, reference_decode};
 use support::generate::{self, Random};
 use support::{reference, Fault};
-use zomuwedli::{End, HandState, Record, Refusal, State, HAND_STATE_LENGTH, MAX_ITEMS, MAX_SETTINGS, STATE_LENGTH};
+use zomuwedli::{End, HandState, PutBackRefusal, Record, Refusal, State, Unlawful};
+use zomuwedli::{HAND_STATE_LENGTH, MAX_ITEMS, MAX_SETTINGS, NOT_NAMED, STATE_LENGTH};
 
 const SEED: u64 = 90_125;
 
@@ -34,6 +36,53 @@ fn each_refusal_says_its_number_and_a_cause_of_its_own() {
         let error: Box<dyn std::error::Error> = Box::new(*refusal);
         assert_eq!(error.to_string(), format!("refused {number}: {}", refusal.cause()));
         assert!(refusal.cause().len() > 10);
+    }
+}
+
+/// As the refusal, but for 17, which says the record, and the item and setting where they are named. It turns into the refusal.
+#[test]
+fn a_refused_putting_back_says_what_17_carries() {
+    for &refusal in Refusal::ALL.iter().filter(|&&refusal| refusal != Refusal::RecordUnlawful) {
+        let refused = PutBackRefusal { refusal, unlawful: None };
+        assert_eq!((refused.to_string(), Refusal::from(refused)), (refusal.to_string(), refusal));
+    }
+    let front = Refusal::RecordUnlawful.to_string();
+    let cases = [
+        (512, NOT_NAMED, NOT_NAMED, "; it is record 512"),
+        (0, 0, 0, "; it is record 0, and at item 0 setting 0 spoils the cover"),
+        (509, 31, 15, "; it is record 509, and at item 31 setting 15 spoils the cover"),
+    ];
+    for (record, item, setting, rest) in cases {
+        let unlawful = Unlawful { record, item, setting };
+        let refused = PutBackRefusal { refusal: Refusal::RecordUnlawful, unlawful: Some(unlawful) };
+        let error: Box<dyn std::error::Error> = Box::new(refused);
+        assert_eq!(error.to_string(), format!("{front}{rest}"));
+        assert_eq!(Refusal::from(refused), Refusal::RecordUnlawful);
+        assert_eq!(unlawful.spoiler(), (item != NOT_NAMED).then_some((item, setting)));
+    }
+}
+
+/// Each number by itself, 17 with each of its fields; and a word that putting back cannot answer is not guessed at.
+#[test]
+fn the_word_of_putting_back_is_taken_apart() {
+    assert_eq!(put_back_taken(0), Ok(()));
+    for number in (1..=255).filter(|&number| number != 17) {
+        assert_eq!(put_back_taken(number.into()), Err(PutBackFault::Number(number)));
+    }
+    let unlawful = |record, item, setting| Err(PutBackFault::Unlawful { record, item, setting });
+    assert_eq!(put_back_taken(0x0000_0003_0200_0111), unlawful(1, 2, 3));
+    assert_eq!(put_back_taken(0x0000_00ff_ff00_0011), unlawful(0, NOT_NAMED, NOT_NAMED));
+    assert_eq!(put_back_taken(0x0000_00ff_ff02_0011), unlawful(512, NOT_NAMED, NOT_NAMED));
+    for bit in 8..64 {
+        let answer = |number: u64| std::panic::catch_unwind(|| put_back_taken(number | 1 << bit)).ok();
+        [0, 16, 18, 19, 201].iter().for_each(|&number| assert_eq!(answer(number), None, "{number} with bit {bit}"));
+        let expected = match bit {
+            8..=23 => Some(unlawful(1 << (bit - 8), 0, 0)),
+            24..=31 => Some(unlawful(0, 1 << (bit - 24), 0)),
+            32..=39 => Some(unlawful(0, 0, 1 << (bit - 32))),
+            _ => None,
+        };
+        assert_eq!(answer(17), expected, "17 with bit {bit}");
     }
 }
 
@@ -178,6 +227,7 @@ fn constants_are_those_of_the_header() {
     assert_eq!(STATE_LENGTH, number("STATE_LENGTH"));
     assert_eq!(HAND_STATE_LENGTH, number("HAND_STATE_LENGTH"));
     assert_eq!(usize::from(zomuwedli::OUT), number("OUT"));
+    assert_eq!(usize::from(NOT_NAMED), number("NOT_NAMED"));
     assert_eq!(zomuwedli::STACK, number("STACK"));
     assert_eq!(zomuwedli::PUT_BACK_STACK, number("PUT_BACK_STACK"));
     assert_eq!(End::Impossible as usize, number("IMPOSSIBLE"));

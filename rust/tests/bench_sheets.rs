@@ -1,11 +1,16 @@
-//! The bench sheets of docs/FORMAT.md, "Bench sheets", by both layers of the proved library (support/proved.rs), with their bytes and what
-//! is expected written out.
+//! The bench sheets of docs/FORMAT.md, "Bench sheets", and the step lists of "Putting back", by both layers of the proved library
+//! (support/proved.rs), with their bytes and what is expected written out. And the cases of putting back in crates/bench_sheets, which
+//! tests/bench_cases.py answers, by the three implementations.
 
 mod support;
 
+use std::fs;
+use std::path::Path;
+
+use support::fast::Workspace;
 use support::proved::{self, hand_call, put_back, read, run, start};
-use support::{Answer, Done, Fault};
-use zomuwedli::{Accepted, End, Refusal, State, Taken, HAND_STATE_LENGTH, STATE_LENGTH};
+use support::{reference, Answer, Done, Fault};
+use zomuwedli::{Accepted, End, Refusal, State, Taken, Unlawful, HAND_STATE_LENGTH, NOT_NAMED, STATE_LENGTH};
 
 const A: [u8; 9] = [1, 0, 0, 0, 9, 1, 0, 0, 2];
 const B: [u8; 16] = [1, 0, 0, 0, 16, 2, 0, 1, 2, 2, 0, 1, 0, 2, 0, 1];
@@ -56,6 +61,11 @@ fn untouched(buffer: &[u8]) -> bool {
 
 fn refuses<T>(refusal: Refusal) -> Answer<T> {
     Err(Fault::Refused(refusal))
+}
+
+/// 17, with what it carries.
+fn unlawful<T>(record: u16, item: u8, setting: u8) -> Answer<T> {
+    Err(Fault::Unlawful(Unlawful { record, item, setting }))
 }
 
 /// Runs a sheet in a buffer that is three bytes longer than asked for, and answers the end, the last state and the whole buffer.
@@ -128,6 +138,15 @@ fn b_two_unequal_items() {
     assert_eq!(plan, [0, 1]);
 }
 
+/// A slide that only the wider rule allows names nothing; the cover of the same settings does.
+#[test]
+fn b_slide() {
+    let mut plan = [OLD; 2];
+    assert_eq!(put_back(&B, &[1, 4, 5, 0, 0, 1], &[1, 1], &mut plan), unlawful(0, NOT_NAMED, NOT_NAMED));
+    assert_eq!(put_back(&B, &[1, 4, 4, 0, 0, 1], &[1, 1], &mut plan), unlawful(0, 1, 1));
+    assert!(untouched(&plan));
+}
+
 #[test]
 fn b_buffers() {
     let (mut exact, mut short) = ([OLD; 21], [OLD; 20]);
@@ -185,7 +204,7 @@ fn f_setting_0_does_not_serve() {
     assert_eq!(put_back(&F, &trace, &[255; 3], &mut plan), Ok(()));
     assert_eq!(plan, [1, 0, 0]);
     let other = [1, 3, 2, 0, 0];
-    assert_eq!(put_back(&F, &other, &[255, 0, 0], &mut plan), refuses(Refusal::RecordUnlawful));
+    assert_eq!(put_back(&F, &other, &[255, 0, 0], &mut plan), unlawful(0, NOT_NAMED, NOT_NAMED));
     assert_eq!(plan, [1, 0, 0]);
     let mut by_hand = started(&F);
     assert_eq!(hand_call(&F, &mut by_hand, 0), Ok(Taken { setting: 1 }));
@@ -213,6 +232,78 @@ fn j_barred_plan() {
     let mut result = [OLD; 3];
     assert_eq!(put_back(&C, &[1], &[0, 1, 0], &mut result), refuses(Refusal::PlanUnfit));
     assert!(untouched(&result));
+}
+
+/// "A step list that is refused, and mended": a pond gate, a tail gate and a sluice.
+#[test]
+fn a_step_list_mended() {
+    #[rustfmt::skip]
+    let gates = [
+        1, 0, 0, 0, 23, 3, 0, 2, 2, 2, 4,
+        0, 1, 0, 3, 0, 1,
+        0, 2, 0, 15, 0, 7,
+    ];
+    let (snake, cover, first) = ([3, 2, 1, 0], [4, 4, 0, 0, 1], [4, 4, 2, 3, 2]);
+    let (left, mut plan) = ([1, 255, 2], [OLD; 3]);
+    assert_eq!(put_back(&gates, &[&[1][..], &snake, &cover].concat(), &left, &mut plan), unlawful(1, 2, 3));
+    assert_eq!(put_back(&gates, &[&[1][..], &cover, &snake].concat(), &left, &mut plan), unlawful(0, 1, 1));
+    assert!(untouched(&plan));
+    assert_eq!(put_back(&gates, &[&[1][..], &snake, &first, &cover].concat(), &left, &mut plan), Ok(()));
+    assert_eq!(plan, [1, 0, 2]);
+}
+
+// ---- The cases of crates/bench_sheets -----------------------------------------------------------------------------------------------
+
+/// What a line of putting back lends: sheet, trace, plan and the result's buffer.
+type Lent = [Vec<u8>; 4];
+
+/// The lines of putting back, each with its name and its answer.
+fn bench_cases() -> Vec<(String, Lent, String)> {
+    let folder = Path::new(env!("CARGO_MANIFEST_DIR")).join("../crates/bench_sheets");
+    let [cases, answers] = ["stdin", "stdout"].map(|name| fs::read_to_string(folder.join(name)).expect("a file of the bench cases"));
+    let (names, lines): (Vec<&str>, Vec<&str>) = cases.lines().partition(|line| line.starts_with('#'));
+    assert_eq!((names.len(), lines.len()), (lines.len(), answers.lines().count()));
+    let bytes = |digits: &str| (0..digits.len()).step_by(2).map(|k| u8::from_str_radix(&digits[k..k + 2], 16).expect("digits")).collect();
+    let lent = |line: &str| line.strip_prefix("back ").map(|fields| fields.split(' ').map(bytes).collect::<Vec<_>>());
+    let all = names.iter().zip(lines).zip(answers.lines());
+    let backs = all.filter_map(|((name, line), answer)| Some((name.to_string(), lent(line)?, answer.to_string())));
+    backs.map(|(name, lent, answer)| (name, lent.try_into().expect("four fields"), answer)).collect()
+}
+
+/// An answer as its line in the file.
+fn line(answer: Answer<()>, result: &[u8]) -> String {
+    let result: String = result.iter().map(|byte| format!("{byte:02x}")).collect();
+    match answer {
+        Ok(()) => format!("done {result}"),
+        Err(Fault::Unlawful(Unlawful { record, item, setting })) => format!("refused 17 {record} {item} {setting} {result}"),
+        Err(fault) => format!("refused {} {result}", fault.number()),
+    }
+}
+
+/// Every case is answered as the file has it, by this implementation.
+fn answers(mut put_back: impl FnMut(&[u8], &[u8], &[u8], &mut [u8]) -> Answer<()>) {
+    let cases = bench_cases();
+    assert!(cases.len() >= 400, "only {} cases of putting back", cases.len());
+    for (name, [sheet, trace, plan, mut result], expected) in cases {
+        let answer = put_back(&sheet, &trace, &plan, &mut result);
+        assert_eq!(line(answer, &result), expected, "{name}");
+    }
+}
+
+#[test]
+fn the_reference_answers_the_bench_cases() {
+    answers(reference::put_back);
+}
+
+#[test]
+fn the_fast_implementation_answers_the_bench_cases() {
+    let mut workspace = Workspace::new();
+    answers(|sheet, trace, plan, result| workspace.put_back(sheet, trace, plan, result));
+}
+
+#[test]
+fn the_library_answers_the_bench_cases() {
+    answers(put_back);
 }
 
 #[test]

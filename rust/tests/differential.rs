@@ -13,7 +13,7 @@ use support::fast::{self, Workspace};
 use support::generate::{self, Random};
 use support::reference::{self, Problem, State, Step};
 use support::{proved, Answer, Done, Fault};
-use zomuwedli::{Accepted, End, Record, Refusal, Written, HAND_STATE_LENGTH, MAX_FILE, MAX_SHEET, OUT, STATE_LENGTH};
+use zomuwedli::{Accepted, End, Record, Refusal, Unlawful, Written, HAND_STATE_LENGTH, MAX_FILE, MAX_SHEET, OUT, STATE_LENGTH};
 
 const SEED: u64 = 20_260_917;
 
@@ -22,6 +22,8 @@ const SHEETS: u64 = 104_000;
 const LARGE_SHEETS: u64 = 200;
 const HAND_LISTS: u64 = 14_000;
 const TRACES: u64 = 12_000;
+const UNLAWFUL_TRACES: u64 = 6_000;
+const LONG_TRACES: u64 = 500;
 const FILES: u64 = 60_000;
 const LONG_FILES: u64 = 200;
 
@@ -33,11 +35,30 @@ const LEAST_FULLEST: u64 = 50;
 const LEAST_LONG: u64 = 10;
 const LEAST_FILES: u64 = 50_000;
 const LEAST_OF_EACH_FILE: u64 = 500;
+const LEAST_OF_EACH_CAUSE: u64 = 500;
 
 const JOBS: [&str; 6] = ["read", "run", "start", "hand call", "put back", "colour"];
 /// The job that is lent no sheet but a colouring file.
 const COLOUR: usize = 5;
 const KINDS: [&str; 5] = ["bare", "snake", "fold", "cover", "slide"];
+
+/// The one cause of 17 that names an item and a setting.
+const BREAKS: &str = "a cover that breaks";
+
+/// Why a record is refused with 17. Each but the last two is counted where it alone speaks against the record.
+const CAUSES: [&str; 11] = [
+    BREAKS,
+    "a cover, a = b",
+    "a cover, i out or not below n",
+    "a cover, a or b off",
+    "a cover that breaks, an item emptied",
+    "bare",
+    "snake",
+    "fold",
+    "slide",
+    "a cover that holds, an item emptied",
+    "several",
+];
 
 const EVERY_JOB: [usize; 6] = [0, 1, 2, 3, 4, COLOUR];
 
@@ -50,6 +71,8 @@ fn main() {
     let mut comparison = Comparison::new(seed);
     comparison.part("hand calls", HAND_LISTS / divisor, hand_case);
     comparison.part("putting back", TRACES / divisor, trace_case);
+    comparison.part("unlawful records", UNLAWFUL_TRACES / divisor, unlawful_case);
+    comparison.part("unlawful records far on", LONG_TRACES / divisor, far_unlawful_case);
     comparison.part("sheets", SHEETS / divisor, sheet_case);
     comparison.part("large sheets", LARGE_SHEETS / divisor, large_case);
     comparison.part("large sheets put back", LARGE_SHEETS / 4 / divisor, large_trace_case);
@@ -87,6 +110,12 @@ struct Counts {
     /// Runs whose number of steps is more than a byte holds.
     long_runs: u64,
     lent_records: [u64; 6],
+    /// Records refused with 17, by CAUSES; those after a lawful one, and those whose number is more than a byte holds, the latter also
+    /// where they name an item and a setting.
+    unlawful: BTreeMap<&'static str, u64>,
+    unlawful_later: u64,
+    unlawful_far_on: u64,
+    named_far_on: u64,
     slides_not_covers: u64,
     /// Steps that took an item out and switched off settings elsewhere: in accepted lent traces, and by hand.
     lent_partners_lost: u64,
@@ -124,6 +153,10 @@ impl Counts {
         *self.answers.get(&(job, number)).unwrap_or(&0)
     }
 
+    fn of_causes(&self) -> [(&'static str, u64); CAUSES.len()] {
+        CAUSES.map(|cause| (cause, *self.unlawful.get(cause).unwrap_or(&0)))
+    }
+
     fn of_decoding(&self, number: u8) -> u64 {
         *self.decoded.get(&number).unwrap_or(&0)
     }
@@ -148,6 +181,11 @@ impl Counts {
         println!("steps of runs: {}; runs of more than 255: {}", by_kind(&self.run_steps), self.long_runs);
         println!("records of accepted lent traces: {}", by_kind(&self.lent_records));
         println!("slides among them that are no covers: {}", self.slides_not_covers);
+        println!("records refused with 17: {}", self.of_causes().map(|(cause, count)| format!("{cause} {count}")).join("; "));
+        println!(
+            "among them after a lawful record: {}; of a number over 255: {}, {} of these naming a setting",
+            self.unlawful_later, self.unlawful_far_on, self.named_far_on
+        );
         println!(
             "items taken out that cost another item a setting: {} in lent traces, {} by hand",
             self.lent_partners_lost, self.hand_partners_lost
@@ -173,7 +211,11 @@ impl Counts {
         let steps = [1, 2, 3, 4].map(|kind| (format!("steps of runs of kind {kind}"), self.run_steps[kind], LEAST_OF_EACH));
         let records = [1, 2, 3, 4, 5].map(|kind| (format!("lent records of kind {kind}"), self.lent_records[kind], LEAST_OF_EACH));
         let decoded = [0, 15, 16].map(|number| (format!("traces taken apart, {number}"), self.of_decoding(number), LEAST_OF_EACH));
+        let causes = self.of_causes().map(|(cause, count)| (format!("17: {cause}"), count, LEAST_OF_EACH_CAUSE));
         let others = [
+            ("17 after a lawful record".to_string(), self.unlawful_later, LEAST_OF_EACH_CAUSE),
+            ("17 of a record over 255".to_string(), self.unlawful_far_on, LEAST_OF_EACH_CAUSE),
+            ("17 of a record over 255 that names a setting".to_string(), self.named_far_on, LEAST_OF_EACH),
             ("sheets".to_string(), self.sheets, LEAST_SHEETS),
             ("runs of more than 255 steps".to_string(), self.long_runs, LEAST_LONG),
             ("slides that are no covers".to_string(), self.slides_not_covers, LEAST_OF_EACH),
@@ -187,7 +229,7 @@ impl Counts {
             ("longest sheets written".to_string(), self.longest_written, LEAST_LONG),
             ("blocks written that bar everything".to_string(), self.bars_everything, LEAST_OF_EACH),
         ];
-        let all = jobs.into_iter().chain(answers).chain(ends).chain(steps).chain(records).chain(decoded).chain(others);
+        let all = jobs.into_iter().chain(answers).chain(ends).chain(steps).chain(records).chain(decoded).chain(causes).chain(others);
         let scaled = all.map(|(name, count, least)| (name, count, least / divisor));
         scaled.filter(|(_, count, least)| count < least).map(|(name, count, least)| format!("{name}: {count}, least {least}")).collect()
     }
@@ -363,7 +405,7 @@ impl Comparison {
         after
     }
 
-    fn put_back(&mut self, sheet: &[u8], trace: &[u8], plan: &[u8], result_length: usize) -> Option<Lent> {
+    fn put_back(&mut self, sheet: &[u8], trace: &[u8], plan: &[u8], result_length: usize) -> Answer<Lent> {
         let (answer, mut written) = self.call(
             4,
             &[sheet, trace, plan],
@@ -389,7 +431,7 @@ impl Comparison {
             std::process::exit(1);
         }
         *self.counts.decoded.entry(decoded.map_or_else(Refusal::number, |_| 0)).or_default() += 1;
-        answer.ok().map(|()| written.remove(0))
+        answer.map(|()| written.remove(0))
     }
 
     /// The bytes written, or nothing where the file was refused, and the sheet buffer afterwards.
@@ -418,6 +460,16 @@ impl Comparison {
         self.counts.bars_everything += u64::from(blocks > 0 && sheet[8] == 1);
     }
 
+    /// Counts why a record was refused with 17; only a cover that breaks may name something, and it must.
+    fn count_unlawful(&mut self, problem: &Problem, trace: &[u8], unlawful: Unlawful) {
+        let cause = cause_of(problem, trace, unlawful.record);
+        assert_eq!(unlawful.spoiler().is_some(), cause == BREAKS, "{unlawful:?} for: {cause}");
+        *self.counts.unlawful.entry(cause).or_default() += 1;
+        self.counts.unlawful_later += u64::from(unlawful.record > 0);
+        self.counts.unlawful_far_on += u64::from(unlawful.record > 255);
+        self.counts.named_far_on += u64::from(unlawful.record > 255 && cause == BREAKS);
+    }
+
     /// Counts what an accepted lent trace holds.
     fn count_lent(&mut self, problem: &Problem, trace: &[u8], plan: &[u8], result: &[u8]) {
         let (steps, _) = reference::replay(problem, trace).expect("the trace was accepted");
@@ -430,6 +482,35 @@ impl Comparison {
         }
         let moved = plan.iter().zip(result).any(|(&left, &full)| left != OUT && left != full);
         self.counts.changed_when_undone += u64::from(moved);
+    }
+}
+
+/// Which of CAUSES it is that this record gets 17, those before it being lawful: by what it says, and not by what was answered.
+fn cause_of(problem: &Problem, trace: &[u8], record: u16) -> &'static str {
+    let (mut state, mut rest) = (State::full(problem), &trace[1..]);
+    for _ in 0..record {
+        let (step, after) = Step::read(rest).expect("a lawful record");
+        state = problem.perform(&state, step);
+        rest = after;
+    }
+    let (step, _) = Step::read(rest).expect("a whole record");
+    match step {
+        // Whether the rule holds does not ask for items that are emptied.
+        Step::Neighbourhood { i, b, a } if a != b && state.is_live(i, a) && state.is_live(i, b) => {
+            match (state.emptied(), problem.neighbourhood(&state, i, b, a)) {
+                (false, _) => BREAKS,
+                (true, false) => "a cover that breaks, an item emptied",
+                (true, true) => "a cover that holds, an item emptied",
+            }
+        }
+        _ if state.emptied() => "several",
+        Step::Neighbourhood { i, .. } if !state.is_active(i) => "a cover, i out or not below n",
+        Step::Neighbourhood { i, b, a } if a == b && state.is_live(i, a) => "a cover, a = b",
+        Step::Neighbourhood { .. } => "a cover, a or b off",
+        Step::Unsupported { .. } => "bare",
+        Step::Snake { .. } => "snake",
+        Step::Triangle { .. } => "fold",
+        Step::SnakeSubstitution { .. } => "slide",
     }
 }
 
@@ -524,7 +605,8 @@ fn refused_sheet(comparison: &mut Comparison, random: &mut Random, sheet: &[u8])
     let state = random.bytes(state_length);
     comparison.hand_call(sheet, &state, random.pick(&[0, 1, 32, u64::MAX]));
     let (trace, plan) = (random.bytes(3), random.bytes(2));
-    comparison.put_back(sheet, random.pick(&[&[1][..], &[], &trace]), &plan, random.pick(&[0, 2, 3]));
+    let answer = comparison.put_back(sheet, random.pick(&[&[1][..], &[], &trace]), &plan, random.pick(&[0, 2, 3]));
+    assert!(answer.is_err(), "putting back takes a sheet that the reference refuses");
 }
 
 /// A list of hand calls from the start state, from a state that fits or from one that does not; each later call is given the state that
@@ -605,8 +687,10 @@ struct Lending<'a> {
 
 impl Lending<'_> {
     fn put_back(self, comparison: &mut Comparison, result_length: usize) {
-        if let Some(result) = comparison.put_back(self.sheet, self.trace, self.plan, result_length) {
-            comparison.count_lent(self.problem, self.trace, self.plan, &result);
+        match comparison.put_back(self.sheet, self.trace, self.plan, result_length) {
+            Ok(result) => comparison.count_lent(self.problem, self.trace, self.plan, &result),
+            Err(Fault::Unlawful(unlawful)) => comparison.count_unlawful(self.problem, self.trace, unlawful),
+            Err(_) => {}
         }
     }
 }
@@ -620,6 +704,39 @@ fn damaged_calls(comparison: &mut Comparison, random: &mut Random, lending: &Len
     Lending { trace: &trace, ..*lending }.put_back(comparison, n);
     let length = if random.chance(10) { wrong_length(random, n) } else { n };
     Lending { trace: &trace, plan: &plan, ..*lending }.put_back(comparison, length);
+}
+
+/// Lawful steps, and after some of them one that is mostly unlawful; of three in ten sheets they empty an item.
+fn unlawful_case(comparison: &mut Comparison, random: &mut Random) {
+    let draft = if random.chance(60) { generate::small_draft(random) } else { generate::random_draft(random) };
+    let emptied = if random.chance(30) { generate::emptied(random, draft.clone()) } else { None };
+    match emptied {
+        Some((draft, steps)) => doubtful_calls(comparison, random, &draft.bytes(), &steps, steps.len()),
+        None => {
+            let sheet = draft.bytes();
+            let (problem, _) = reference::read_sheet(&sheet).expect("the sheet keeps the layout");
+            let (steps, _) = generate::lawful_steps(random, &problem);
+            let place = random.below(steps.len() + 1);
+            doubtful_calls(comparison, random, &sheet, &steps, place);
+        }
+    }
+}
+
+fn far_unlawful_case(comparison: &mut Comparison, random: &mut Random) {
+    let (draft, steps) = generate::long_trace(random);
+    doubtful_calls(comparison, random, &draft.bytes(), &steps, steps.len());
+}
+
+/// A few doubtful steps, each by itself after the first ones of a lawful trace, with the other steps behind it.
+fn doubtful_calls(comparison: &mut Comparison, random: &mut Random, sheet: &[u8], steps: &[Step], place: usize) {
+    let (problem, _) = reference::read_sheet(sheet).expect("the sheet keeps the layout");
+    let state = steps[..place].iter().fold(State::full(&problem), |state, &step| problem.perform(&state, step));
+    let plan = generate::any_plan(random, &problem, &state);
+    for _ in 0..4 {
+        let doubtful = generate::doubtful_step(random, &problem, &state);
+        let trace = reference::trace_of(&[&steps[..place], &[doubtful], &steps[place..]].concat());
+        Lending { sheet, problem: &problem, trace: &trace, plan: &plan }.put_back(comparison, plan.len());
+    }
 }
 
 /// A colouring file, half of them with a fault or several.

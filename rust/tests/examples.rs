@@ -68,13 +68,21 @@ fn sheet_of(file: &str) -> String {
     format!("{}.sheet", file.split('.').next().expect("a first part"))
 }
 
-/// What standard error says where this text is printed for a sheet or a file: for each refused call a line, with its cause.
+/// What standard error says where this text is printed for a sheet or a file: for each refused call a line, with its cause, and with the
+/// three numbers after 17 what they say.
 fn reasons(text: &str, lent: &str) -> String {
     let reason = |line: &str| {
-        let (call, number) = line.split_once("refused ")?;
+        let (call, numbers) = line.split_once("refused ")?;
         let what = call.strip_prefix("hand ").map_or(lent.to_string(), |item| format!("item {}", item.trim_end()));
-        let refusal = Refusal::from_number(number.parse().expect("a number")).expect("a refusal");
-        Some(format!("{what}: refused {number}: {}\n", refusal.cause()))
+        let numbers: Vec<u16> = numbers.split(' ').map(|number| number.parse().expect("a number")).collect();
+        let carried = match numbers[..] {
+            [17, record, 255, 255] => format!("; it is record {record}"),
+            [17, record, item, setting] => format!("; it is record {record}, and at item {item} setting {setting} spoils the cover"),
+            [_] => String::new(),
+            _ => panic!("no refusal: {line}"),
+        };
+        let refusal = Refusal::from_number(numbers[0].try_into().expect("a byte")).expect("a refusal");
+        Some(format!("{what}: refused {}: {}{carried}\n", numbers[0], refusal.cause()))
     };
     text.lines().filter_map(reason).collect()
 }
@@ -91,12 +99,12 @@ fn prints(example: &str, sheet: &str, arguments: &str, file: &str) {
 
 #[test]
 fn run_prints_what_the_program_prints() {
-    files("sheet", 29).iter().for_each(|sheet| prints("run", sheet, "", &sheet.replace(".sheet", ".txt")));
+    files("sheet", 30).iter().for_each(|sheet| prints("run", sheet, "", &sheet.replace(".sheet", ".txt")));
 }
 
 #[test]
 fn plan_prints_a_plan_or_that_there_is_none() {
-    files("plan", 18).iter().for_each(|file| prints("plan", &sheet_of(file), "", file));
+    files("plan", 19).iter().for_each(|file| prints("plan", &sheet_of(file), "", file));
 }
 
 #[test]
@@ -106,13 +114,13 @@ fn hand_prints_each_call_and_the_state_left() {
 
 #[test]
 fn put_back_prints_the_plan() {
-    files("back", 14).iter().for_each(|file| prints("put_back", &sheet_of(file), &text(file), &format!("{file}.txt")));
+    files("back", 17).iter().for_each(|file| prints("put_back", &sheet_of(file), &text(file), &format!("{file}.txt")));
 }
 
 /// examples/NAME-CHANNELS.sheet is the sheet of examples/NAME.col, and NAME-CHANNELS.refused the line of one that is refused.
 #[test]
 fn colour_writes_the_sheet() {
-    let (sheets, refusals) = (files("sheet", 29), files("refused", 9));
+    let (sheets, refusals) = (files("sheet", 30), files("refused", 9));
     let (mut written, mut refused) = (0, 0);
     for file in files("col", 9) {
         let name = file.strip_suffix(".col").expect("the ending");

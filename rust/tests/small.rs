@@ -1,4 +1,5 @@
-//! Demands 2 and 3 by brute force on very small sheets: all plans of what a trace leaves, and all lists of hand calls from a few states.
+//! Demands 2 and 3 by brute force on very small sheets: all plans of what a trace leaves, and all lists of hand calls from a few states;
+//! and what 17 carries, for every cover of two settings after a few traces.
 //!
 //! The proved library does the jobs, by both its layers (support/proved.rs); the reference says which rule holds; the plans are counted out here.
 //!
@@ -11,7 +12,7 @@ use std::collections::btree_map::{BTreeMap, Entry};
 use support::generate::{self, Draft, Random};
 use support::reference::{self, Problem, State, Step};
 use support::{proved, Done, Fault};
-use zomuwedli::{End, Refusal, HAND_STATE_LENGTH, OUT, STATE_LENGTH};
+use zomuwedli::{End, Refusal, Unlawful, HAND_STATE_LENGTH, MAX_ITEMS, MAX_SETTINGS, NOT_NAMED, OUT, STATE_LENGTH};
 
 const SEED: u64 = 4_711;
 const RANDOM_SHEETS: usize = 1_500;
@@ -25,7 +26,7 @@ const SHEETS: u64 = (PAIR_SHEETS + TRIPLE_SHEETS + RANDOM_SHEETS) as u64;
 
 fn main() {
     let mut counts = Counts::default();
-    let mut random = Random::new(SEED);
+    let (mut random, mut other_random) = (Random::new(SEED), Random::new(SEED + 1));
     let (pairs, triples) = (pair_sheets(), triple_sheets());
     let others: Vec<Vec<u8>> = (0..RANDOM_SHEETS).map(|_| generate::small_draft(&mut random).bytes()).collect();
     let smallest: Vec<&Vec<u8>> = pairs.iter().filter(|sheet| sheet[8] <= 2 && sheet[9] <= 2).collect();
@@ -37,6 +38,7 @@ fn main() {
     for sheet in pairs.iter().chain(&triples).chain(&others).step_by(part as usize) {
         Case::new(sheet).demand_two(&mut random, &mut counts);
         Case::new(sheet).demand_three(&mut random, &mut counts);
+        Case::new(sheet).unlawful_records(&mut other_random, &mut counts);
     }
     // From the last one, which bars nothing and has hundreds of traces: the first has three.
     for sheet in smallest.iter().rev().step_by(part as usize) {
@@ -85,6 +87,10 @@ struct Counts {
     finished_states: u64,
     hand_calls: u64,
     orders: u64,
+    covers_named: u64,
+    covers_not_named: u64,
+    covers_taken: u64,
+    others_refused: u64,
 }
 
 impl Counts {
@@ -107,6 +113,10 @@ impl Counts {
             "states reached by lists: {}, finished: {}; orders of calling: {}",
             self.reached_states, self.finished_states, self.orders
         );
+        println!(
+            "covers after a lawful trace: {} refused with 17 and a setting, {} with none, {} taken; other records refused with 17: {}",
+            self.covers_named, self.covers_not_named, self.covers_taken, self.others_refused
+        );
     }
 
     /// What falls short of its least count: what each sheet has one or four of, exactly; of the rest, half of what the seed gives.
@@ -128,6 +138,10 @@ impl Counts {
             ("finished states", self.finished_states, 9_000),
             ("hand calls", self.hand_calls, 170_000),
             ("orders", self.orders, 125_000),
+            ("covers that name a setting", self.covers_named, 20_000),
+            ("covers that name none", self.covers_not_named, 39_000),
+            ("covers that are taken", self.covers_taken, 14_000),
+            ("other records refused with 17", self.others_refused, 23_000),
         ];
         let scaled = least.map(|(name, count, least)| (name, count, (least / part).max(1)));
         let short = scaled.iter().filter(|(_, count, least)| count < least);
@@ -261,6 +275,76 @@ impl Case<'_> {
                 steps.pop();
             }
         }
+    }
+
+    // ---- What 17 carries ------------------------------------------------------------------------------------------------------------
+
+    /// Every cover that can be written of listed settings, after no record and after some lawful ones, a few beyond these, and a record of
+    /// each other kind: 17 with the numbers that a search over all items and settings finds.
+    fn unlawful_records(&self, random: &mut Random, counts: &mut Counts) {
+        let (steps, _) = generate::lawful_steps(random, &self.problem);
+        let place = random.between(1.min(steps.len()), steps.len());
+        for steps in [&steps[..0], &steps[..place]] {
+            let state = steps.iter().fold(State::full(&self.problem), |state, &step| self.problem.perform(&state, step));
+            for (i, b, a) in self.covers(random) {
+                let named = self.named(&state, i, b, a);
+                self.answered(steps, Step::Neighbourhood { i, b, a }, named);
+                *match named {
+                    None => &mut counts.covers_taken,
+                    Some((NOT_NAMED, _)) => &mut counts.covers_not_named,
+                    Some(_) => &mut counts.covers_named,
+                } += 1;
+            }
+            let [i, third, fourth] = [0; 3].map(|_| random.below(4));
+            let others = [
+                Step::Unsupported { i, b: third, k: fourth },
+                Step::Snake { i, v: third },
+                Step::Triangle { i, j: third },
+                Step::SnakeSubstitution { i, b: third, a: fourth },
+            ];
+            for step in others {
+                let lawful = !state.emptied() && self.problem.lawful(&state, step);
+                self.answered(steps, step, (!lawful).then_some((NOT_NAMED, NOT_NAMED)));
+                counts.others_refused += u64::from(!lawful);
+            }
+        }
+    }
+
+    /// Item, b and a of every cover of two listed settings, and of four others.
+    fn covers(&self, random: &mut Random) -> Vec<(usize, usize, usize)> {
+        let sizes = self.problem.sizes();
+        let pairs = |size: usize| (0..size).flat_map(move |b| (0..size).filter(move |&a| a != b).map(move |a| (b, a)));
+        let mut covers: Vec<_> = (0..sizes.len()).flat_map(|i| pairs(sizes[i]).map(move |(b, a)| (i, b, a))).collect();
+        let (i, beyond) = (random.below(sizes.len()), random.pick(&[0, 1, 13, 29, 200]));
+        covers.extend([(i, 0, 0), (sizes.len() + beyond, 0, 1), (i, sizes[i] + beyond, 0), (i, 0, sizes[i] + beyond)]);
+        covers
+    }
+
+    /// What 17 of a cover names, by a search over all items and settings that there can be; nothing where the cover is lawful.
+    fn named(&self, state: &State, i: usize, b: usize, a: usize) -> Option<(u8, u8)> {
+        let everything = || (0..MAX_ITEMS).flat_map(|l| (0..MAX_SETTINGS).map(move |c| (l, c)));
+        let emptied = (0..MAX_ITEMS).any(|l| state.is_active(l) && !(0..MAX_SETTINGS).any(|c| state.is_live(l, c)));
+        if emptied || a == b || !state.is_live(i, a) || !state.is_live(i, b) {
+            return Some((NOT_NAMED, NOT_NAMED));
+        }
+        let spoils = |l: usize, c: usize| self.problem.allowed(i, b, l, c) && !self.problem.allowed(i, a, l, c);
+        let (l, c) = everything().find(|&(l, c)| l != i && state.is_live(l, c) && spoils(l, c))?;
+        Some((l as u8, c as u8))
+    }
+
+    /// Putting back refuses the record that comes after these with 17 and these two numbers, or does not refuse it with 17.
+    fn answered(&self, before: &[Step], step: Step, named: Option<(u8, u8)>) {
+        let trace = reference::trace_of(&[before, &[step]].concat());
+        let plan = vec![0; self.problem.sizes().len()];
+        let expected = named.map(|(item, setting)| Unlawful { record: before.len() as u16, item, setting });
+        let unlawful = |answer| match answer {
+            Err(Fault::Unlawful(unlawful)) => Some(unlawful),
+            _ => None,
+        };
+        let [proved, reference] =
+            [proved::raw::put_back, reference::put_back].map(|put_back| put_back(self.sheet, &trace, &plan, &mut plan.clone()));
+        self.demand(unlawful(reference) == expected, "the reference's 17 is another", &trace);
+        self.demand(unlawful(proved) == expected, "17 is another", &trace);
     }
 
     // ---- Demand 3 -------------------------------------------------------------------------------------------------------------------

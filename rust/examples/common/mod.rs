@@ -51,7 +51,7 @@ fn failed(what: &str, error: &io::Error) -> Status {
 }
 
 /// Says why a call was refused; what it was made for is a sheet, a file or an item, by its name.
-pub fn explain(what: &str, name: &OsStr, refusal: Refusal) -> Status {
+pub fn explain(what: &str, name: &OsStr, refusal: impl fmt::Display) -> Status {
     say(format_args!("{what} {}: {refusal}", name.to_string_lossy()));
     Status::Refused
 }

@@ -4,7 +4,7 @@
 // Each test has all of it and uses a part.
 #![allow(dead_code)]
 
-use zomuwedli::{Accepted, End, Refusal, Taken, Written, HAND_STATE_LENGTH, STATE_LENGTH};
+use zomuwedli::{Accepted, End, PutBackRefusal, Refusal, Taken, Unlawful, Written, HAND_STATE_LENGTH, STATE_LENGTH};
 
 #[path = "../../src/boundary.rs"]
 pub mod boundary;
@@ -20,8 +20,10 @@ pub mod reference;
 /// Why a call at the boundary is turned away, where a state is a buffer of any length.
 #[derive(Clone, Copy, PartialEq, Eq, Debug)]
 pub enum Fault {
-    /// By the job.
+    /// By the job, with a number other than 17 of putting back.
     Refused(Refusal),
+    /// 17 of putting back, with what it carries.
+    Unlawful(Unlawful),
     /// 200: the buffer for the state of a run is not [`STATE_LENGTH`] bytes.
     RunStateLength,
     /// 201: the buffer for the state of a start or hand call is not [`HAND_STATE_LENGTH`] bytes.
@@ -29,7 +31,7 @@ pub enum Fault {
 }
 
 impl Fault {
-    /// Every fault, by its number.
+    /// Every fault, by its number and without what 17 carries.
     pub fn all() -> impl Iterator<Item = Fault> {
         Refusal::ALL.iter().copied().map(Fault::Refused).chain([Fault::RunStateLength, Fault::HandStateLength])
     }
@@ -37,6 +39,7 @@ impl Fault {
     pub fn number(self) -> u8 {
         match self {
             Fault::Refused(refusal) => refusal.number(),
+            Fault::Unlawful(_) => Refusal::RecordUnlawful.number(),
             Fault::RunStateLength => 200,
             Fault::HandStateLength => 201,
         }
@@ -50,6 +53,20 @@ impl Fault {
 impl From<Refusal> for Fault {
     fn from(refusal: Refusal) -> Fault {
         Fault::Refused(refusal)
+    }
+}
+
+impl From<Unlawful> for Fault {
+    fn from(unlawful: Unlawful) -> Fault {
+        Fault::Unlawful(unlawful)
+    }
+}
+
+/// What 17 carries is there exactly with 17.
+impl From<PutBackRefusal> for Fault {
+    fn from(refused: PutBackRefusal) -> Fault {
+        assert_eq!(refused.unlawful.is_some(), refused.refusal == Refusal::RecordUnlawful, "{refused:?}");
+        refused.unlawful.map_or(Fault::Refused(refused.refusal), Fault::Unlawful)
     }
 }
 

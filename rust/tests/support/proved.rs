@@ -9,9 +9,9 @@ use super::{Accepted, Answer, Done, Fault, Taken, Written, HAND_STATE_LENGTH, ST
 
 /// The archive's functions, their numbers read as answers.
 pub mod raw {
-    use super::super::boundary;
+    use super::super::boundary::{self, PutBackFault};
     use super::{Accepted, Answer, Done, Fault, Taken, Written};
-    use zomuwedli::End;
+    use zomuwedli::{End, Unlawful};
 
     pub fn read(sheet: &[u8]) -> Answer<Accepted> {
         let (items, blocks) = boundary::read(sheet).map_err(fault)?;
@@ -33,7 +33,10 @@ pub mod raw {
     }
 
     pub fn put_back(sheet: &[u8], trace: &[u8], plan: &[u8], result: &mut [u8]) -> Answer<()> {
-        boundary::put_back(sheet, trace, plan, result).map_err(fault)
+        boundary::put_back(sheet, trace, plan, result).map_err(|refused| match refused {
+            PutBackFault::Number(number) => fault(number),
+            PutBackFault::Unlawful { record, item, setting } => Fault::Unlawful(Unlawful { record, item, setting }),
+        })
     }
 
     pub fn colour(file: &[u8], channels: u64, sheet: &mut [u8]) -> Answer<Written> {
@@ -87,7 +90,7 @@ pub fn hand_call(sheet: &[u8], state: &mut [u8], item: u64) -> Answer<Taken> {
 pub fn put_back(sheet: &[u8], trace: &[u8], plan: &[u8], result: &mut [u8]) -> Answer<()> {
     let mut other: Box<[u8]> = Box::from(&*result);
     let answer = raw::put_back(sheet, trace, plan, result);
-    let put = refused(zomuwedli::put_back(sheet, trace, plan, &mut other));
+    let put = zomuwedli::put_back(sheet, trace, plan, &mut other).map_err(Fault::from);
     assert!(put == answer && *other == *result, "the library puts back otherwise than the archive");
     answer
 }
