@@ -88,7 +88,7 @@ lowest-end f n i l m e = let q : i ≡ n = omega arith in subst (λ (k : ℕ). l
 -- ---- at the lowest
 
 module _ {A : Type 0} (f : ℕ → Bool) (g : ℕ → A) (z : A) where
-  at-lowest-some : (n : ℕ) → anyBelow n f ≡ true → atLowest n f g z ≡ g (lowest n f)
+  pub at-lowest-some : (n : ℕ) → anyBelow n f ≡ true → atLowest n f g z ≡ g (lowest n f)
   unfolding atLowest
   at-lowest-some n e = rw (e, atLowest)
 

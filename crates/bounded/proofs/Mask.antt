@@ -11,11 +11,11 @@ use lib.Bits.{bitAnd, and-step, and-shr, and-le-l, bitOr, or-step, or-shr}
 use lib.Count.{trailingZeros, under}
 use lib.Pow.{shr-shr, pow-add, pow-pos, high}
 use borrow.Author.Tests.{eq-eqb, ne-eqb, eqb-true, eqb-false}
-use Rattle.bounded.specs.Bounded.{allBelow, anyBelow, lowest, imp}
+use Rattle.bounded.specs.Bounded.{allBelow, anyBelow, lowest, atLowest, imp}
 use Rattle.bounded.specs.Mask.{bit, maskOf, without}
 use Rattle.bounded.proofs.Truth.{T-ext, T-of, and-iff, imp-iff, eqb-iff, split, clash, at-or-below, lt-dec}
 use Rattle.bounded.proofs.Bounded.{all-iff, lowest-here, lowest-later}
-use Rattle.bounded.proofs.Loops.{all-each, any-each, any-intro}
+use Rattle.bounded.proofs.Loops.{all-each, any-each, any-intro, at-lowest-some, at-lowest-end}
 
 -- ---- a digit is 0 or 1
 
@@ -239,3 +239,11 @@ zero-bits n x l =
     (λ t. ne-eqb x 0 (λ e. clash t (ap (λ (m : ℕ). anyBelow n (bit m)) e ∙ any-intro (bit 0) n (λ k h. bit-none k))) ∙ ap not (sym t))
     (λ t. eq-eqb x 0 (mask-ext n x 0 l (pow-pos n) (λ c k. any-each (bit x) n t c k ∙ sym (bit-none c))) ∙ ap not (sym t))
     (split (anyBelow n (bit x)))
+
+-- at the lowest member of a set: there is none, or it is the number of the zeros below it
+module _ {A : Type 0} (g : ℕ → A) (z : A) (n x : ℕ) (l : x < 2 ^ n) where
+  pub at-lowest-zero : x ≡ 0 → atLowest n (bit x) g z ≡ z
+  at-lowest-zero e = at-lowest-end (bit x) g z n (any-intro (bit x) n (λ k h. ap (λ (y : ℕ). bit y k) e ∙ bit-none k))
+
+  pub at-lowest-member : (x ≡ 0 → ⊥) → atLowest n (bit x) g z ≡ g (lowest n (bit x))
+  at-lowest-member d = at-lowest-some (bit x) g z n (⊎-elim (λ e. e) (λ e. absurd (clash (zero-bits n x l ∙ ap not e) (ne-eqb x 0 d))) (split (anyBelow n (bit x))))

@@ -1,30 +1,80 @@
 -- Covering over a table and a state that fits it, as the code tests it. Assumes nothing.
 use mathlib.Core.Path.{_≡_, refl, sym, ap, _∙_, subst}
-use mathlib.Core.Bool.{Bool, true, false}
-use mathlib.Core.Logic.{_≢_, _↔_, Iff·rfl}
+use mathlib.Core.Bool.{Bool, true, false, not, _&&_}
+use mathlib.Core.Logic.{_⊎_, inl, inr, ⊎-elim, _≢_, _↔_, Iff·rfl}
 use mathlib.Core.List.{List}
-use Prim.Native.Nat.{ℕ, _^_, _<_}
+use Prim.Native.Nat.{ℕ, _-_, _^_, _<_}
 use lib.Dec.{T, eqb}
-use lib.Bits.{bitAnd}
+use native.Mathlib.Nat.{lt-trans, lt-of-le-of-lt}
+use lib.Bits.{bitAnd, and-le-l}
 use lib.ListN.{getD}
-use Rattle.bounded.specs.Bounded.{imp, allBelow}
+use Rattle.bounded.specs.Bounded.{imp, allBelow, atLowest}
 use Rattle.bounded.specs.Mask.{bit, without}
-use Rattle.bounded.proofs.Truth.{T-ext, T-of, T-false, T-true, clash, and-iff, imp-iff, not-iff, eqb-iff}
+use Rattle.bounded.proofs.Truth.{T-ext, T-of, T-not, T-false, T-true, split, clash, and-iff, imp-iff, imp-fails, not-iff, eqb-iff}
 use Rattle.bounded.proofs.Bounded.{all-iff, any-iff}
-use Rattle.bounded.proofs.Mask.{bit-without32, within}
-use Rattle.problem.specs.Problem.{Problem, State, allOther, allThird, substitutes}
+use Rattle.bounded.proofs.Mask.{bit-and, bit-not16, bit-without32, within}
+use Rattle.bounded.proofs.Loops.{all-intro, all-fail, at-lowest-is, at-lowest-none, at-lowest-or, at-lowest-same}
+use Rattle.problem.specs.Problem.{Problem, State, allOther, allThird, unspoilt, breakAt, unbroken, spoils, spoiler, breaks, firstBreak}
 use Rattle.problem.specs.Held.{rowWord, held}
 use Rattle.problem.specs.Masks.{stateOf}
 use Rattle.problem.specs.declared.Masks.{Masks}
-use Rattle.problem.proofs.Reflect.{Fits, allOther-iff, allThird-iff, Substitutes, substitutes-iff}
+use Rattle.problem.specs.declared.Cover.{Cover}
+use Rattle.problem.specs.declared.Cover.the-variants.{Spoilt, Holds}
+use Rattle.problem.specs.declared.Break.{Break}
+use Rattle.problem.specs.declared.Break.the-variants.{At, Nowhere}
+use Rattle.problem.proofs.Reflect.{Fits, allOther-iff, allThird-iff, Substitutes, spoils-iff, unspoilt-iff}
+use Rattle.problem.proofs.Spoiler.{breaks-iff}
+use Rattle.problem.proofs.HeldTable.{row-lt}
 use Rattle.held.specs.Ready.{Ready}
-use Rattle.cover.specs.Words.{coversIn, servedIn, allServedIn, others, thirds}
+use Rattle.cover.specs.Words.{spoilerIn, firstBreakIn, coversIn, servedIn, allServedIn, others, thirds}
 use Rattle.held.proofs.Laws.{row-says, live-value, active-32, word-iff, word-lt}
+
+-- ---- the first break in a set
+
+module _ (P : Problem) (s : State) (rest i a j b l : ℕ) where
+  -- at a variable of the set, and at any other
+  pub in-set : bit rest l ≡ true → spoilerIn P s rest i a j b l ≡ spoiler P s i a j b l
+  unfolding spoilerIn
+  in-set e = rw (e, spoilerIn)
+
+  pub off-set : bit rest l ≡ false → spoilerIn P s rest i a j b l ≡ Holds
+  unfolding spoilerIn
+  off-set e = rw (e, spoilerIn)
+
+  unspoilt-in : unspoilt (spoilerIn P s rest i a j b l) ≡ imp (bit rest l) (unspoilt (spoiler P s i a j b l))
+  unspoilt-in = ⊎-elim (λ e. rw e (ap unspoilt (in-set e))) (λ e. rw e (ap unspoilt (off-set e))) (split (bit rest l))
+
+-- the break that an answer tells of is one where the answer is spoilt
+unbroken-at : (l : ℕ) (x : Cover) → unbroken (breakAt l x) ≡ unspoilt x
+unbroken-at l (Spoilt c) = refl
+unbroken-at l Holds = refl
+
+module _ (P : Problem) (s : State) (rest i a j b : ℕ) where
+  -- there is none where a covers b at each variable of the set
+  pub covers-all : coversIn P s rest i a j b ≡ allBelow 32 (λ l. imp (bit rest l) (unspoilt (spoiler P s i a j b l)))
+  unfolding firstBreakIn
+  covers-all = go (at-lowest-or f g Nowhere 32) ∙ (λ t. allBelow 32 (λ l. unspoilt-in P s rest i a j b l t))
+    where
+      x : ℕ → Cover
+      x = spoilerIn P s rest i a j b
+
+      f : ℕ → Bool
+      f l = not (unspoilt (x l))
+
+      g : ℕ → Break
+      g l = breakAt l (x l)
+
+      go : ((l : ℕ) × (l < 32) × T (f l) × ((m : ℕ) → m < l → T (f m) → ⊥)) ⊎ ((l : ℕ) → l < 32 → T (f l) → ⊥) → coversIn P s rest i a j b ≡ allBelow 32 (λ l. unspoilt (x l))
+      go (inl (l, k, t, h)) =
+          let e : unspoilt (x l) ≡ false = T-false (unspoilt (x l)) (not-iff (unspoilt (x l)) .0 t) in
+          ap unbroken (at-lowest-is f g Nowhere 32 l k t h) ∙ unbroken-at l (x l) ∙ e ∙ sym (all-fail (λ l. unspoilt (x l)) 32 l k e)
+      go (inr h) =
+          ap unbroken (at-lowest-none f g Nowhere 32 h)
+          ∙ sym (all-intro (λ l. unspoilt (x l)) 32 (λ l k. elim (split (unspoilt (x l))) [ inl e ↦ e | inr e ↦ absurd (h l k (not-iff (unspoilt (x l)) .1 (T-not e))) ]))
 
 module _ {P : Problem} {s : State} (F : Fits P s) where
   pub coversIn-iff : (rest i a j b : ℕ) → T (coversIn P s rest i a j b) ↔ ((l : ℕ) → l < 32 → T (bit rest l) → Substitutes P s i a j b l)
-  unfolding coversIn
-  coversIn-iff rest i a j b = simp (all-iff, imp-iff, substitutes-iff F) Iff·rfl
+  coversIn-iff rest i a j b = rw (covers-all P s rest i a j b) (simp (all-iff, imp-iff, unspoilt-iff F) Iff·rfl)
 
   pub servedIn-iff : (rest good i j w : ℕ) → T (servedIn P s rest good i j w) ↔ ((u : ℕ) × (u < 16) × (T (bit good u) × ((l : ℕ) → l < 32 → T (bit rest l) → Substitutes P s i u j w l)))
   unfolding servedIn
@@ -58,17 +108,39 @@ pub thirds-out : (x i j : ℕ) → i < 32 → j < 32 → (bit (thirds x i j) i �
 thirds-out x i j p q = (T-false _ (λ h. thirds-iff x i j i p q p .0 h .0 .1 refl), T-false _ (λ h. thirds-iff x i j j p q q .0 h .1 refl))
 
 module _ {t : List ℕ} {m : Masks} (R : Ready t m) where
-  -- cover, as one comparison
-  pub substitutes-word : (i a j b l : ℕ) → l < 32 → eqb (bitAnd (bitAnd (getD (m .domains) l 0) (rowWord (held t) j l b)) (rowWord (held t) i l a)) (bitAnd (getD (m .domains) l 0) (rowWord (held t) j l b)) ≡ substitutes (held t) (stateOf m) i a j b l
-  substitutes-word i a j b l k =
-      within 16 (bitAnd (getD (m .domains) l 0) (rowWord (held t) j l b)) (rowWord (held t) i l a) (word-lt R l _ k)
-      ∙ T-ext (
-        λ h. substitutes-iff (R .fits) i a j b l .1
-            (λ c o al. subst T (row-says (R .table) i l a c) ((simp (all-iff, imp-iff) at h) c (live-value R l c o .value) (word-iff R j b l c .1 (o, al)))),
-        λ h. simp (all-iff, imp-iff)
-            (λ c q u. let x = word-iff R j b l c .0 u in
-            subst T (sym (row-says (R .table) i l a c)) (substitutes-iff (R .fits) i a j b l .0 h c (x .0) (x .1))),
-      )
+  module _ (i a j b l : ℕ) where
+    -- the values that spoil the cover at l, as a word
+    abbrev pub spoilersWord : ℕ
+    spoilersWord = bitAnd (bitAnd (getD (m .domains) l 0) (rowWord (held t) j l b)) (65535 - rowWord (held t) i l a)
+
+    spoils-word : (c : ℕ) → ((c < 16) × T (bit spoilersWord c)) ↔ ((c < (held t) .size l) × T (spoils (held t) (stateOf m) i a j b l c))
+    spoils-word c = (
+      λ x. let y = and-iff (bit w c) (not (P .allowed i a l c)) .0 (subst T (says (x .0)) (x .1)) in
+          let o = word-iff R j b l c .0 (y .0) in
+          (R .fits .live-lt l c (o .0), spoils-iff P (stateOf m) i a j b l c .1 (o .0, (o .1, not-iff (P .allowed i a l c) .0 (y .1)))),
+      λ x. let y = spoils-iff P (stateOf m) i a j b l c .0 (x .1) in
+          let v = live-value R l c (y .0) .value in
+          (v, subst T (sym (says v)) (and-iff (bit w c) (not (P .allowed i a l c)) .1 (word-iff R j b l c .1 (y .0, y .1 .0), not-iff (P .allowed i a l c) .1 (y .1 .1)))),
+    )
+      where
+        P : Problem
+        P = held t
+
+        w : ℕ
+        w = bitAnd (getD (m .domains) l 0) (rowWord (held t) j l b)
+
+        says : c < 16 → bit spoilersWord c ≡ (bit w c && not (P .allowed i a l c))
+        says v =
+            bit-and w (65535 - rowWord P i l a) c
+            ∙ ap (λ (x : Bool). bit w c && x) (bit-not16 (rowWord P i l a) c (row-lt P i l a) v ∙ ap not (row-says (R .table) i l a c))
+
+    pub spoilers-lt : l < 32 → spoilersWord < 2 ^ 16
+    spoilers-lt k = lt-of-le-of-lt (and-le-l _ (65535 - rowWord (held t) i l a)) (word-lt R l _ k)
+
+    -- the cover test: the lowest of them
+    pub spoiler-word : atLowest 16 (bit spoilersWord) Spoilt Holds ≡ spoiler (held t) (stateOf m) i a j b l
+    unfolding spoiler
+    spoiler-word = at-lowest-same 16 ((held t) .size l) (bit spoilersWord) (spoils (held t) (stateOf m) i a j b l) Spoilt Holds spoils-word
 
   pub other-loop : (i : ℕ) → i < 32 → (f : ℕ → Bool) → allBelow 32 (λ l. imp (bit (others (m .active) i) l) (f l)) ≡ allOther (held t) (stateOf m) i f
   unfolding stateOf
@@ -87,13 +159,60 @@ module _ {t : List ℕ} {m : Masks} (R : Ready t m) where
       )
 
   -- covering at every other variable, and at every third
-  pub cover-word : (i j a k b : ℕ) → i < 32 → coversIn (held t) (stateOf m) (others (m .active) i) j a k b ≡ allOther (held t) (stateOf m) i (λ l. substitutes (held t) (stateOf m) j a k b l)
-  unfolding coversIn
-  cover-word i j a k b p = other-loop i p (λ l. substitutes (held t) (stateOf m) j a k b l)
+  pub cover-word : (i j a k b : ℕ) → i < 32 → coversIn (held t) (stateOf m) (others (m .active) i) j a k b ≡ allOther (held t) (stateOf m) i (λ l. unspoilt (spoiler (held t) (stateOf m) j a k b l))
+  cover-word i j a k b p = covers-all (held t) (stateOf m) (others (m .active) i) j a k b ∙ other-loop i p (λ l. unspoilt (spoiler (held t) (stateOf m) j a k b l))
 
-  pub third-word : (x y i a j b : ℕ) → x < 32 → y < 32 → coversIn (held t) (stateOf m) (thirds (m .active) x y) i a j b ≡ allThird (held t) (stateOf m) x y (λ l. substitutes (held t) (stateOf m) i a j b l)
-  unfolding coversIn
-  third-word x y i a j b p q = third-loop x y p q (λ l. substitutes (held t) (stateOf m) i a j b l)
+  pub third-word : (x y i a j b : ℕ) → x < 32 → y < 32 → coversIn (held t) (stateOf m) (thirds (m .active) x y) i a j b ≡ allThird (held t) (stateOf m) x y (λ l. unspoilt (spoiler (held t) (stateOf m) i a j b l))
+  third-word x y i a j b p q = covers-all (held t) (stateOf m) (thirds (m .active) x y) i a j b ∙ third-loop x y p q (λ l. unspoilt (spoiler (held t) (stateOf m) i a j b l))
+
+  -- the first break at the other variables
+  pub break-word : (i b a : ℕ) → i < 32 → firstBreakIn (held t) (stateOf m) (others (m .active) i) i a i b ≡ firstBreak (held t) (stateOf m) i b a
+  unfolding firstBreakIn firstBreak stateOf
+  break-word i b a p = go (at-lowest-or f g Nowhere 32)
+    where
+      P : Problem
+      P = held t
+
+      rest : ℕ
+      rest = others (m .active) i
+
+      x : ℕ → Cover
+      x = spoilerIn P (stateOf m) rest i a i b
+
+      f : ℕ → Bool
+      f l = not (unspoilt (x l))
+
+      g : ℕ → Break
+      g l = breakAt l (x l)
+
+      h : ℕ → Break
+      h l = breakAt l (spoiler P (stateOf m) i a i b l)
+
+      held-at : ℕ → Bool
+      held-at l = unspoilt (spoiler P (stateOf m) i a i b l)
+
+      in-rest : (l : ℕ) → T (f l) → T (bit rest l) × (T (held-at l) → ⊥)
+      in-rest l t = imp-fails (bit rest l) (held-at l) (λ u. not-iff (unspoilt (x l)) .0 t (subst T (sym (unspoilt-in P (stateOf m) rest i a i b l)) u))
+
+      to : (l : ℕ) → l < 32 → T (f l) → T (breaks P (stateOf m) i b a l)
+      to l k t =
+          let y = in-rest l t in
+          let o = others-iff (m .active) i l p k .0 (y .0) in
+          breaks-iff (R .fits) i b a l .1 (o .0, (o .1, λ h. y .1 (unspoilt-iff (R .fits) i a i b l .1 h)))
+
+      of : (l : ℕ) → l < 32 → T (breaks P (stateOf m) i b a l) → T (f l)
+      of l k t =
+          let y = breaks-iff (R .fits) i b a l .0 t in
+          not-iff (unspoilt (x l)) .1 (λ u. y .1 .1 (unspoilt-iff (R .fits) i a i b l .0 (imp-iff (bit rest l) (held-at l) .0 (subst T (unspoilt-in P (stateOf m) rest i a i b l) u) (others-iff (m .active) i l p k .1 (y .0, y .1 .0)))))
+
+      go : ((l : ℕ) × (l < 32) × T (f l) × ((n : ℕ) → n < l → T (f n) → ⊥)) ⊎ ((l : ℕ) → l < 32 → T (f l) → ⊥) → firstBreakIn P (stateOf m) rest i a i b ≡ firstBreak P (stateOf m) i b a
+      go (inl (l, k, t, least)) =
+          at-lowest-is f g Nowhere 32 l k t least
+          ∙ ap (breakAt l) (in-set P (stateOf m) rest i a i b l (T-true (bit rest l) (in-rest l t .0)))
+          ∙ sym (at-lowest-is (breaks P (stateOf m) i b a) h Nowhere (P .n) l (R .fits .active-lt l (others-iff (m .active) i l p k .0 (in-rest l t .0) .0)) (to l k t) (λ n q u. least n q (of n (lt-trans q k) u)))
+      go (inr none) =
+          at-lowest-none f g Nowhere 32 none
+          ∙ sym (at-lowest-none (breaks P (stateOf m) i b a) h Nowhere (P .n) (λ l q u. let k = active-32 R l (breaks-iff (R .fits) i b a l .0 u .0) in none l k (of l k u)))
 
   -- the same with a set that is known to be the others
   pub other-by : (rest i : ℕ) → rest ≡ others (m .active) i → i < 32 → (f : ℕ → Bool) → allBelow 32 (λ l. imp (bit rest l) (f l)) ≡ allOther (held t) (stateOf m) i f

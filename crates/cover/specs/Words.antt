@@ -1,14 +1,26 @@
 -- Covering as the code tests it: loops to 32 and 16 over the members of masks.
-use mathlib.Core.Bool.{Bool, not, _&&_}
+use mathlib.Core.Bool.{Bool, true, false, not, _&&_}
 use Prim.Native.Nat.{ℕ}
-use Rattle.bounded.specs.Bounded.{imp, allBelow, anyBelow}
+use Rattle.bounded.specs.Bounded.{imp, allBelow, anyBelow, atLowest}
 use Rattle.bounded.specs.Mask.{bit, without}
-use Rattle.problem.specs.Problem.{Problem, State, substitutes}
+use Rattle.problem.specs.Problem.{Problem, State, unspoilt, breakAt, unbroken, spoiler}
+use Rattle.problem.specs.declared.Cover.{Cover}
+use Rattle.problem.specs.declared.Cover.the-variants.{Holds}
+use Rattle.problem.specs.declared.Break.{Break}
+use Rattle.problem.specs.declared.Break.the-variants.{Nowhere}
 
 module _ (P : Problem) (s : State) where
-  -- a of i covers b of j at each variable of a set
-  unfoldable pub coversIn : (rest i a j b : ℕ) → Bool
-  coversIn rest i a j b = allBelow 32 (λ l. imp (bit rest l) (substitutes P s i a j b l))
+  -- the cover test at a variable of a set; at any other nothing spoils
+  unfoldable pub spoilerIn : (rest i a j b l : ℕ) → Cover
+  spoilerIn rest i a j b l = elim (bit rest l) [ true ↦ spoiler P s i a j b l | false ↦ Holds ]
+
+  -- the lowest variable of a set at which a of i does not cover b of j, and the lowest value that spoils it there
+  unfoldable pub firstBreakIn : (rest i a j b : ℕ) → Break
+  firstBreakIn rest i a j b = atLowest 32 (λ l. not (unspoilt (spoilerIn rest i a j b l))) (λ l. breakAt l (spoilerIn rest i a j b l)) Nowhere
+
+  -- there is none: a of i covers b of j at each variable of the set
+  abbrev pub coversIn : (rest i a j b : ℕ) → Bool
+  coversIn rest i a j b = unbroken (firstBreakIn rest i a j b)
 
   -- some u of i, of a set of values, covers w of j at each variable of the set `rest`
   unfoldable pub servedIn : (rest good i j w : ℕ) → Bool

@@ -1,23 +1,28 @@
-// Covering, the format's word for one value in another's place, over a lent table of rows: at one variable, at a set of them, and some
-// value of a set that covers.
+// Covering, the format's word for one value in another's place, over a lent table of rows: what spoils it at one variable, where it breaks
+// first in a set of them, and some value of a set that covers.
 ghost use mathlib.Core.Path.{_≡_};
 ghost use mathlib.Core.Bool.{_&&_, not, true, false};
 ghost use mathlib.Core.Logic.{_≢_};
 ghost use Prim.Native.Nat.{_<_, _+_};
 ghost use Rattle.bounded.specs.Bounded.{imp};
 ghost use Rattle.bounded.specs.Mask.{bit};
-ghost use Rattle.problem.specs.Problem.{substitutes as substitutesAt};
+ghost use Rattle.problem.specs.Problem.{spoiler as spoilerAt, breakAt};
 ghost use Rattle.problem.specs.Held.{held};
 ghost use Rattle.problem.specs.Masks.{stateOf, sets};
 ghost use Rattle.held.specs.Ready.{Ready, Value, Among};
-ghost use Rattle.cover.specs.Words.{coversIn, servedIn, allServedIn, thirds};
+ghost use Rattle.cover.specs.Words.{spoilerIn, firstBreakIn, coversIn, servedIn, allServedIn, thirds};
 use bounded::has16;
 use bounded::has32;
+use bounded::lowest16;
 use bounded::without32;
 use held::row;
+use problem::Break;
+use problem::Cover;
+use problem::unbroken;
+use problem::unspoilt;
 
-// Value a of i covers value b of j at l.
-fn substitutes(
+// The cover test: the lowest value in the domain of l that is allowed with value b of j and not with value a of i, or that there is none.
+fn spoiler(
     t: &[u16],
     active: u32,
     on: &[u16; 32],
@@ -26,12 +31,17 @@ fn substitutes(
     j: usize,
     b: usize,
     l: usize,
-) -> bool
+) -> Cover
     requires { ⌜ Ready (now t) (sets active (now on)) × Value (now t) i a × Value (now t) j b × (l < 32) × (l ≢ i) × (l ≢ j) ⌝ }
-    ensures { λ r. ⌜ r ≡ substitutesAt (held (now (t .entry))) (stateOf (sets active (now (on .entry)))) i a j b l ⌝ }
+    ensures { λ r. ⌜ r ≡ spoilerAt (held (now (t .entry))) (stateOf (sets active (now (on .entry)))) i a j b l ⌝ }
 {
     let w = on[l] & row(t, j, l, b);
-    w & row(t, i, l, a) == w
+    let spoilers = w & !row(t, i, l, a);
+    if spoilers == 0 {
+        Cover::Holds
+    } else {
+        Cover::Spoilt(lowest16(spoilers))
+    }
 }
 
 // ---- sets of variables
@@ -46,7 +56,8 @@ pub fn third_set(active: u32, i: usize, j: usize) -> u32
 
 // ---- covering at a set of variables
 
-fn covers_at(
+// The cover test at a variable of `rest`; at any other nothing spoils.
+fn spoiler_in(
     t: &[u16],
     active: u32,
     on: &[u16; 32],
@@ -56,19 +67,33 @@ fn covers_at(
     j: usize,
     b: usize,
     l: usize,
-) -> bool
+) -> Cover
     requires { ⌜ Ready (now t) (sets active (now on)) × Value (now t) i a × Value (now t) j b × (bit rest i ≡ false) × (bit rest j ≡ false) × (l < 32) ⌝ }
-    ensures { λ r. ⌜ r ≡ imp (bit rest l) (substitutesAt (held (now (t .entry))) (stateOf (sets active (now (on .entry)))) i a j b l) ⌝ }
+    ensures { λ r. ⌜ r ≡ spoilerIn (held (now (t .entry))) (stateOf (sets active (now (on .entry)))) rest i a j b l ⌝ }
 {
     if has32(rest, l) {
-        substitutes(t, active, on, i, a, j, b, l)
+        spoiler(t, active, on, i, a, j, b, l)
     } else {
-        true
+        Cover::Holds
     }
 }
 
-// Value a of i covers value b of j at each variable of `rest`, where neither i nor j is.
-pub fn covers(
+// The break that the test's answer tells of, where it was made at l.
+fn break_at(l: usize, found: Cover) -> Break
+    ensures { λ r. ⌜ r ≡ breakAt l found ⌝ }
+{
+    match found {
+        Cover::Spoilt(c) => Break::At {
+            variable: l,
+            value: c,
+        },
+        Cover::Holds => Break::Nowhere,
+    }
+}
+
+// The lowest variable of `rest`, where neither i nor j is, at which value a of i does not cover value b of j, and the lowest value that
+// spoils it there.
+pub fn first_break(
     t: &[u16],
     active: u32,
     on: &[u16; 32],
@@ -77,18 +102,19 @@ pub fn covers(
     a: usize,
     j: usize,
     b: usize,
-) -> bool
+) -> Break
     requires { ⌜ Ready (now t) (sets active (now on)) × Value (now t) i a × Value (now t) j b × (bit rest i ≡ false) × (bit rest j ≡ false) ⌝ }
-    ensures { λ r. ⌜ r ≡ coversIn (held (now (t .entry))) (stateOf (sets active (now (on .entry)))) rest i a j b ⌝ }
+    ensures { λ r. ⌜ r ≡ firstBreakIn (held (now (t .entry))) (stateOf (sets active (now (on .entry)))) rest i a j b ⌝ }
 {
     let mut l: usize = 0;
     while l < 32 {
-        if !covers_at(t, active, on, rest, i, a, j, b, l) {
-            return false;
+        let found = spoiler_in(t, active, on, rest, i, a, j, b, l);
+        if !unspoilt(found) {
+            return break_at(l, found);
         }
         l += 1;
     }
-    true
+    Break::Nowhere
 }
 
 // ---- a value in another's place
@@ -108,7 +134,7 @@ fn served_by(
     ensures { λ r. ⌜ r ≡ (bit good u && coversIn (held (now (t .entry))) (stateOf (sets active (now (on .entry)))) rest i u j w) ⌝ }
 {
     if has16(good, u) {
-        covers(t, active, on, rest, i, u, j, w)
+        unbroken(first_break(t, active, on, rest, i, u, j, w))
     } else {
         false
     }

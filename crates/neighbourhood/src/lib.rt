@@ -2,19 +2,28 @@
 ghost use mathlib.Core.Path.{_≡_};
 ghost use mathlib.Core.Bool.{false};
 ghost use Prim.Native.Nat.{_<_, _+_};
-ghost use Rattle.problem.specs.Problem.{neighbourhood as neighbourhoodHolds};
+ghost use Rattle.problem.specs.Problem.{neighbourhood as neighbourhoodHolds, firstBreak as firstBreakAt};
 ghost use Rattle.problem.specs.Held.{held};
 ghost use Rattle.problem.specs.Masks.{stateOf, sets};
 ghost use Rattle.problem.specs.Reduce.{nextNeighbourhood};
-ghost use Rattle.held.specs.Ready.{Ready};
+ghost use Rattle.held.specs.Ready.{Ready, Value};
 ghost use Rattle.neighbourhood.specs.Parts.{neighbourhoodValue, neighbourhoodVariable};
 use bounded::has16;
 use bounded::has32;
 use bounded::without32;
-use cover::covers;
+use problem::Break;
 use problem::Next;
 use problem::Record;
 use problem::is_step;
+use problem::unbroken;
+
+// Where the cover of value b of i by value a breaks first, at the other variables.
+pub fn first_break(t: &[u16], active: u32, on: &[u16; 32], i: usize, b: usize, a: usize) -> Break
+    requires { ⌜ Ready (now t) (sets active (now on)) × Value (now t) i a × Value (now t) i b ⌝ }
+    ensures { λ r. ⌜ r ≡ firstBreakAt (held (now (t .entry))) (stateOf (sets active (now (on .entry)))) i b a ⌝ }
+{
+    cover::first_break(t, active, on, without32(active, i), i, a, i, b)
+}
 
 // Values a and b of i differ and are in its domain, and a covers b at every other item.
 pub fn neighbourhood(t: &[u16], active: u32, on: &[u16; 32], i: usize, b: usize, a: usize) -> bool
@@ -23,7 +32,7 @@ pub fn neighbourhood(t: &[u16], active: u32, on: &[u16; 32], i: usize, b: usize,
 {
     let domain = on[i];
     if has16(domain, b) & (has16(domain, a) & (a != b)) {
-        covers(t, active, on, without32(active, i), i, a, i, b)
+        unbroken(first_break(t, active, on, i, b, a))
     } else {
         false
     }

@@ -92,6 +92,10 @@ row-only P i j a x l h = mask-is 16 x (P .allowed i a j) l h
 pub row-none : (P : Problem) (i j a : ℕ) → ((c : ℕ) → P .allowed i a j c ≡ false) → 0 ≡ rowWord P i j a
 row-none P i j a h = row-only P i j a 0 (omega arith) (λ c l. bit-none c ∙ sym (h c))
 
+pub row-lt : (P : Problem) (i j a : ℕ) → rowWord P i j a < 2 ^ 16
+unfolding rowWord
+row-lt P i j a = mask-lt 16 (P .allowed i a j)
+
 module _ {P : Problem} (B : Bounded P) (i j a : ℕ) where
   -- "In a row, the bit worth 2^c is set when setting c of j is allowed", and at no other c
   pub row-word : (c : ℕ) → bit (rowWord P i j a) c ≡ P .allowed i a j c

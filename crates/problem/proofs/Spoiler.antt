@@ -96,7 +96,7 @@ module _ (P : Problem) (s : State) where
   BreakSays i b a Nowhere = (l : ℕ) → Active s l → l ≢ i → Substitutes P s i a i b l
 
 module _ {P : Problem} {s : State} (F : Fits P s) where
-  breaks-iff : (i b a l : ℕ) → T (breaks P s i b a l) ↔ Breaks P s i b a l
+  pub breaks-iff : (i b a l : ℕ) → T (breaks P s i b a l) ↔ Breaks P s i b a l
   unfolding breaks
   breaks-iff i b a l = simp (and-iff, not-iff, eqb-iff, unspoilt-iff F) Iff·rfl
 

@@ -15,13 +15,14 @@ use bounded::has16;
 use bounded::has32;
 use bounded::without32;
 use cover::all_served;
-use cover::covers;
+use cover::first_break;
 use cover::third_set;
 use held::pair_allowed;
 use held::row;
 use problem::Next;
 use problem::Record;
 use problem::is_step;
+use problem::unbroken;
 
 // Value w2 of j may take the place of w where i has v: it is allowed with v and covers w at every item other than i and j.
 pub fn snake_serves(
@@ -38,7 +39,8 @@ pub fn snake_serves(
     ensures { λ r. ⌜ r ≡ snakeServes (held (now (t .entry))) (stateOf (sets active (now (on .entry)))) i v j w w2 ⌝ }
 {
     if pair_allowed(t, i, v, j, w2) {
-        covers(t, active, on, third_set(active, i, j), j, w2, j, w)
+        let rest = third_set(active, i, j);
+        unbroken(first_break(t, active, on, rest, j, w2, j, w))
     } else {
         false
     }

@@ -15,7 +15,7 @@ ghost use Rattle.cover.specs.Words.{thirds};
 ghost use Rattle.triangle.specs.Parts.{foldAt, triangleVariable};
 use bounded::has16;
 use bounded::has32;
-use cover::covers;
+use cover::first_break;
 use cover::served;
 use cover::third_set;
 use held::pair_allowed;
@@ -23,6 +23,7 @@ use held::row;
 use problem::Next;
 use problem::Record;
 use problem::is_step;
+use problem::unbroken;
 
 // Value u of i is allowed with value v of j, and covers it at every item other than i and j.
 pub fn triangle_serves(
@@ -38,7 +39,8 @@ pub fn triangle_serves(
     ensures { λ r. ⌜ r ≡ triangleServes (held (now (t .entry))) (stateOf (sets active (now (on .entry)))) i j v u ⌝ }
 {
     if pair_allowed(t, i, u, j, v) {
-        covers(t, active, on, third_set(active, i, j), i, u, j, v)
+        let rest = third_set(active, i, j);
+        unbroken(first_break(t, active, on, rest, i, u, j, v))
     } else {
         false
     }

@@ -3,7 +3,7 @@ use mathlib.Core.Path.{sym, _∙_}
 use Rattle.problem.specs.Problem.{neighbourhood}
 use Rattle.problem.specs.Masks.{stateOf}
 use Rattle.held.proofs.Laws.{bit-value}
-use Rattle.cover.proofs.Laws.{cover-word, others-out}
+use Rattle.cover.proofs.Laws.{cover-word, break-word}
 use Rattle.bounded.proofs.Guard.{guard, guard-met, guard-left}
 use borrow.Author.Needs.{needs}
 use Rattle.neighbourhood.proofs.neighbourhood.Statement.{statement}
@@ -21,26 +21,23 @@ has16-requires c κs = search needs
 has16-requires-2 : tie.Need-has16-requires-2
 has16-requires-2 c κs = search needs
 
-without32-requires : tie.Need-without32-requires
-without32-requires c κs = search needs
-
-covers-requires : tie.Need-covers-requires
-covers-requires c κs =
-    let p = c .before .before .before .before .before .before .pre in
-    let h = guard (c .before .before .before .has16 .result) (c .before .before .has162 .result) (c .before .before .before .before .before .before .args .a) (c .before .before .before .before .before .before .args .b) (c .before .if1 .taken) in
-    let o = others-out (c .before .before .before .before .before .before .args .active) _ (p .1) in (
+first-break-requires : tie.Need-first-break-requires
+first-break-requires c κs =
+    let p = c .before .before .before .before .before .pre in
+    let h = guard (c .before .before .has16 .result) (c .before .has162 .result) (c .before .before .before .before .before .args .a) (c .before .before .before .before .before .args .b) (c .if1 .taken) in (
       p .0,
-      bit-value (p .0) _ _ (sym (c .before .before .has162 .ensures) ∙ h .1),
-      bit-value (p .0) _ _ (sym (c .before .before .before .has16 .ensures) ∙ h .0),
-      rw (c .without32 .ensures) o,
-      rw (c .without32 .ensures) o,
+      bit-value (p .0) _ _ (sym (c .before .has162 .ensures) ∙ h .1),
+      bit-value (p .0) _ _ (sym (c .before .before .has16 .ensures) ∙ h .0),
     )
+
+unbroken-requires : tie.Need-unbroken-requires
+unbroken-requires c κs = search needs
 
 returns : tie.Need-returns
 unfolding neighbourhood stateOf
 returns c =
     let p = c .before .before .before .before .before .before .before .pre in
-    rw (c .covers .ensures, c .before .without32 .ensures)
+    rw (c .unbroken .ensures, c .before .first-break .ensures, ← break-word (p .0) _ _ _ (p .1))
     (cover-word (p .0) _ _ _ _ _ (p .1) ∙ sym (guard-met _ _ (c .before .before .before .before .has16 .ensures) (c .before .before .before .has162 .ensures) (c .before .before .if1 .taken)))
 
 returns-2 : tie.Need-returns-2
@@ -55,7 +52,7 @@ neighbourhood-spec =
     element-copy-out-domain
     has16-requires
     has16-requires-2
-    without32-requires
-    covers-requires
+    first-break-requires
+    unbroken-requires
     returns
     returns-2)
