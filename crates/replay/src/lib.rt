@@ -121,6 +121,14 @@ fn lawful(t: &[u16], active: u32, on: &[u16; 32], r: Record) -> bool
     }
 }
 
+// The state after a lawful record.
+pub fn after_lawful(t: &[u16], m: Masks, r: Record) -> Masks
+    requires { ⌜ Ready (now t) m × T (lawfulAt (held (now t)) (stateOf m) r) ⌝ }
+    ensures { λ x. ⌜ x ≡ masksOf (after (held (now (t .entry))) (stateOf m) r) ⌝ }
+{
+    steps::apply(t, m, r)
+}
+
 // ---- what is named of a record that is not lawful
 
 // All that kind 4 asks but the cover.
@@ -167,14 +175,6 @@ fn broken_cover(t: &[u16], active: u32, on: &[u16; 32], r: Record) -> Break
         Record::Neighbourhood(i, b, a) => broken_neighbourhood(t, active, on, i, b, a),
         Record::SnakeSubstitution(_, _, _) => Break::Nowhere,
     }
-}
-
-// The state after a lawful record.
-pub fn after_lawful(t: &[u16], m: Masks, r: Record) -> Masks
-    requires { ⌜ Ready (now t) m × T (lawfulAt (held (now t)) (stateOf m) r) ⌝ }
-    ensures { λ x. ⌜ x ≡ masksOf (after (held (now (t .entry))) (stateOf m) r) ⌝ }
-{
-    steps::apply(t, m, r)
 }
 
 // ---- the trace
