@@ -21,7 +21,7 @@ use Rattle.problem.specs.declared.Masks.{Masks}
 use Rattle.problem.specs.declared.Cover.{Cover}
 use Rattle.problem.specs.declared.Cover.the-variants.{Spoilt, Holds}
 use Rattle.problem.specs.declared.Break.{Break}
-use Rattle.problem.specs.declared.Break.the-variants.{At, Nowhere}
+use Rattle.problem.specs.declared.Break.the-variants.{Nowhere}
 use Rattle.problem.proofs.Reflect.{Fits, allOther-iff, allThird-iff, Substitutes, spoils-iff, unspoilt-iff}
 use Rattle.problem.proofs.Spoiler.{breaks-iff}
 use Rattle.problem.proofs.HeldTable.{row-lt}

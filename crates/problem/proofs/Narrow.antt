@@ -1,12 +1,12 @@
 -- The format's slide keeps i among the items where e covers d. Wherever it holds a cover holds, and a cover is looked for before it:
 -- a run takes no slide. Assumes nothing.
 use mathlib.Core.Path.{_≡_, refl, sym, subst, _∙_}
-use mathlib.Core.Bool.{Bool, true, false, not}
+use mathlib.Core.Bool.{Bool, true, false}
 use mathlib.Core.List.{List, _∷_, _++_}
-use mathlib.Core.Logic.{_⊎_, inl, inr, _≢_}
+use mathlib.Core.Logic.{_⊎_, inl, inr}
 use Prim.Native.Nat.{ℕ, zero, suc, _<_, _≤_}
 use native.Mathlib.Omega.{arith}
-use lib.Dec.{T, eqb}
+use lib.Dec.{T}
 use Rattle.bounded.proofs.Truth.{lt-dec}
 use Rattle.problem.specs.Problem.{Problem, State, noneEmpty, unsupported, snake, triangle, neighbourhood, snakeSubstitution, firstBreak}
 use Rattle.problem.specs.Reduce.{holds, kindOf, nextUnsupported, nextSnake, nextTriangle, nextNeighbourhood, kindBound, nextOfKind, next, run}

@@ -8,7 +8,8 @@ use Rattle.bounded.specs.Bounded.{imp, anyBelow, lowest, atLowest}
 use Rattle.bounded.proofs.Truth.{T-dec, and-iff, imp-iff, imp-fails, not-iff, eqb-iff, ltb-iff}
 use Rattle.bounded.proofs.Bounded.{all-iff, any-iff, all-or, lowest-is}
 use Rattle.problem.specs.Problem.{Problem, State, full, maxVariables, maxValues, allActive, allLive, anyLive, lowestLive, allOther, allThird, stateFits, noneEmpty, unspoilt, spoils, spoiler, unsupported, snakeServes, snake, triangleServes, triangle, neighbourhood, slideServes, snakeSubstitution, remove, eliminate}
-use Rattle.problem.specs.declared.Cover.the-variants.{Spoilt, Holds}
+use Rattle.problem.specs.declared.Cover.{Cover}
+use Rattle.problem.specs.declared.Cover.the-variants.{Holds}
 use Rattle.problem.specs.Manual.{supported, arcConsistent, finished}
 
 abbrev pub Active : State → ℕ → Type 0
@@ -136,18 +137,23 @@ module _ (P : Problem) (s : State) where
   abbrev pub NoneEmpty : Type 0
   NoneEmpty = (i : ℕ) → Active s i → (a : ℕ) × Live s i a
 
+-- whatever setting is answered, it says that the cover does not hold
+unspoilt-at : (n : ℕ) (f : ℕ → Bool) (g : ℕ → Cover) → ((c : ℕ) → unspoilt (g c) ≡ false) → unspoilt (atLowest n f g Holds) ≡ not (anyBelow n f)
+unfolding atLowest
+unspoilt-at n f g h = go (anyBelow n f)
+  where
+    go : (x : Bool) → unspoilt (elim x [ true ↦ g (lowest n f) | false ↦ Holds ]) ≡ not x
+    go true = h (lowest n f)
+    go false = refl
+
 module _ (P : Problem) (s : State) where
   pub spoils-iff : (i a j b l c : ℕ) → T (spoils P s i a j b l c) ↔ Spoils P s i a j b l c
   unfolding spoils
   spoils-iff i a j b l c = simp (and-iff, not-iff) Iff·rfl
 
   unspoilt-any : (i a j b l : ℕ) → unspoilt (spoiler P s i a j b l) ≡ not (anyBelow (P .size l) (spoils P s i a j b l))
-  unfolding spoiler atLowest
-  unspoilt-any i a j b l = go (anyBelow (P .size l) (spoils P s i a j b l))
-    where
-      go : (x : Bool) → unspoilt (elim x [ true ↦ Spoilt (lowest (P .size l) (spoils P s i a j b l)) | false ↦ Holds ]) ≡ not x
-      go true = refl
-      go false = refl
+  unfolding spoiler
+  unspoilt-any i a j b l = unspoilt-at (P .size l) (spoils P s i a j b l) _ (λ c. refl)
 
   -- the cover test's answer read as yes or no
   pub unspoilt-none : (i a j b l : ℕ) → T (unspoilt (spoiler P s i a j b l)) ↔ ((c : ℕ) → c < P .size l → Spoils P s i a j b l c → ⊥)

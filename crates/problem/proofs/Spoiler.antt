@@ -1,7 +1,7 @@
 -- The cover test: its answer is the lowest setting that spoils the cover, or that there is none, and every rule means what it meant while
 -- the test said yes or no. And what is named of a record that is not lawful: where its cover breaks. Assumes nothing.
-use mathlib.Core.Path.{_≡_, refl, sym, ap, subst, _∙_}
-use mathlib.Core.Bool.{Bool, true, false, not, _&&_}
+use mathlib.Core.Path.{_≡_, refl, ap, _∙_}
+use mathlib.Core.Bool.{Bool, not, _&&_}
 use mathlib.Core.Logic.{_⊎_, inl, inr, ⊎-elim, _≢_, _↔_, Iff·rfl}
 use Prim.Native.Nat.{ℕ, _<_}
 use lib.Dec.{T, eqb}

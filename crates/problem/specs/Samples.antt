@@ -7,13 +7,17 @@ use Prim.Native.Nat.{ℕ, zero, suc}
 use lib.Dec.{eqb, leb}
 use lib.ListN.{getD, length}
 use Rattle.bounded.specs.Table.{tab}
-use Rattle.problem.specs.Problem.{Problem, State, bothWays, both-ways-symmetric, full}
-use Rattle.problem.specs.Reduce.{lawfulTrace, afterTrace, run, endOf}
+use Rattle.problem.specs.Problem.{Problem, State, bothWays, both-ways-symmetric, full, spoiler}
+use Rattle.problem.specs.Reduce.{brokenCover, lawfulTrace, afterTrace, run, endOf}
 use Rattle.problem.specs.Manual.{start, call}
 use Rattle.problem.specs.Extend.{undoTrace}
 use Rattle.problem.specs.Solutions.{solutionCount}
 use Rattle.problem.specs.declared.Record.{Record}
 use Rattle.problem.specs.declared.Record.the-variants.{Unsupported, Snake, Triangle, Neighbourhood, SnakeSubstitution}
+use Rattle.problem.specs.declared.Cover.{Cover}
+use Rattle.problem.specs.declared.Cover.the-variants.{Spoilt, Holds}
+use Rattle.problem.specs.declared.Break.{Break}
+use Rattle.problem.specs.declared.Break.the-variants.{At, Nowhere}
 use Rattle.problem.specs.declared.End.{End}
 use Rattle.problem.specs.declared.End.the-variants.{Impossible, Solved, Rest}
 use Rattle.problem.specs.declared.Call.{Call}
@@ -70,6 +74,10 @@ pub data Claim : Type 0 where
   Runs : List Record → End → Claim
   -- whether the trace is lawful from the full state
   Follows : List Record → Bool → Claim
+  -- the cover test at l in the full state, of a of i in the place of b of j
+  Tests : (i a j b l : ℕ) → Cover → Claim
+  -- what is named of a record after the trace
+  Named : List Record → Record → Break → Claim
   -- how many solutions are left after the trace
   Plans : List Record → ℕ → Claim
   -- the plan put back by undoing the trace
@@ -95,6 +103,8 @@ liveAt P s = tab (P .n) (λ i. passing (P .size i) 0 (s .live i))
 abbrev pub Meets : Problem → Claim → Type 0
 Meets P (Runs t e) = (run P (full P) ≡ t) × (endOf P (afterTrace P (full P) t) ≡ e)
 Meets P (Follows t b) = lawfulTrace P (full P) t ≡ b
+Meets P (Tests i a j b l x) = spoiler P (full P) i a j b l ≡ x
+Meets P (Named t r x) = brokenCover P (afterTrace P (full P) t) r ≡ x
 Meets P (Plans t k) = solutionCount P (afterTrace P (full P) t) ≡ k
 Meets P (Undone t p q) = listed (P .n) (undoTrace P (full P) t (λ i. getD p i 0)) ≡ q
 Meets P (Left t l) = liveAt P (afterTrace P (full P) t) ≡ l
@@ -130,18 +140,31 @@ rows =
     -- C: no step, and no plan; no setting covers itself
     ∷ record {
       sheet = problem (2 ∷ 2 ∷ 2 ∷ []) unequal;
-      claims = Runs [] Rest ∷ Plans [] 0 ∷ Follows (Neighbourhood 0 0 0 ∷ []) false ∷ ByHand 0 NoSnake ∷ ByHand 3 NotActive ∷ [];
+      claims =
+          Runs [] Rest ∷ Plans [] 0 ∷ Follows (Neighbourhood 0 0 0 ∷ []) false ∷ ByHand 0 NoSnake ∷ ByHand 3 NotActive
+          ∷ Named [] (Neighbourhood 0 0 1) (At 1 1)
+          ∷ Named [] (Neighbourhood 2 0 1) (At 0 1)
+          ∷ Named [] (Neighbourhood 0 0 0) Nowhere
+          ∷ Named [] (Neighbourhood 0 2 1) Nowhere
+          ∷ Named [] (Neighbourhood 3 0 1) Nowhere
+          ∷ Named [] (Snake 0 0) Nowhere
+          ∷ [];
     }
     -- D
     ∷ record { sheet = problem (1 ∷ 1 ∷ []) barred; claims = Runs (Unsupported 0 0 1 ∷ []) Impossible ∷ ByHand 0 Emptied ∷ FromFull 0 NoSnake ∷ [] }
     -- E: taking an item out can raise the number of plans
     ∷ record { sheet = problem (2 ∷ 2 ∷ 2 ∷ 2 ∷ []) star; claims = Plans [] 2 ∷ Plans (Snake 0 0 ∷ []) 8 ∷ [] }
-    -- F: setting 0 does not serve in the first step
+    -- F: setting 0 does not serve in the first step; of two settings that spoil a cover the lower is answered, and an item out breaks none
     ∷ record {
       sheet = problem (3 ∷ 3 ∷ 3 ∷ []) stairs;
       claims =
           Runs (Snake 0 1 ∷ Snake 1 0 ∷ Snake 2 0 ∷ []) Solved ∷ Follows (Snake 0 0 ∷ []) false
           ∷ Undone (Snake 0 1 ∷ Snake 1 0 ∷ Snake 2 0 ∷ []) (255 ∷ 255 ∷ 255 ∷ []) (1 ∷ 0 ∷ 0 ∷ [])
+          ∷ Tests 0 1 0 0 1 (Spoilt 1)
+          ∷ Tests 1 0 1 2 2 (Spoilt 1)
+          ∷ Tests 1 2 1 0 2 Holds
+          ∷ Named [] (Neighbourhood 1 2 0) (At 0 0)
+          ∷ Named (Snake 0 1 ∷ []) (Neighbourhood 1 2 0) (At 2 1)
           ∷ [];
     }
     -- G

@@ -1,6 +1,5 @@
 -- `bounded::lowest16`: the zeros below the lowest member. Assumes nothing.
 use lib.Count.{trailing-le}
-use native.Mathlib.Omega.{arith}
 use Rattle.bounded.proofs.Mask.{zeros-lowest}
 use Rattle.bounded.proofs.lowest16.Statement.{statement}
 use Rattle.bounded.proofs.lowest16.Tie as tie

@@ -1,5 +1,5 @@
 -- `cover::first_break`: a loop over the variables of the set. Assumes nothing.
-use Prim.Native.Nat.{ℕ, _≤_, _-_}
+use Prim.Native.Nat.{_≤_, _-_}
 use mathlib.Core.Path.{_≡_, sym, ap, _∙_}
 use mathlib.Core.Bool.{Bool, false, not}
 use native.Mathlib.Omega.{arith}

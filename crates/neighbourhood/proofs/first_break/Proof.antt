@@ -1,6 +1,5 @@
 -- `neighbourhood::first_break`: the other variables. Assumes nothing.
 use Rattle.cover.proofs.Laws.{break-word, others-out}
-use borrow.Author.Needs.{needs}
 use Rattle.neighbourhood.proofs.first_break.Statement.{statement}
 use Rattle.neighbourhood.proofs.first_break.Tie as tie
 
