@@ -44,11 +44,11 @@ pub record UnlawfulRecord (P : Problem) (t : List ℕ) (k l c : ℕ) : Type 0 wh
   -- "the record's number, from 0": so many are before it
   pub number : length before ≡ k
   -- an item is named "for a kind 4 record with i in, a and b different and on, and no item in left without a setting", and for nothing else
-  pub item : (l ≢ 255) ↔ CoverAlone P (reached P before) at
+  pub item-named : (l ≢ 255) ↔ CoverAlone P (reached P before) at
   -- and so is a setting
-  pub setting : (c ≢ 255) ↔ CoverAlone P (reached P before) at
+  pub setting-named : (c ≢ 255) ↔ CoverAlone P (reached P before) at
   -- "the lowest item where the cover breaks and the lowest setting that spoils it there"
-  pub named : CoverAlone P (reached P before) at → BreaksAt P (reached P before) at l c
+  pub broken : CoverAlone P (reached P before) at → BreaksAt P (reached P before) at l c
   -- "for every other cause both are 255"
   pub others : (CoverAlone P (reached P before) at → ⊥) → (l ≡ 255) × (c ≡ 255)
   -- the record's number has room in two bytes, item and setting in one each
@@ -73,9 +73,9 @@ module _ {P : Problem} (B : Bounded P) where
         lawfully = h;
         unlawful = n;
         number = m;
-        item = (λ d. asked x (λ y. d (y .0)), λ C. let z = below u r l c (breaks x C) .0 in λ f. omega arith);
-        setting = (λ d. asked x (λ y. d (y .1)), λ C. let z = below u r l c (breaks x C) .1 in λ f. omega arith);
-        named = breaks x;
+        item-named = (λ d. asked x (λ y. d (y .0)), λ C. let z = below u r l c (breaks x C) .0 in λ f. omega arith);
+        setting-named = (λ d. asked x (λ y. d (y .1)), λ C. let z = below u r l c (breaks x C) .1 in λ f. omega arith);
+        broken = breaks x;
         others = λ d. none x d;
         small = (omega (arith, m, trace-short P u h, sizes-most P B), within x .0, within x .1);
       }
