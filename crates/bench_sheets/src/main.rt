@@ -8,6 +8,7 @@ ghost use lib.ListN.{length};
 ghost use Rattle.io.specs.Counts.{Counts};
 use jobs::CallAnswer;
 use jobs::CallOutcome;
+use jobs::ExtendRefusal;
 use jobs::Extended;
 use jobs::ManualState;
 use jobs::ReduceOutcome;
@@ -151,10 +152,32 @@ fn back_part(s: &[u8], trace: &[u8], plan: &[u8], out: &mut [u8]) {
     show_back(a, out);
 }
 
+// What a refusal carries, behind its number: of an unlawful record its number, the item and the setting.
+fn show_carried(r: ExtendRefusal) {
+    match r {
+        ExtendRefusal::Unlawful {
+            record,
+            variable,
+            value,
+        } => {
+            cases::show_number(b" ", record);
+            cases::show_number(b" ", variable);
+            cases::show_number(b" ", value);
+        }
+        ExtendRefusal::Sheet(_) => {}
+        ExtendRefusal::PlanLength => {}
+        ExtendRefusal::ResultLength => {}
+        ExtendRefusal::TraceFront => {}
+        ExtendRefusal::Malformed => {}
+        ExtendRefusal::Plan => {}
+    }
+}
+
 fn show_back(a: Extended, out: &[u8]) {
     match a {
         Extended::Refused(r) => {
             cases::show_number(b"refused ", jobs::extend_number(r) as usize);
+            show_carried(r);
         }
         Extended::Done => {
             cases::show(b"done");

@@ -1,5 +1,5 @@
--- What an exported function's number tells: a refusal is a number from 1 to 255 and leaves every buffer as it was, everything else is a
--- multiple of 256 from which its parts come back. Stated over the definitions that the contracts cite. Assumes nothing.
+-- What an exported function's number tells: its low byte is the number of a refusal, from 1 to 255, and then every buffer is as it was, or 0,
+-- and then its parts come back; so does what 17 carries. Stated over the definitions that the contracts cite. Assumes nothing.
 use mathlib.Core.Path.{_≡_, refl, sym, ap, _∙_, subst}
 use mathlib.Core.List.{List}
 use mathlib.Core.Logic.{_⊎_, inl, inr, _≢_, _↔_}
@@ -14,7 +14,7 @@ use Rattle.sheet.specs.declared.SheetRefusal.{SheetRefusal}
 use Rattle.sheet.specs.declared.SheetRead.{SheetRead}
 use Rattle.sheet.specs.declared.SheetRead.the-variants as read
 use Rattle.sheet.proofs.Refusals.{sheet-number}
-use Rattle.jobs.specs.Numbers.{reduceNumber, manualNumber, extendNumber, endNumber}
+use Rattle.jobs.specs.Numbers.{reduceNumber, manualNumber, extendNumber, putBackNumber, endNumber}
 use Rattle.jobs.specs.Run.{runJob}
 use Rattle.jobs.specs.Hand.{startJob, callJob}
 use Rattle.jobs.specs.PutBack.{putBackJob}
@@ -34,8 +34,8 @@ use Rattle.jobs.specs.declared.Extended.{Extended}
 use Rattle.jobs.specs.declared.Extended.the-variants as back
 use Rattle.jobs.proofs.Unaltered.{run-unaltered, put-back-unaltered}
 use Rattle.boundary.specs.State.{stateLength, handStateLength, handIn}
-use Rattle.boundary.specs.Calls.{badState, badHandState, readNumber, readCall, RunCall, runCall, HandCall, startCall, handCall, PutBackCall, putBackCall}
-use Rattle.boundary.proofs.Small.{read-small, run-small, call-small}
+use Rattle.boundary.specs.Calls.{badState, badHandState, readNumber, readCall, RunCall, runCall, HandCall, startCall, handCall, PutBackCall, backNumber, putBackCall}
+use Rattle.boundary.proofs.Small.{read-small, run-small, call-small, back-small}
 use Rattle.boundary.proofs.Calls.{run-bad, run-says, start-bad, start-says, hand-bad, hand-says, back-says}
 
 -- ---- numbers of refusals
@@ -68,7 +68,7 @@ extend-listed extend.PlanLength = (omega arith, omega arith)
 extend-listed extend.ResultLength = (omega arith, omega arith)
 extend-listed extend.TraceFront = (omega arith, omega arith)
 extend-listed extend.Malformed = (omega arith, omega arith)
-extend-listed extend.Unlawful = (omega arith, omega arith)
+extend-listed (extend.Unlawful k l c) = (omega arith, omega arith)
 extend-listed extend.Plan = (omega arith, omega arith)
 
 -- an end's number fits its bits
@@ -296,28 +296,64 @@ module _ (s t p b : List ℕ) where
   abbrev BackKept : Type 0
   BackKept = (putBackCall s t p b) .result ≡ b
 
-  back-either : BackTaken ⊎ (Refuses ((putBackCall s t p b) .answer) × BackKept)
+  back-says-of : (o : Extended) → (putBackJob s t p b) .answer ≡ o → (putBackCall s t p b) .answer ≡ backNumber o
+  back-says-of o e = sym (ap (λ (y : PutBackCall). y .answer) (back-says s t p b _ _ refl refl o e))
+
+  -- the low byte is the refusal's number, 0 where there is none
+  pub put-back-number : (putBackCall s t p b) .answer % 256 ≡ putBackNumber ((putBackJob s t p b) .answer)
+  put-back-number = go ((putBackJob s t p b) .answer) refl
+    where
+      go : (o : Extended) → (putBackJob s t p b) .answer ≡ o → (putBackCall s t p b) .answer % 256 ≡ putBackNumber o
+      go back.Done e = let q = back-says-of back.Done e in omega arith
+      go (back.Refused r) e = let q = back-says-of (back.Refused r) e in let f = extend-listed r in omega arith
+
+  -- 17: the record's number, the item and the setting come back
+  pub unlawful-unpacked : (k l c : ℕ) → (putBackJob s t p b) .answer ≡ back.Refused (extend.Unlawful k l c)
+      → ((putBackCall s t p b) .answer % 256 ≡ 17) × ((putBackCall s t p b) .answer / 256 % 65536 ≡ k) × ((putBackCall s t p b) .answer / 16777216 % 256 ≡ l)
+      × ((putBackCall s t p b) .answer / 4294967296 ≡ c)
+  unlawful-unpacked k l c e =
+      let q = back-says-of (back.Refused (extend.Unlawful k l c)) e in
+      let f = back-small s t p b (extend.Unlawful k l c) e in
+      (omega arith, omega arith, omega arith, omega arith)
+
+  -- every other answer has nothing above its low byte
+  pub put-back-plain : (putBackCall s t p b) .answer % 256 ≢ 17 → (putBackCall s t p b) .answer ≡ (putBackCall s t p b) .answer % 256
+  put-back-plain d = go ((putBackJob s t p b) .answer) refl
+    where
+      bare : (o : Extended) → (putBackJob s t p b) .answer ≡ o → backNumber o ≡ putBackNumber o → (putBackCall s t p b) .answer ≡ (putBackCall s t p b) .answer % 256
+      bare o e f = back-says-of o e ∙ f ∙ ap putBackNumber (sym e) ∙ sym put-back-number
+
+      go : (o : Extended) → (putBackJob s t p b) .answer ≡ o → (putBackCall s t p b) .answer ≡ (putBackCall s t p b) .answer % 256
+      go back.Done e = bare back.Done e refl
+      go (back.Refused (extend.Unlawful k l c)) e = absurd (d (unlawful-unpacked k l c e .0))
+      go (back.Refused (extend.Sheet r)) e = bare (back.Refused (extend.Sheet r)) e (omega arith)
+      go (back.Refused extend.PlanLength) e = bare (back.Refused extend.PlanLength) e (omega arith)
+      go (back.Refused extend.ResultLength) e = bare (back.Refused extend.ResultLength) e (omega arith)
+      go (back.Refused extend.TraceFront) e = bare (back.Refused extend.TraceFront) e (omega arith)
+      go (back.Refused extend.Malformed) e = bare (back.Refused extend.Malformed) e (omega arith)
+      go (back.Refused extend.Plan) e = bare (back.Refused extend.Plan) e (omega arith)
+
+  back-either : BackTaken ⊎ (Refuses ((putBackCall s t p b) .answer % 256) × BackKept)
   back-either = go ((putBackJob s t p b) .answer) refl
     where
-      go : (o : Extended) → (putBackJob s t p b) .answer ≡ o → BackTaken ⊎ (Refuses ((putBackCall s t p b) .answer) × BackKept)
+      go : (o : Extended) → (putBackJob s t p b) .answer ≡ o → BackTaken ⊎ (Refuses ((putBackCall s t p b) .answer % 256) × BackKept)
       go back.Done o = inl o
       go (back.Refused r) o =
-          let q = sym (back-says s t p b _ _ refl refl _ o) in
-          let n = ap (λ (y : PutBackCall). y .answer) q in
+          let n = put-back-number ∙ ap putBackNumber o in
           let f = extend-listed r in
-          inr ((omega arith, omega arith), ap (λ (y : PutBackCall). y .result) q ∙ put-back-unaltered s t p b r o)
+          inr ((omega arith, omega arith), ap (λ (y : PutBackCall). y .result) (sym (back-says s t p b _ _ refl refl _ o)) ∙ put-back-unaltered s t p b r o)
 
   -- accepted: the answer is 0
   pub put-back-zero : BackTaken → (putBackCall s t p b) .answer ≡ 0
-  put-back-zero x = sym (ap (λ (y : PutBackCall). y .answer) (back-says s t p b _ _ refl refl _ x))
+  put-back-zero x = back-says-of back.Done x
 
-  back-even : BackTaken → (putBackCall s t p b) .answer % 256 ≡ 0
+  back-even : BackTaken → (putBackCall s t p b) .answer % 256 % 256 ≡ 0
   back-even x = let z = put-back-zero x in omega arith
 
   -- refused: the buffer is as it was
   pub put-back-refused-keeps : (putBackCall s t p b) .answer % 256 ≢ 0 → (putBackCall s t p b) .result ≡ b
-  put-back-refused-keeps = refused-keeps BackTaken BackKept _ back-either back-even
+  put-back-refused-keeps d = refused-keeps BackTaken BackKept _ back-either back-even (λ e. d (omega arith))
 
   -- the remainder is 0 exactly where the call is accepted
   pub put-back-taken : ((putBackCall s t p b) .answer % 256 ≡ 0) ↔ BackTaken
-  put-back-taken = taken-iff BackTaken BackKept _ back-either back-even
+  put-back-taken = (λ z. taken-iff BackTaken BackKept _ back-either back-even .0 (omega arith), λ x. let z = put-back-zero x in omega arith)

@@ -5,7 +5,6 @@ use Prim.Native.Nat.{ℕ}
 use lib.ListN.{length}
 use borrow.Author.Tests.{eq-eqb, ne-eqb}
 use Rattle.problem.specs.declared.Masks.{Masks}
-use Rattle.jobs.specs.Numbers.{putBackNumber}
 use Rattle.jobs.specs.Run.{runJob}
 use Rattle.jobs.specs.Hand.{startJob, callJob}
 use Rattle.jobs.specs.PutBack.{putBackJob}
@@ -17,7 +16,7 @@ use Rattle.jobs.specs.declared.CallAnswer.{CallAnswer}
 use Rattle.jobs.specs.declared.CallOutcome.{CallOutcome}
 use Rattle.jobs.specs.declared.Extended.{Extended}
 use Rattle.boundary.specs.State.{stateLength, handStateLength, masksIn, handIn}
-use Rattle.boundary.specs.Calls.{badState, badHandState, runCrossed, runCall, startCrossed, startCall, calledCrossed, handCall, putBackCall}
+use Rattle.boundary.specs.Calls.{badState, badHandState, runCrossed, runCall, startCrossed, startCall, calledCrossed, handCall, backNumber, putBackCall}
 
 -- ---- the run
 
@@ -70,6 +69,6 @@ module _ (s b : List ℕ) where
 -- ---- putting back
 
 pub back-says : (s t p b : List ℕ) (x : Extended) (w : List ℕ) → x ≡ (putBackJob s t p b) .answer → w ≡ (putBackJob s t p b) .result
-    → (o : Extended) → x ≡ o → record { answer = putBackNumber o; result = w } ≡ putBackCall s t p b
+    → (o : Extended) → x ≡ o → record { answer = backNumber o; result = w } ≡ putBackCall s t p b
 unfolding putBackCall
-back-says s t p b x w a f o q = λ j. record { answer = putBackNumber ((sym q ∙ a) j); result = f j }
+back-says s t p b x w a f o q = λ j. record { answer = backNumber ((sym q ∙ a) j); result = f j }

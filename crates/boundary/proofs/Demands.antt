@@ -37,19 +37,21 @@ use Rattle.jobs.specs.declared.StartOutcome.the-variants as started
 use Rattle.jobs.specs.declared.CallOutcome.{CallOutcome}
 use Rattle.jobs.specs.declared.CallOutcome.the-variants as called
 use Rattle.jobs.specs.declared.Extended.the-variants as back
+use Rattle.jobs.specs.declared.ExtendRefusal.the-variants as refusal
 use Rattle.jobs.proofs.Opened.{variables-of}
 use Rattle.jobs.proofs.HandOrder.{order-does-not-matter, start-meets}
 use Rattle.jobs.proofs.Ran.{ran-iff, started-iff}
 use Rattle.jobs.proofs.Worked.{Worked, run-worked, run-left}
-use Rattle.extend.proofs.Causes.{BackCause, put-back-iff}
+use Rattle.extend.proofs.Causes.{BackCause, put-back-iff, put-back-17}
 use Rattle.extend.proofs.Demands.{put-back-accepted, put-back-plan, run-put-back}
 use Rattle.extend.proofs.Ends.{impossible-none, solved-fits}
+use Rattle.extend.proofs.Unlawful.{UnlawfulRecord, unlawful-names}
 use Rattle.boundary.specs.State.{stateLength, handStateLength, wordsBytes, masksBytes, masksIn, handBytes, handIn}
 use Rattle.boundary.specs.Calls.{RunCall, runCall, HandCall, startCall, handCall, handCalls, putBackCall}
 use Rattle.boundary.proofs.Small.{run-small}
 use Rattle.boundary.proofs.Calls.{run-says, start-says, hand-says}
 use Rattle.boundary.proofs.Crossing.{state-length, hand-bytes-crossed}
-use Rattle.boundary.proofs.Answers.{run-unpacked, run-taken, put-back-zero, put-back-taken}
+use Rattle.boundary.proofs.Answers.{run-unpacked, run-taken, put-back-number, unlawful-unpacked, put-back-zero, put-back-taken}
 use Rattle.boundary.proofs.States.{run-state, start-state, Held, call-held, call-state}
 
 -- ---- the bytes of a state
@@ -305,6 +307,15 @@ module _ (s t p r : List ℕ) where
   -- "putting back with a fault, and no other, is turned away": a caller tells by the answer
   pub put-back-asked : ((putBackCall s t p r) .answer % 256 ≡ 0) ↔ BackCause s t p r back.Done
   put-back-asked = (λ z. put-back-iff s t p r back.Done .0 (put-back-taken s t p r .0 z), λ x. put-back-taken s t p r .1 (put-back-iff s t p r back.Done .1 x))
+
+  -- "Refusal 17 carries the record's number, from 0": where the low byte is 17, the bits above it say what they should of the trace
+  pub put-back-unlawful : (putBackCall s t p r) .answer % 256 ≡ 17
+      → UnlawfulRecord (problemOf layout s) t ((putBackCall s t p r) .answer / 256 % 65536) ((putBackCall s t p r) .answer / 16777216 % 256) ((putBackCall s t p r) .answer / 4294967296)
+  put-back-unlawful h =
+      let (k, l, c, x) = put-back-17 s t p r .0 (sym (put-back-number s t p r) ∙ h) in
+      let e = put-back-iff s t p r (back.Refused (refusal.Unlawful k l c)) .1 x in
+      let q = unlawful-unpacked s t p r k l c e in
+      rw (q .1, q .2, q .3) (unlawful-names s t p r k l c e .3)
 
   -- "each plan of what is left is put back into a plan of the full sheet, whoever wrote the lawful trace"
   pub lawful-put-back : (u : List Record) → Keeps layout s → length p ≡ variablesOf s → length r ≡ variablesOf s

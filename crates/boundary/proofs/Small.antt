@@ -25,14 +25,20 @@ use Rattle.sheet.specs.declared.SheetRead.the-variants as read
 use Rattle.sheet.proofs.Accepted.{Good, facts, keeps, here, problem-bounded}
 use Rattle.jobs.specs.Hand.{handState, callAnswer, callJob}
 use Rattle.jobs.specs.Run.{runJob}
+use Rattle.jobs.specs.PutBack.{putBackJob}
 use Rattle.jobs.specs.declared.Reduced.{Reduced}
 use Rattle.jobs.specs.declared.ReduceOutcome.the-variants.{Done}
 use Rattle.jobs.specs.declared.ManualState.{ManualState}
 use Rattle.jobs.specs.declared.CallAnswer.{CallAnswer}
 use Rattle.jobs.specs.declared.CallOutcome.the-variants as called
+use Rattle.jobs.specs.declared.Extended.the-variants as back
+use Rattle.jobs.specs.declared.ExtendRefusal.{ExtendRefusal}
+use Rattle.jobs.specs.declared.ExtendRefusal.the-variants as refusal
 use Rattle.jobs.proofs.Opened.{call-refused, call-kept}
 use Rattle.jobs.proofs.Ran.{ran-iff}
 use Rattle.jobs.proofs.Worked.{trace-length}
+use Rattle.extend.proofs.Unlawful.{unlawful-small}
+use Rattle.boundary.specs.Calls.{unlawfulFields, FieldsFit}
 
 -- ---- a sheet's variables and blocks
 
@@ -116,3 +122,24 @@ module _ (s : List ℕ) (st : ManualState) (i : ℕ) (x : CallAnswer) (a : x ≡
       go (read.Refused r) h =
           let q = ap (λ (y : CallAnswer). y .outcome) (a ∙ call-refused s st i r h) in
           let z : _≡_ {A = ℕ} 0 1 = cc in absurd (omega arith)
+
+-- ---- what refused putting back carries
+
+pub back-small : (s t p b : List ℕ) (r : ExtendRefusal) → (putBackJob s t p b) .answer ≡ back.Refused r → FieldsFit r
+back-small s t p b (refusal.Unlawful k l c) e = let x = unlawful-small s t p b k l c e in (omega arith, omega arith, omega arith)
+back-small s t p b (refusal.Sheet r) e = tt
+back-small s t p b refusal.PlanLength e = tt
+back-small s t p b refusal.ResultLength e = tt
+back-small s t p b refusal.TraceFront e = tt
+back-small s t p b refusal.Malformed e = tt
+back-small s t p b refusal.Plan e = tt
+
+-- it has room above the low byte
+pub fields-small : (r : ExtendRefusal) → FieldsFit r → unlawfulFields r < 4294967296
+fields-small (refusal.Unlawful k l c) x = omega arith
+fields-small (refusal.Sheet r) x = omega arith
+fields-small refusal.PlanLength x = omega arith
+fields-small refusal.ResultLength x = omega arith
+fields-small refusal.TraceFront x = omega arith
+fields-small refusal.Malformed x = omega arith
+fields-small refusal.Plan x = omega arith

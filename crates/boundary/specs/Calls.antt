@@ -1,15 +1,16 @@
 -- What each exported function answers, as one number, and what it leaves in the buffers lent to it.
--- A refusal is a number from 1 to 255, and every other answer is a multiple of 256.
+-- The low byte of an answer is the number of the refusal, from 1 to 255, or 0 where there is none. Above it stand the parts of what was done;
+-- of a refusal nothing, but what 17 carries.
 use mathlib.Core.Bool.{true, false}
 use mathlib.Core.List.{List, [], _∷_}
-use Prim.Native.Nat.{ℕ, _+_, _*_}
+use Prim.Native.Nat.{ℕ, _+_, _*_, _<_}
 use lib.Dec.{eqb}
 use lib.ListN.{length}
 use Rattle.problem.specs.declared.Masks.{Masks}
 use Rattle.sheet.specs.Sheet.{layout, readSheet, sheetNumber}
 use Rattle.sheet.specs.declared.SheetRead.{SheetRead}
 use Rattle.sheet.specs.declared.SheetRead.the-variants as read
-use Rattle.jobs.specs.Numbers.{reduceNumber, manualNumber, putBackNumber, endNumber}
+use Rattle.jobs.specs.Numbers.{reduceNumber, manualNumber, extendNumber, endNumber}
 use Rattle.jobs.specs.Run.{runJob}
 use Rattle.jobs.specs.Hand.{startJob, callJob}
 use Rattle.jobs.specs.PutBack.{putBackJob}
@@ -20,6 +21,10 @@ use Rattle.jobs.specs.declared.StartOutcome.{StartOutcome}
 use Rattle.jobs.specs.declared.StartOutcome.the-variants as started
 use Rattle.jobs.specs.declared.CallOutcome.{CallOutcome}
 use Rattle.jobs.specs.declared.CallOutcome.the-variants as called
+use Rattle.jobs.specs.declared.ExtendRefusal.{ExtendRefusal}
+use Rattle.jobs.specs.declared.ExtendRefusal.the-variants as refusal
+use Rattle.jobs.specs.declared.Extended.{Extended}
+use Rattle.jobs.specs.declared.Extended.the-variants as back
 use Rattle.boundary.specs.State.{stateLength, handStateLength, masksBytes, handBytes, handIn}
 
 -- ---- the boundary's own refusals: a state's buffer is not of the state's length
@@ -111,6 +116,31 @@ pub record PutBackCall : Type 0 where
   pub answer : ℕ
   pub result : List ℕ
 
+-- what 17 carries, and it alone: the record's number, the variable and the value
+abbrev pub unlawfulFields : ExtendRefusal → ℕ
+unlawfulFields (refusal.Unlawful k l c) = k + 65536 * (l + 256 * c)
+unlawfulFields (refusal.Sheet r) = 0
+unlawfulFields refusal.PlanLength = 0
+unlawfulFields refusal.ResultLength = 0
+unlawfulFields refusal.TraceFront = 0
+unlawfulFields refusal.Malformed = 0
+unlawfulFields refusal.Plan = 0
+
+-- they have room: two bytes for the record's number, one each for the variable and the value
+abbrev pub FieldsFit : ExtendRefusal → Type 0
+FieldsFit (refusal.Unlawful k l c) = (k < 65536) × (l < 256) × (c < 256)
+FieldsFit (refusal.Sheet r) = Unit {0}
+FieldsFit refusal.PlanLength = Unit {0}
+FieldsFit refusal.ResultLength = Unit {0}
+FieldsFit refusal.TraceFront = Unit {0}
+FieldsFit refusal.Malformed = Unit {0}
+FieldsFit refusal.Plan = Unit {0}
+
+-- bits 0-7 the refusal; of 17, bits 8-23 the record's number, bits 24-31 the variable, bits 32-39 the value
+abbrev pub backNumber : Extended → ℕ
+backNumber back.Done = 0
+backNumber (back.Refused r) = extendNumber r + 256 * unlawfulFields r
+
 -- the sheet s, the trace t, the plan p and the result's buffer b: the buffer is as the job leaves it
 unfoldable pub putBackCall : (s t p b : List ℕ) → PutBackCall
-putBackCall s t p b = record { answer = putBackNumber ((putBackJob s t p b) .answer); result = (putBackJob s t p b) .result }
+putBackCall s t p b = record { answer = backNumber ((putBackJob s t p b) .answer); result = (putBackJob s t p b) .result }

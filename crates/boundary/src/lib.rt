@@ -1,10 +1,14 @@
-// The bytes of a state at the C boundary, and what each exported call answers and leaves, as definitions with their laws.
+// The bytes of a state at the C boundary, the number that refused putting back answers, and what each exported call answers and leaves, as
+// definitions with their laws.
 ghost use mathlib.Core.Path.{_≡_};
 ghost use Prim.Native.Nat.{_+_, _*_, _≤_};
 ghost use lib.ListN.{length};
 ghost use Rattle.sheet.specs.Bytes.{numberAt, numberBytes};
 ghost use Rattle.trace.specs.Written.{written};
+ghost use Rattle.jobs.specs.declared.Extended.the-variants.{Refused};
 ghost use Rattle.boundary.specs.State.{stateLength, masksBytes, masksIn};
+ghost use Rattle.boundary.specs.Calls.{unlawfulFields, FieldsFit, backNumber};
+use jobs::ExtendRefusal;
 use problem::Masks;
 
 // ---- the state's bytes
@@ -67,4 +71,34 @@ pub fn put_state(b: &mut [u8], m: Masks)
         put_word(b, 4 + 2 * i, m.domains[i]);
         i += 1;
     }
+}
+
+// ---- the answer of refused putting back
+
+// The record's number, the variable and the value of an unlawful record.
+fn unlawful_fields(r: ExtendRefusal) -> u64
+    requires { ⌜ FieldsFit r ⌝ }
+    ensures { λ k. ⌜ k ≡ unlawfulFields r ⌝ }
+{
+    match r {
+        ExtendRefusal::Unlawful {
+            record,
+            variable,
+            value,
+        } => record as u64 + 65536 * (variable as u64 + 256 * value as u64),
+        ExtendRefusal::Sheet(_) => 0,
+        ExtendRefusal::PlanLength => 0,
+        ExtendRefusal::ResultLength => 0,
+        ExtendRefusal::TraceFront => 0,
+        ExtendRefusal::Malformed => 0,
+        ExtendRefusal::Plan => 0,
+    }
+}
+
+// The refusal's number in the low byte, and above it what an unlawful record carries.
+pub fn put_back_answer(r: ExtendRefusal) -> u64
+    requires { ⌜ FieldsFit r ⌝ }
+    ensures { λ k. ⌜ k ≡ backNumber (Refused r) ⌝ }
+{
+    jobs::extend_number(r) as u64 + 256 * unlawful_fields(r)
 }

@@ -29,7 +29,7 @@ use Rattle.jobs.specs.declared.Extended.the-variants.{Done, Refused}
 use Rattle.jobs.specs.declared.ExtendRefusal.the-variants as refusal
 use Rattle.jobs.proofs.Opened.{put-back-plan-length-over, put-back-result-length-over, put-back-checked-over}
 use Rattle.jobs.proofs.SheetCause.{Whose, Sheets, Own, SheetCause, Told, sheet-iff}
-use Rattle.trace.proofs.Causes.{NoRecord, TraceCause, checked-iff}
+use Rattle.trace.proofs.Causes.{NoRecord, Named, TraceCause, checked-iff}
 
 -- ---- the plan
 
@@ -117,11 +117,11 @@ module _ (P : Problem) (t p b : List ℕ) where
   -- 16: after the bytes of lawful records u, bytes that begin with no record's
   BackCauseOver (Refused refusal.Malformed) =
       Sized × ((u : List Record) × (more : List ℕ) × (t ≡ traceBytes u ++ more) × T (lawfulTrace P (full P) u) × NoRecord more)
-  -- 17: after the bytes of lawful records u, those of a record that is not lawful in the state reached
-  BackCauseOver (Refused refusal.Unlawful) =
+  -- 17: after the bytes of k lawful records u, those of a record that is not lawful in the state reached, and of it l and c are named
+  BackCauseOver (Refused (refusal.Unlawful k l c)) =
       Sized
       × ((u : List Record) × (r : Record) × (more : List ℕ) × (t ≡ traceBytes u ++ (recordBytes r ++ more)) × T (lawfulTrace P (full P) u)
-      × (T (lawful P (left u) r) → ⊥))
+      × (T (lawful P (left u) r) → ⊥) × (length u ≡ k) × Named P (left u) r l c)
   -- 19: the trace is lawful, and the plan is not one of what it leaves
   BackCauseOver (Refused refusal.Plan) = Sized × ((u : List Record) × (t ≡ traceBytes u) × T (lawfulTrace P (full P) u) × PlanFault P (left u) p)
   -- accepted: the trace is lawful, and the plan is one of what it leaves
@@ -139,7 +139,7 @@ module _ (P : Problem) (t p b : List ℕ) where
   cause-answers (Refused refusal.ResultLength) (e, d) = ap (λ (y : PutBackResult). y .answer) (put-back-result-length-over P t p b e d)
   cause-answers (Refused refusal.TraceFront) (Z, x) = checks Z (Fault refusal.TraceFront) x
   cause-answers (Refused refusal.Malformed) (Z, x) = checks Z (Fault refusal.Malformed) x
-  cause-answers (Refused refusal.Unlawful) (Z, x) = checks Z (Fault refusal.Unlawful) x
+  cause-answers (Refused (refusal.Unlawful k l c)) (Z, x) = checks Z (Fault (refusal.Unlawful k l c)) x
   cause-answers (Refused refusal.Plan) (Z, (u, e, l, x)) =
       checks Z (Lawful u) (e, l)
       ∙ ap (λ (y : Bool). (planned u y) .answer) (T-false (planFits P (left u) p) (plan-not P (left u) p (trace-fits P (full-fits P) u) x))
@@ -152,7 +152,7 @@ module _ (P : Problem) (t p b : List ℕ) where
       by-check Z (Lawful u) x = elim (plan-or P (left u) p) [ inl y ↦ (Done, (Z, (u, x .0, x .1, y))) | inr y ↦ (Refused refusal.Plan, (Z, (u, x .0, x .1, y))) ]
       by-check Z (Fault refusal.TraceFront) x = (Refused refusal.TraceFront, (Z, x))
       by-check Z (Fault refusal.Malformed) x = (Refused refusal.Malformed, (Z, x))
-      by-check Z (Fault refusal.Unlawful) x = (Refused refusal.Unlawful, (Z, x))
+      by-check Z (Fault (refusal.Unlawful k l c)) x = (Refused (refusal.Unlawful k l c), (Z, x))
       by-check Z (Fault (refusal.Sheet r)) x = absurd x
       by-check Z (Fault refusal.PlanLength) x = absurd x
       by-check Z (Fault refusal.ResultLength) x = absurd x
@@ -178,7 +178,7 @@ whoseBack (Refused refusal.PlanLength) = Own
 whoseBack (Refused refusal.ResultLength) = Own
 whoseBack (Refused refusal.TraceFront) = Own
 whoseBack (Refused refusal.Malformed) = Own
-whoseBack (Refused refusal.Unlawful) = Own
+whoseBack (Refused (refusal.Unlawful k l c)) = Own
 whoseBack (Refused refusal.Plan) = Own
 whoseBack Done = Own
 
@@ -188,29 +188,42 @@ told (Refused refusal.PlanLength) = tt
 told (Refused refusal.ResultLength) = tt
 told (Refused refusal.TraceFront) = tt
 told (Refused refusal.Malformed) = tt
-told (Refused refusal.Unlawful) = tt
+told (Refused (refusal.Unlawful k l c)) = tt
 told (Refused refusal.Plan) = tt
 told Done = tt
 
--- the answer that a number from 15 on stands for
+-- the answer that a number from 15 on stands for, but 17, which stands for many
 abbrev numbered : ℕ → Extended
 numbered k =
     cond (eqb k 18) (Refused refusal.PlanLength)
     (cond (eqb k 20) (Refused refusal.ResultLength)
     (cond (eqb k 15) (Refused refusal.TraceFront)
     (cond (eqb k 16) (Refused refusal.Malformed)
-    (cond (eqb k 17) (Refused refusal.Unlawful)
-    (Refused refusal.Plan)))))
+    (Refused refusal.Plan))))
 
-number-back : (o : Extended) → 10 ≤ putBackNumber o → numbered (putBackNumber o) ≡ o
-number-back Done l = absurd (omega arith)
-number-back (Refused (refusal.Sheet r)) l = let m = sheet-number r in absurd (omega arith)
-number-back (Refused refusal.PlanLength) l = refl
-number-back (Refused refusal.ResultLength) l = refl
-number-back (Refused refusal.TraceFront) l = refl
-number-back (Refused refusal.Malformed) l = refl
-number-back (Refused refusal.Unlawful) l = refl
-number-back (Refused refusal.Plan) l = refl
+abbrev Single : ℕ → Type 0
+Single k = (10 ≤ k) × (k ≢ 17)
+
+number-back : (o : Extended) → Single (putBackNumber o) → numbered (putBackNumber o) ≡ o
+number-back Done (l, d) = absurd (omega arith)
+number-back (Refused (refusal.Sheet r)) (l, d) = let m = sheet-number r in absurd (omega arith)
+number-back (Refused refusal.PlanLength) x = refl
+number-back (Refused refusal.ResultLength) x = refl
+number-back (Refused refusal.TraceFront) x = refl
+number-back (Refused refusal.Malformed) x = refl
+number-back (Refused (refusal.Unlawful k l c)) (_, d) = absurd (d refl)
+number-back (Refused refusal.Plan) x = refl
+
+-- an answer of the number 17 carries three
+unlawful-back : (o : Extended) → putBackNumber o ≡ 17 → (k : ℕ) × (l : ℕ) × (c : ℕ) × (o ≡ Refused (refusal.Unlawful k l c))
+unlawful-back Done e = absurd (omega arith)
+unlawful-back (Refused (refusal.Sheet r)) e = let m = sheet-number r in absurd (omega arith)
+unlawful-back (Refused refusal.PlanLength) e = absurd (omega arith)
+unlawful-back (Refused refusal.ResultLength) e = absurd (omega arith)
+unlawful-back (Refused refusal.TraceFront) e = absurd (omega arith)
+unlawful-back (Refused refusal.Malformed) e = absurd (omega arith)
+unlawful-back (Refused (refusal.Unlawful k l c)) e = (k, l, c, refl)
+unlawful-back (Refused refusal.Plan) e = absurd (omega arith)
 
 module _ (s t p b : List ℕ) where
   -- Why putting back answers as it does: the sheet's own fault, or the cause over its problem.
@@ -222,23 +235,26 @@ module _ (s t p b : List ℕ) where
   unfolding putBackJob
   put-back-iff = sheet-iff s _ _ (λ (y : PutBackResult). y .answer) whoseBack told (λ r. refl) (λ P. BackCauseOver P t p b) (λ P r x. x) (λ P. put-back-iff-over P t p b)
 
-  by-number : (o : Extended) → 10 ≤ putBackNumber o → (putBackNumber ((putBackJob s t p b) .answer) ≡ putBackNumber o) ↔ BackCause o
-  by-number = number-iff ((putBackJob s t p b) .answer) BackCause put-back-iff putBackNumber numbered (λ k. 10 ≤ k) number-back
+  by-number : (o : Extended) → Single (putBackNumber o) → (putBackNumber ((putBackJob s t p b) .answer) ≡ putBackNumber o) ↔ BackCause o
+  by-number = number-iff ((putBackJob s t p b) .answer) BackCause put-back-iff putBackNumber numbered Single number-back
 
   pub put-back-18 : (putBackNumber ((putBackJob s t p b) .answer) ≡ 18) ↔ BackCause (Refused refusal.PlanLength)
-  put-back-18 = by-number (Refused refusal.PlanLength) (omega arith)
+  put-back-18 = by-number (Refused refusal.PlanLength) (omega arith, λ e. omega arith)
 
   pub put-back-20 : (putBackNumber ((putBackJob s t p b) .answer) ≡ 20) ↔ BackCause (Refused refusal.ResultLength)
-  put-back-20 = by-number (Refused refusal.ResultLength) (omega arith)
+  put-back-20 = by-number (Refused refusal.ResultLength) (omega arith, λ e. omega arith)
 
   pub put-back-15 : (putBackNumber ((putBackJob s t p b) .answer) ≡ 15) ↔ BackCause (Refused refusal.TraceFront)
-  put-back-15 = by-number (Refused refusal.TraceFront) (omega arith)
+  put-back-15 = by-number (Refused refusal.TraceFront) (omega arith, λ e. omega arith)
 
   pub put-back-16 : (putBackNumber ((putBackJob s t p b) .answer) ≡ 16) ↔ BackCause (Refused refusal.Malformed)
-  put-back-16 = by-number (Refused refusal.Malformed) (omega arith)
+  put-back-16 = by-number (Refused refusal.Malformed) (omega arith, λ e. omega arith)
 
-  pub put-back-17 : (putBackNumber ((putBackJob s t p b) .answer) ≡ 17) ↔ BackCause (Refused refusal.Unlawful)
-  put-back-17 = by-number (Refused refusal.Unlawful) (omega arith)
+  pub put-back-17 : (putBackNumber ((putBackJob s t p b) .answer) ≡ 17) ↔ ((k : ℕ) × (l : ℕ) × (c : ℕ) × BackCause (Refused (refusal.Unlawful k l c)))
+  put-back-17 = (
+    λ e. let x = unlawful-back ((putBackJob s t p b) .answer) e in (x .0, x .1, x .2, put-back-iff (Refused (refusal.Unlawful (x .0) (x .1) (x .2))) .0 (x .3)),
+    λ (k, l, c, x). ap putBackNumber (put-back-iff (Refused (refusal.Unlawful k l c)) .1 x),
+  )
 
   pub put-back-19 : (putBackNumber ((putBackJob s t p b) .answer) ≡ 19) ↔ BackCause (Refused refusal.Plan)
-  put-back-19 = by-number (Refused refusal.Plan) (omega arith)
+  put-back-19 = by-number (Refused refusal.Plan) (omega arith, λ e. omega arith)

@@ -60,8 +60,8 @@ module _ {t : List ℕ} (R : RowTable t) (trace plan out : List ℕ) (last : Mas
     says-first : stateOf first ≡ full (held t)
     says-first = ready-full R first ef .1
 
-    checks-first : checkedFrom (held t) trace (stateOf first) 1 ≡ Records records
-    checks-first = ap (λ (s : State). checkedFrom (held t) trace s 1) says-first ∙ front-lawful (held t) trace records (found .1)
+    checks-first : checkedFrom (held t) trace (stateOf first) 0 1 ≡ Records records
+    checks-first = ap (λ (s : State). checkedFrom (held t) trace s 0 1) says-first ∙ front-lawful (held t) trace records (found .1)
 
     -- the plan in the result is undone from the first state
     pub undoable-all : (xs : List ℕ) → xs ≡ plan → length plan ≡ (held t) .n → UndoableFrom t trace first 1 xs
@@ -76,12 +76,12 @@ module _ {t : List ℕ} (R : RowTable t) (trace plan out : List ℕ) (last : Mas
               (plan-solves last-fits plan (ap (λ (s : State). planFits (held t) s plan) (sym says-last) ∙ h));
         })
 
-    pub put-done : (xs ys : List ℕ) → xs ≡ plan → ys ≡ undoneBy (held t) (stateOf first) (checkedFrom (held t) trace (stateOf first) 1) xs
+    pub put-done : (xs ys : List ℕ) → xs ≡ plan → ys ≡ undoneBy (held t) (stateOf first) (checkedFrom (held t) trace (stateOf first) 0 1) xs
         → (Done ≡ (afterCheck (held t) plan out (checkTrace (held t) trace)) .answer) × (ys ≡ (afterCheck (held t) plan out (checkTrace (held t) trace)) .result)
     put-done xs ys ex ey =
         let g = sym (after-plan true h) in (
           ap (λ (r : PutBackResult). r .answer) g,
-          ey ∙ ap (λ (s : State). undoneBy (held t) s (checkedFrom (held t) trace s 1) xs) says-first
+          ey ∙ ap (λ (s : State). undoneBy (held t) s (checkedFrom (held t) trace s 0 1) xs) says-first
               ∙ ap (λ (c : Checked). undoneBy (held t) (full (held t)) c xs) (front-lawful (held t) trace records (found .1))
               ∙ ap (λ (z : List ℕ). tab ((held t) .n) (undoTrace (held t) (full (held t)) records (planOf z))) ex
               ∙ ap (λ (r : PutBackResult). r .result) g,

@@ -3,3 +3,4 @@ pub mod Job
 pub mod Demands
 pub mod Ends
 pub mod Causes
+pub mod Unlawful

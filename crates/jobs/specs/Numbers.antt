@@ -35,7 +35,7 @@ extendNumber extend.PlanLength = 18
 extendNumber extend.ResultLength = 20
 extendNumber extend.TraceFront = 15
 extendNumber extend.Malformed = 16
-extendNumber extend.Unlawful = 17
+extendNumber (extend.Unlawful k l c) = 17
 extendNumber extend.Plan = 19
 
 -- ---- the number of a job's answer: its refusal's, 0 where there is none

@@ -1,15 +1,17 @@
 -- Putting back: lent a problem, a trace, a plan for the items left and a buffer for the result; as a job, a sheet and these.
 use mathlib.Core.Bool.{Bool, true, false, _&&_, _||_}
 use mathlib.Core.List.{List, [], _∷_}
-use Prim.Native.Nat.{ℕ, zero, suc}
+use Prim.Native.Nat.{ℕ, zero, suc, _+_}
 use lib.Dec.{ltb, eqb}
 use lib.ListN.{length, getD}
 use Rattle.bounded.specs.Bounded.{allBelow}
 use Rattle.bounded.specs.Table.{tab}
 use Rattle.problem.specs.Problem.{Problem, State, full}
-use Rattle.problem.specs.Reduce.{lawful, after, afterTrace}
+use Rattle.problem.specs.Reduce.{lawful, brokenCover, after, afterTrace}
 use Rattle.problem.specs.Extend.{solves, undoTrace}
 use Rattle.problem.specs.declared.Record.{Record}
+use Rattle.problem.specs.declared.Break.{Break}
+use Rattle.problem.specs.declared.Break.the-variants.{At, Nowhere}
 use Rattle.sheet.specs.Bytes.{byteAt}
 use Rattle.jobs.specs.Trace.{recordAt}
 use Rattle.jobs.specs.WithSheet.{withSheet}
@@ -28,6 +30,19 @@ pub record PutBackResult : Type 0 where
 abbrev pub putBackRefused : ExtendRefusal → List ℕ → PutBackResult
 putBackRefused r b = record { answer = Refused r; result = b }
 
+-- ---- what refusal 17 carries
+
+-- stands where no item and no setting is named
+abbrev pub unnamed : ℕ
+unnamed = 255
+
+-- the refusal of record k, by where its cover breaks. "Refusal 17 carries the record's number, from 0, and, for a kind 4 record with i in, a
+-- and b different and on, and no item in left without a setting, the lowest item where the cover breaks and the lowest setting that spoils
+-- it there; for every other cause both are 255."
+abbrev pub unlawfulRecord : (k : ℕ) → Break → ExtendRefusal
+unlawfulRecord k (At l c) = Unlawful k l c
+unlawfulRecord k Nowhere = Unlawful k unnamed unnamed
+
 -- ---- the trace, record by record
 
 -- the records of a lawful trace, or the first fault
@@ -39,20 +54,24 @@ abbrev pub withRecord : Record → Checked → Checked
 withRecord r (Lawful t) = Lawful (r ∷ t)
 withRecord r (Fault e) = Fault e
 
--- from the place p in the state s: a malformed record is 16, one that is not lawful in the state reached is 17 (also where an item in has
--- no setting on). A record has at least one byte, so that as many turns as the trace has bytes are enough.
-unfoldable pub checkFrom : ℕ → Problem → List ℕ → State → ℕ → Checked
-checkFrom zero P t s p = Fault Malformed
-checkFrom (suc f) P t s p =
+-- from the place p in the state s, where record k stands: a malformed record is 16, one that is not lawful in the state reached is 17 (also
+-- where an item in has no setting on). A record has at least one byte, so that as many turns as the trace has bytes are enough.
+unfoldable pub checkFrom : ℕ → Problem → List ℕ → State → (k p : ℕ) → Checked
+checkFrom zero P t s k p = Fault Malformed
+checkFrom (suc f) P t s k p =
     elim (recordAt t p) [
       | record·.End ↦ Lawful []
       | record·.Malformed ↦ Fault Malformed
-      | record·.Read r next ↦ elim (lawful P s r) [ true ↦ withRecord r (checkFrom f P t (after P s r) next) | false ↦ Fault Unlawful ]
+      | record·.Read r next ↦
+          elim (lawful P s r) [
+            | true ↦ withRecord r (checkFrom f P t (after P s r) (k + 1) next)
+            | false ↦ Fault (unlawfulRecord k (brokenCover P s r))
+          ]
     ]
 
 -- "no byte, or byte 0 is not 1" is 15
 unfoldable pub checkTrace : Problem → List ℕ → Checked
-checkTrace P t = elim (ltb 0 (length t) && eqb (byteAt t 0) 1) [ true ↦ checkFrom (suc (length t)) P t (full P) 1 | false ↦ Fault TraceFront ]
+checkTrace P t = elim (ltb 0 (length t) && eqb (byteAt t 0) 1) [ true ↦ checkFrom (suc (length t)) P t (full P) 0 1 | false ↦ Fault TraceFront ]
 
 -- ---- the plan
 

@@ -23,6 +23,7 @@ use Rattle.jobs.specs.PutBack.{putBackJob}
 use Rattle.jobs.specs.declared.ReduceOutcome.the-variants as reduced
 use Rattle.jobs.specs.declared.CallOutcome.the-variants as called
 use Rattle.jobs.specs.declared.Extended.the-variants as extended
+use Rattle.jobs.specs.declared.ExtendRefusal.the-variants as refusal
 
 -- a lent buffer: this many bytes of a pattern
 abbrev pub lent : ℕ → List ℕ
@@ -52,6 +53,8 @@ pub data Claim : Type 0 where
   PutBack : (trace plan result : List ℕ) → Claim
   -- putting back that is refused, the result buffer being as it was
   NotPutBack : (trace plan : List ℕ) (number : ℕ) → Claim
+  -- the same by 17, which names this record, and this item and setting or 255 for both
+  NotLawful : (trace plan : List ℕ) (k l c : ℕ) → Claim
 
 abbrev pub from : Bool → Problem → State
 from true P = start P
@@ -74,6 +77,9 @@ Meets s (NotTaken b i k) =
 Meets s (Taken i v m) = callJob s (handOf (full (problemOf layout s))) i ≡ record { outcome = called.Eliminated v; state = record { masks = m } }
 Meets s (PutBack t p q) = putBackJob s t p (lent (length p)) ≡ record { answer = extended.Done; result = q }
 Meets s (NotPutBack t p k) = (putBackNumber ((putBackJob s t p (lent (length p))) .answer) ≡ k) × ((putBackJob s t p (lent (length p))) .result ≡ lent (length p))
+Meets s (NotLawful t p k l c) =
+    (putBackNumber ((putBackJob s t p (lent (length p))) .answer) ≡ 17)
+    × (putBackJob s t p (lent (length p)) ≡ record { answer = extended.Refused (refusal.Unlawful k l c); result = lent (length p) })
 
 abbrev pub AllMeet : List ℕ → List Claim → Type 0
 AllMeet s [] = Unit {0}
@@ -165,7 +171,7 @@ rows =
           ∷ NotRun 20 10
           ∷ HasPlan true
           ∷ PutBack (1 ∷ 3 ∷ 2 ∷ 0 ∷ 0 ∷ 3 ∷ 2 ∷ 1 ∷ 0 ∷ []) (255 ∷ 255 ∷ []) (0 ∷ 1 ∷ [])
-          ∷ NotPutBack (1 ∷ 4 ∷ 5 ∷ 0 ∷ 0 ∷ 1 ∷ []) (1 ∷ 1 ∷ []) 17
+          ∷ NotLawful (1 ∷ 4 ∷ 5 ∷ 0 ∷ 0 ∷ 1 ∷ []) (1 ∷ 1 ∷ []) 0 255 255
           ∷ [];
     }
     -- C, and I and J, which are jobs on C
@@ -213,7 +219,7 @@ rows =
       sheet = sheetFold;
       claims =
           PutBack (1 ∷ 3 ∷ 2 ∷ 2 ∷ 0 ∷ 3 ∷ 3 ∷ 1 ∷ 0 ∷ []) (0 ∷ 255 ∷ 255 ∷ []) (0 ∷ 0 ∷ 0 ∷ [])
-          ∷ NotPutBack (1 ∷ 3 ∷ 3 ∷ 1 ∷ 0 ∷ []) (0 ∷ 255 ∷ 0 ∷ []) 17
+          ∷ NotLawful (1 ∷ 3 ∷ 3 ∷ 1 ∷ 0 ∷ []) (0 ∷ 255 ∷ 0 ∷ []) 0 255 255
           ∷ [];
     }
     ∷ record {

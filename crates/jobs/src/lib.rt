@@ -2,6 +2,8 @@
 // answer each input gets; the crates of the jobs prove their code equal to them.
 ghost use mathlib.Core.Path.{_≡_};
 ghost use Rattle.jobs.specs.Numbers.{reduceNumber, manualNumber, extendNumber, endNumber};
+ghost use Rattle.jobs.specs.PutBack.{unlawfulRecord};
+use problem::Break;
 use problem::End;
 use problem::Masks;
 use problem::Record;
@@ -69,14 +71,19 @@ pub enum RecordRead {
     Malformed,
 }
 
-// Why putting back is refused.
+// Why putting back is refused. An unlawful record comes with its number, from 0, and with the variable and the value where its cover
+// breaks, 255 for both where none is named.
 pub enum ExtendRefusal {
     Sheet(SheetRefusal),
     PlanLength,
     ResultLength,
     TraceFront,
     Malformed,
-    Unlawful,
+    Unlawful {
+        record: usize,
+        variable: usize,
+        value: usize,
+    },
     Plan,
 }
 
@@ -115,8 +122,30 @@ pub fn extend_number(r: ExtendRefusal) -> u8
         ExtendRefusal::ResultLength => 20,
         ExtendRefusal::TraceFront => 15,
         ExtendRefusal::Malformed => 16,
-        ExtendRefusal::Unlawful => 17,
+        ExtendRefusal::Unlawful {
+            record: _,
+            variable: _,
+            value: _,
+        } => 17,
         ExtendRefusal::Plan => 19,
+    }
+}
+
+// The refusal of the record with this number, by where its cover breaks.
+pub fn unlawful_record(number: usize, found: Break) -> ExtendRefusal
+    ensures { λ r. ⌜ r ≡ unlawfulRecord number found ⌝ }
+{
+    match found {
+        Break::At { variable, value } => ExtendRefusal::Unlawful {
+            record: number,
+            variable,
+            value,
+        },
+        Break::Nowhere => ExtendRefusal::Unlawful {
+            record: number,
+            variable: 255,
+            value: 255,
+        },
     }
 }
 

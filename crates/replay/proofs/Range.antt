@@ -1,19 +1,22 @@
--- A record with fields that the table cannot name: no rule holds of it. Assumes nothing.
+-- A record with fields that the table cannot name: no rule holds of it, and nothing is named of it. Assumes nothing.
 use mathlib.Core.Path.{_≡_, sym, ap, _∙_, subst}
 use mathlib.Core.Bool.{Bool, true, false, _&&_}
 use mathlib.Core.List.{List}
-use Prim.Native.Nat.{ℕ, _<_}
+use Prim.Native.Nat.{ℕ, _≤_, _<_}
+use native.Mathlib.Omega.{arith}
 use lib.Dec.{ltb}
 use borrow.Author.Tests.{ltb-true}
-use Rattle.bounded.proofs.Truth.{T-not, T-false, both, and-iff, ltb-iff}
-use Rattle.problem.specs.Problem.{Problem, State, noneEmpty, unsupported, snake, triangle, neighbourhood, snakeSubstitution, slideSpares}
-use Rattle.problem.specs.Reduce.{holds, lawful, after}
+use Rattle.bounded.proofs.Truth.{T-of, T-not, T-false, both, and-iff, ltb-iff}
+use Rattle.problem.specs.Problem.{Problem, State, noneEmpty, unsupported, snake, triangle, neighbourhood, snakeSubstitution, slideSpares, firstBreak, coverAsked}
+use Rattle.problem.specs.Reduce.{holds, lawful, brokenCover, after}
 use Rattle.problem.specs.Held.{held}
 use Rattle.problem.specs.Masks.{stateOf, masksOf}
 use Rattle.problem.specs.declared.Masks.{Masks}
 use Rattle.problem.specs.declared.Record.{Record}
 use Rattle.problem.specs.declared.Record.the-variants.{Unsupported, Snake, Triangle, Neighbourhood, SnakeSubstitution}
-use Rattle.held.specs.Ready.{Ready}
+use Rattle.problem.specs.declared.Break.the-variants.{Nowhere}
+use Rattle.held.specs.Ready.{Ready, Value}
+use Rattle.held.proofs.Laws.{live-value, active-32}
 use Rattle.steps.proofs.States.{after-state, after-ready, holds-within}
 
 -- two and three tests of range
@@ -55,6 +58,20 @@ module _ {t : List ℕ} {m : Masks} (R : Ready t m) where
   unfolding holds
   slide-out i b a e = T-false _ (λ h. out3 i 32 b 16 a 16 e (holds-within R (SnakeSubstitution i b a) h))
 
+  -- ---- what is named of a record
+
+  pub asked-out : (i b a : ℕ) → 32 ≤ i → false ≡ coverAsked (held t) (stateOf m) i b a
+  unfolding coverAsked
+  asked-out i b a n = sym (T-false _ (λ h. let l = active-32 R i ((simp and-iff at h) .0) in omega arith))
+
+  pub asked-values : (i b a : ℕ) → coverAsked (held t) (stateOf m) i b a ≡ true → Value t i a × Value t i b
+  unfolding coverAsked
+  asked-values i b a e =
+      let h = (simp and-iff at (T-of e)) in
+      (live-value R i a (h .1 .1 .0), live-value R i b (h .1 .1 .1 .0))
+
+  -- ---- a step
+
   -- what a step answers is a state again, and says the state after it
   pub step-on : (r : Record) (x : Masks) → x ≡ masksOf (after (held t) (stateOf m) r) → Ready t x × (stateOf x ≡ after (held t) (stateOf m) r)
   step-on r x e = (subst (Ready t) (sym e) (after-ready R r), ap stateOf e ∙ after-state R r)
@@ -67,3 +84,12 @@ module _ (P : Problem) (s : State) (r : Record) where
   pub lawful-off : noneEmpty P s ≡ false → false ≡ lawful P s r
   unfolding lawful
   lawful-off e = ap (λ (b : Bool). b && holds P s r) (sym e)
+
+module _ (P : Problem) (s : State) (i b a : ℕ) where
+  pub broken-on : coverAsked P s i b a ≡ true → firstBreak P s i b a ≡ brokenCover P s (Neighbourhood i b a)
+  unfolding brokenCover
+  broken-on e = sym (rw (e, brokenCover))
+
+  pub broken-off : coverAsked P s i b a ≡ false → Nowhere ≡ brokenCover P s (Neighbourhood i b a)
+  unfolding brokenCover
+  broken-off e = sym (rw (e, brokenCover))

@@ -2,11 +2,11 @@
 use mathlib.Core.Path.{_≡_, refl, sym, ap, _∙_, subst}
 use mathlib.Core.Bool.{Bool, true, false}
 use mathlib.Core.List.{List}
-use Prim.Native.Nat.{ℕ, suc, _-_, _<_}
+use Prim.Native.Nat.{ℕ, suc, _+_, _-_, _<_}
 use native.Mathlib.Omega.{arith}
 use lib.ListN.{length}
 use Rattle.problem.specs.Problem.{Problem, State}
-use Rattle.problem.specs.Reduce.{lawful, after, afterTrace}
+use Rattle.problem.specs.Reduce.{lawful, brokenCover, after, afterTrace}
 use Rattle.problem.specs.Held.{held}
 use Rattle.problem.specs.Masks.{stateOf, masksOf}
 use Rattle.problem.specs.declared.Masks.{Masks}
@@ -34,14 +34,15 @@ module _ (t trace : List ℕ) (first : Masks) where
   abbrev P : Problem
   P = held t
 
-  -- the answer from a place on, and the whole answer
-  abbrev from : Masks → ℕ → TraceEnd
-  from m p = ended P (stateOf m) (checkedFrom P trace (stateOf m) p)
+  -- the answer from a place on, with record k there, and the whole answer
+  abbrev from : Masks → (k p : ℕ) → TraceEnd
+  from m k p = ended P (stateOf m) (checkedFrom P trace (stateOf m) k p)
 
-  -- a check that goes on has the whole answer ahead of it, from the place of its reader, and one that has stopped has it
+  -- a check that goes on has the whole answer ahead of it, from the place of its reader, and one that has stopped has it. Each record gone
+  -- over has a byte before that place, and one is the front.
   abbrev GoodIf : Bool → Checking → ℕ → Type 0
-  GoodIf true c p = Ready t (c .end .state) × ((c .end ≡ lawfulEnd (c .end .state)) × (from first 1 ≡ from (c .end .state) p))
-  GoodIf false c p = from first 1 ≡ c .end
+  GoodIf true c p = Ready t (c .end .state) × ((c .end ≡ lawfulEnd (c .end .state)) × ((from first 0 1 ≡ from (c .end .state) (c .count) p) × (c .count < p)))
+  GoodIf false c p = from first 0 1 ≡ c .end
 
   abbrev pub Good : Checking → ℕ → Type 0
   Good c p = GoodIf (c .on) c p
@@ -53,11 +54,11 @@ module _ (t trace : List ℕ) (first : Masks) where
   pub good-on : (c : Checking) (p : ℕ) → Good c p → c .on ≡ true → GoodIf true c p
   good-on c p g e = subst (λ (b : Bool). GoodIf b c p) e g
 
-  pub good-off : (c : Checking) (p : ℕ) → Good c p → c .on ≡ false → c .end ≡ from first 1
+  pub good-off : (c : Checking) (p : ℕ) → Good c p → c .on ≡ false → c .end ≡ from first 0 1
   good-off c p g e = sym (subst (λ (b : Bool). GoodIf b c p) e g)
 
-  pub start-good : Ready t first → Good (goingOn first) 1
-  start-good R = (R, (refl, refl))
+  pub start-good : Ready t first → Good (goingOn first 0) 1
+  start-good R = (R, (refl, (refl, omega arith)))
 
   -- it is kept, and fewer turns are left
   abbrev Kept : Checking → ℕ → Checking → ℕ → Type 0
@@ -71,28 +72,39 @@ module _ (t trace : List ℕ) (first : Masks) where
       g : GoodIf true c p
       g = good-on c p h on
 
+      s : State
+      s = stateOf (c .end .state)
+
       all : turns c p ≡ suc (length trace - p)
       all = ap (λ (b : Bool). left b (suc (length trace - p))) on
 
-      ruled : (r : Record) (q : ℕ) → recordAt trace p ≡ record·.Read r q → (b : Bool) → lawful P (stateOf (c .end .state)) r ≡ b
-          → Kept c p (ruledTurn b (masksOf (after P (stateOf (c .end .state)) r))) q
+      -- the whole answer, from here
+      here : from first 0 1 ≡ ended P s (checkedFrom P trace s (c .count) p)
+      here = g .1 .1 .0
+
+      ruled : (r : Record) (q : ℕ) → recordAt trace p ≡ record·.Read r q → (b : Bool) → lawful P s r ≡ b
+          → Kept c p (ruledTurn b (masksOf (after P s r)) (c .count) (brokenCover P s r)) q
       ruled r q e true l =
           let n = next-after trace p r q e in
-          let y = step-on (g .0) r (masksOf (after P (stateOf (c .end .state)) r)) refl in (
+          let few = g .1 .1 .1 in
+          let y = step-on (g .0) r (masksOf (after P s r)) refl in (
             (
               y .0,
               (
                 refl,
-                g .1 .1 ∙ ap (ended P (stateOf (c .end .state))) (checked-lawful P trace (stateOf (c .end .state)) p r q e l) ∙ ended-more P (stateOf (c .end .state)) r (checkedFrom P trace (after P (stateOf (c .end .state)) r) q)
-                    ∙ ap (λ (z : State). ended P z (checkedFrom P trace z q)) (sym (y .1)),
+                (
+                  here ∙ ap (ended P s) (checked-lawful P trace s (c .count) p r q e l) ∙ ended-more P s r (checkedFrom P trace (after P s r) (c .count + 1) q)
+                      ∙ ap (λ (z : State). ended P z (checkedFrom P trace z (c .count + 1) q)) (sym (y .1)),
+                  omega (arith, n, few),
+                ),
               ),
             ),
             omega (arith, all),
           )
-      ruled r q e false l = (g .1 .1 ∙ ap (ended P (stateOf (c .end .state))) (checked-unlawful P trace (stateOf (c .end .state)) p r q e l), omega (arith, all))
+      ruled r q e false l = (here ∙ ap (ended P s) (checked-unlawful P trace s (c .count) p r q e l), omega (arith, all))
 
       go : (x : RecordRead) → recordAt trace p ≡ x → Kept c p (checkedTurn P c x) (placeAfter trace p)
-      go record·.End e = (g .1 .1 ∙ ap (ended P (stateOf (c .end .state))) (checked-end P trace (stateOf (c .end .state)) p e) ∙ ap lawfulEnd (masks-back (c .end .state) (g .0 .proper)) ∙ sym (g .1 .0), omega (arith, all))
-      go record·.Malformed e = (g .1 .1 ∙ ap (ended P (stateOf (c .end .state))) (checked-malformed P trace (stateOf (c .end .state)) p e), omega (arith, all))
+      go record·.End e = (here ∙ ap (ended P s) (checked-end P trace s (c .count) p e) ∙ ap lawfulEnd (masks-back (c .end .state) (g .0 .proper)) ∙ sym (g .1 .0), omega (arith, all))
+      go record·.Malformed e = (here ∙ ap (ended P s) (checked-malformed P trace s (c .count) p e), omega (arith, all))
       go (record·.Read r q) e =
-          subst (λ (k : ℕ). Kept c p (ruledTurn (lawful P (stateOf (c .end .state)) r) (masksOf (after P (stateOf (c .end .state)) r))) k) (sym (after-read trace p r q e)) (ruled r q e (lawful P (stateOf (c .end .state)) r) refl)
+          subst (λ (k : ℕ). Kept c p (ruledTurn (lawful P s r) (masksOf (after P s r)) (c .count) (brokenCover P s r)) k) (sym (after-read trace p r q e)) (ruled r q e (lawful P s r) refl)

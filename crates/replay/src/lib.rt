@@ -3,16 +3,20 @@ ghost use mathlib.Core.Path.{_≡_};
 ghost use mathlib.Core.Bool.{true, false};
 ghost use Prim.Native.Nat.{_<_};
 ghost use lib.Dec.{T};
-ghost use Rattle.problem.specs.Problem.{full, unsupported as unsupportedAt, snake as snakeAt, triangle as triangleAt, neighbourhood as neighbourhoodAt, snakeSubstitution as slideAt, slideSpares};
-ghost use Rattle.problem.specs.Reduce.{holds as holdsAt, lawful as lawfulAt, after};
+ghost use Rattle.problem.specs.Problem.{full, unsupported as unsupportedAt, snake as snakeAt, triangle as triangleAt, neighbourhood as neighbourhoodAt, snakeSubstitution as slideAt, slideSpares, coverAsked};
+ghost use Rattle.problem.specs.Reduce.{holds as holdsAt, lawful as lawfulAt, brokenCover, after};
 ghost use Rattle.problem.specs.Held.{held, RowTable};
 ghost use Rattle.problem.specs.Masks.{stateOf, masksOf, sets};
-ghost use Rattle.problem.specs.declared.Record.the-variants.{Snake, Triangle};
+ghost use Rattle.problem.specs.declared.Record.the-variants.{Neighbourhood};
 ghost use Rattle.held.specs.Ready.{Ready};
-ghost use Rattle.jobs.specs.PutBack.{checkTrace};
+ghost use Rattle.jobs.specs.PutBack.{unlawfulRecord, checkTrace};
 ghost use Rattle.replay.specs.Walk.{checkedFrom, ended, faulty, goingOn, stoppedWith, checkedTurn};
+use bounded::has32;
+use held::is_live;
 use jobs::ExtendRefusal;
 use jobs::RecordRead;
+use jobs::unlawful_record;
+use problem::Break;
 use problem::Masks;
 use problem::Record;
 use problem::empty_masks;
@@ -125,6 +129,54 @@ pub fn after_lawful(t: &[u16], m: Masks, r: Record) -> Masks
     steps::apply(t, m, r)
 }
 
+// ---- what is named of a record that is not lawful
+
+// All that kind 4 asks but the cover.
+fn cover_asked(t: &[u16], active: u32, on: &[u16; 32], i: usize, b: usize, a: usize) -> bool
+    requires { ⌜ Ready (now t) (sets active (now on)) ⌝ }
+    ensures { λ r. ⌜ r ≡ coverAsked (held (now (t .entry))) (stateOf (sets active (now (on .entry)))) i b a ⌝ }
+{
+    if i < 32 {
+        let live = is_live(active, on, i, a)
+            & (is_live(active, on, i, b) & held::none_empty(t, active, on));
+        has32(active, i) & ((a != b) & live)
+    } else {
+        false
+    }
+}
+
+fn broken_neighbourhood(
+    t: &[u16],
+    active: u32,
+    on: &[u16; 32],
+    i: usize,
+    b: usize,
+    a: usize,
+) -> Break
+    requires { ⌜ Ready (now t) (sets active (now on)) ⌝ }
+    ensures { λ r. ⌜ r ≡ brokenCover (held (now (t .entry))) (stateOf (sets active (now (on .entry)))) (Neighbourhood i b a) ⌝ }
+{
+    if cover_asked(t, active, on, i, b, a) {
+        neighbourhood::first_break(t, active, on, i, b, a)
+    } else {
+        Break::Nowhere
+    }
+}
+
+// Where the record's cover breaks, where it is of kind 4 and asks nothing else in vain, and nothing for every other cause.
+fn broken_cover(t: &[u16], active: u32, on: &[u16; 32], r: Record) -> Break
+    requires { ⌜ Ready (now t) (sets active (now on)) ⌝ }
+    ensures { λ x. ⌜ x ≡ brokenCover (held (now (t .entry))) (stateOf (sets active (now (on .entry)))) r ⌝ }
+{
+    match r {
+        Record::Unsupported(_, _, _) => Break::Nowhere,
+        Record::Snake(_, _) => Break::Nowhere,
+        Record::Triangle(_, _) => Break::Nowhere,
+        Record::Neighbourhood(i, b, a) => broken_neighbourhood(t, active, on, i, b, a),
+        Record::SnakeSubstitution(_, _, _) => Break::Nowhere,
+    }
+}
+
 // ---- the trace
 
 // The answer at a fault.
@@ -137,33 +189,50 @@ fn fault(e: ExtendRefusal) -> TraceEnd
     }
 }
 
-// A check on its way: its answer so far, and whether it goes on.
+// The answer at a record that is not lawful, after so many that are.
+fn unlawful(t: &[u16], active: u32, on: &[u16; 32], r: Record, count: usize) -> TraceEnd
+    requires { ⌜ Ready (now t) (sets active (now on)) ⌝ }
+    ensures { λ x. ⌜ x ≡ faulty (unlawfulRecord count (brokenCover (held (now (t .entry))) (stateOf (sets active (now (on .entry)))) r)) ⌝ }
+{
+    fault(unlawful_record(count, broken_cover(t, active, on, r)))
+}
+
+// A check on its way: its answer so far, whether it goes on, and how many records it has gone over.
 pub struct Checking {
     pub end: TraceEnd,
     pub on: bool,
+    pub count: usize,
 }
 
-// On, in a state that lawful records lead to.
-fn going(m: Masks) -> Checking
-    ensures { λ r. ⌜ r ≡ goingOn m ⌝ }
+// On, in a state that so many lawful records lead to.
+fn going(m: Masks, count: usize) -> Checking
+    ensures { λ r. ⌜ r ≡ goingOn m count ⌝ }
 {
     let end = TraceEnd {
         check: TraceCheck::Lawful,
         state: m,
     };
-    Checking { end, on: true }
+    Checking {
+        end,
+        on: true,
+        count,
+    }
 }
 
 // At its end, with its answer.
 fn stopped(end: TraceEnd) -> Checking
     ensures { λ r. ⌜ r ≡ stoppedWith end ⌝ }
 {
-    Checking { end, on: false }
+    Checking {
+        end,
+        on: false,
+        count: 0,
+    }
 }
 
 // One turn: what the reader found, in the state so far.
 fn check_record(t: &[u16], c: Checking, x: RecordRead) -> Checking
-    requires { ⌜ Ready (now t) (c .end .state) ⌝ }
+    requires { ⌜ Ready (now t) (c .end .state) × (c .count < 18446744073709551615) ⌝ }
     ensures { λ r. ⌜ r ≡ checkedTurn (held (now (t .entry))) c x ⌝ }
 {
     let end = c.end;
@@ -171,9 +240,9 @@ fn check_record(t: &[u16], c: Checking, x: RecordRead) -> Checking
     match x {
         RecordRead::Read { record, next: _ } => {
             if lawful(t, m.active, &m.domains, record) {
-                going(after_lawful(t, m, record))
+                going(after_lawful(t, m, record), c.count + 1)
             } else {
-                stopped(fault(ExtendRefusal::Unlawful))
+                stopped(unlawful(t, m.active, &m.domains, record, c.count))
             }
         }
         RecordRead::End => stopped(end),
@@ -184,10 +253,10 @@ fn check_record(t: &[u16], c: Checking, x: RecordRead) -> Checking
 // Record by record from the place after the front, each in the state that the records before it lead to: one reader, which each turn moves.
 fn check_records(t: &[u16], trace: &[u8], first: Masks) -> TraceEnd
     requires { ⌜ Ready (now t) first ⌝ }
-    ensures { λ r. ⌜ r ≡ ended (held (now (t .entry))) (stateOf first) (checkedFrom (held (now (t .entry))) (now (trace .entry)) (stateOf first) 1) ⌝ }
+    ensures { λ r. ⌜ r ≡ ended (held (now (t .entry))) (stateOf first) (checkedFrom (held (now (t .entry))) (now (trace .entry)) (stateOf first) 0 1) ⌝ }
 {
     let mut r = placed(trace, 1);
-    let mut c = going(first);
+    let mut c = going(first, 0);
     while c.on {
         c = check_record(t, c, peek(r));
         r = moved(r);

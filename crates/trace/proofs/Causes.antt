@@ -12,12 +12,16 @@ use borrow.Author.Tests.{lt-ltb, le-ltb, ne-eqb}
 use Rattle.bounded.proofs.Truth.{T-true, T-false, T-dec, lt-dec, eq-dec, and-iff, eqb-iff}
 use Rattle.bounded.proofs.Causes.{cause-iff}
 use Rattle.problem.specs.Problem.{Problem, State, full}
-use Rattle.problem.specs.Reduce.{lawful, after, lawfulTrace, afterTrace}
+use Rattle.problem.specs.Reduce.{lawful, brokenCover, after, lawfulTrace, afterTrace}
 use Rattle.problem.specs.declared.Record.{Record}
-use Rattle.problem.proofs.Trace.{trace-iff}
+use Rattle.problem.specs.declared.Break.{Break}
+use Rattle.problem.specs.declared.Break.the-variants.{At, Nowhere}
+use Rattle.problem.proofs.Reflect.{Fits, full-fits}
+use Rattle.problem.proofs.Trace.{trace-iff, trace-fits}
+use Rattle.problem.proofs.Spoiler.{CoverAlone, BreaksAt, names-iff}
 use Rattle.sheet.specs.Bytes.{byteAt}
 use Rattle.jobs.specs.Trace.{recordBytes, recordsBytes, traceBytes, recordAt}
-use Rattle.jobs.specs.PutBack.{Checked, Lawful, Fault, withRecord, checkFrom, checkTrace}
+use Rattle.jobs.specs.PutBack.{Checked, Lawful, Fault, unnamed, unlawfulRecord, withRecord, checkFrom, checkTrace}
 use Rattle.jobs.specs.declared.RecordRead.{RecordRead}
 use Rattle.jobs.specs.declared.RecordRead.the-variants.{Read, End, Malformed}
 use Rattle.jobs.specs.declared.ExtendRefusal.{ExtendRefusal}
@@ -70,50 +74,93 @@ module _ (t : List ℕ) (p : ℕ) where
       go Malformed e = e
       go (Read r q) e = absurd (n .1 r (drop q t) (read-bytes t p r q e))
 
+-- ---- what 17 names
+
+-- Of a record r that is not lawful in the state q: "for a kind 4 record with i in, a and b different and on, and no item in left without a
+-- setting, the lowest item where the cover breaks and the lowest setting that spoils it there; for every other cause both are 255."
+abbrev pub Named : Problem → State → Record → (l c : ℕ) → Type 0
+Named P q r l c = (CoverAlone P q r × BreaksAt P q r l c) ⊎ ((CoverAlone P q r → ⊥) × (l ≡ unnamed) × (c ≡ unnamed))
+
+-- what the definition answers is what is named, and nothing else
+named-iff : {P : Problem} {q : State} → Fits P q → (r : Record) → (T (lawful P q r) → ⊥) → (j k l c : ℕ)
+    → (unlawfulRecord j (brokenCover P q r) ≡ refusal.Unlawful k l c) ↔ ((j ≡ k) × Named P q r l c)
+named-iff {P} {q} F r n j k l c = (forth (brokenCover P q r) refl, λ x. back (x .0) (x .1))
+  where
+    forth : (x : Break) → brokenCover P q r ≡ x → unlawfulRecord j x ≡ refusal.Unlawful k l c → (j ≡ k) × Named P q r l c
+    forth (At m d) e h =
+        let y = names-iff F r n (At m d) .0 e in
+        let f : m ≡ l = cc in
+        let g : d ≡ c = cc in
+        (cc, inl (y .0, subst (λ (z : ℕ). BreaksAt P q r z c) f (subst (BreaksAt P q r m) g (y .1))))
+    forth Nowhere e h = (cc, inr (names-iff F r n Nowhere .0 e, cc, cc))
+
+    back : j ≡ k → Named P q r l c → unlawfulRecord j (brokenCover P q r) ≡ refusal.Unlawful k l c
+    back e (inl x) = ap (unlawfulRecord j) (names-iff F r n (At l c) .1 x) ∙ ap (λ (z : ℕ). refusal.Unlawful z l c) e
+    back e (inr x) = ap (unlawfulRecord j) (names-iff F r n Nowhere .1 (x .0)) ∙ (λ i. refusal.Unlawful (e i) (sym (x .1) i) (sym (x .2) i))
+
 -- ---- why the records are judged as they are
 
+-- how many records there are, counted from k on, with none and with one more in front
+add-zero : (k : ℕ) → k + 0 ≡ k
+add-zero k = omega arith
+
+one-more : (k : ℕ) (u : List Record) → k + suc (length u) ≡ k + 1 + length u
+one-more k u = omega arith
+
 module _ (P : Problem) where
-  -- the bytes d of records, met in the state s: the records u before the fault are lawful in the state reached
-  abbrev pub RecordsCause : State → List ℕ → Checked → Type 0
-  RecordsCause s d (Lawful u) = (d ≡ recordsBytes u) × T (lawfulTrace P s u)
+  -- the bytes d of records, met in the state s, with record k in front: the records u before the fault are lawful in the state reached
+  abbrev pub RecordsCause : State → (k : ℕ) → List ℕ → Checked → Type 0
+  RecordsCause s k d (Lawful u) = (d ≡ recordsBytes u) × T (lawfulTrace P s u)
   -- 16: "cut short, unknown kind, or length byte wrong for the kind"
-  RecordsCause s d (Fault refusal.Malformed) = (u : List Record) × (more : List ℕ) × (d ≡ recordsBytes u ++ more) × T (lawfulTrace P s u) × NoRecord more
-  -- 17: "not lawful in the state reached, or an item in has no setting on"
-  RecordsCause s d (Fault refusal.Unlawful) =
-      (u : List Record) × (r : Record) × (more : List ℕ) × (d ≡ recordsBytes u ++ (recordBytes r ++ more)) × T (lawfulTrace P s u) × (T (lawful P (afterTrace P s u) r) → ⊥)
-  RecordsCause s d (Fault (refusal.Sheet r)) = ⊥
-  RecordsCause s d (Fault refusal.PlanLength) = ⊥
-  RecordsCause s d (Fault refusal.ResultLength) = ⊥
-  RecordsCause s d (Fault refusal.TraceFront) = ⊥
-  RecordsCause s d (Fault refusal.Plan) = ⊥
+  RecordsCause s k d (Fault refusal.Malformed) = (u : List Record) × (more : List ℕ) × (d ≡ recordsBytes u ++ more) × T (lawfulTrace P s u) × NoRecord more
+  -- 17: "not lawful in the state reached, or an item in has no setting on"; with what is named of the record
+  RecordsCause s k d (Fault (refusal.Unlawful j l c)) =
+      (u : List Record) × (r : Record) × (more : List ℕ) × (d ≡ recordsBytes u ++ (recordBytes r ++ more)) × T (lawfulTrace P s u)
+      × (T (lawful P (afterTrace P s u) r) → ⊥) × (unlawfulRecord (k + length u) (brokenCover P (afterTrace P s u) r) ≡ refusal.Unlawful j l c)
+  RecordsCause s k d (Fault (refusal.Sheet r)) = ⊥
+  RecordsCause s k d (Fault refusal.PlanLength) = ⊥
+  RecordsCause s k d (Fault refusal.ResultLength) = ⊥
+  RecordsCause s k d (Fault refusal.TraceFront) = ⊥
+  RecordsCause s k d (Fault refusal.Plan) = ⊥
 
   -- at the first record
-  cause-end : (s : State) (d : List ℕ) → d ≡ [] → RecordsCause s d (Lawful [])
+  cause-end : (s : State) (k : ℕ) (d : List ℕ) → d ≡ [] → RecordsCause s k d (Lawful [])
   unfolding recordsBytes lawfulTrace
-  cause-end s d e = (e, tt)
+  cause-end s k d e = (e, tt)
 
-  cause-malformed : (s : State) (d : List ℕ) → NoRecord d → RecordsCause s d (Fault refusal.Malformed)
+  cause-malformed : (s : State) (k : ℕ) (d : List ℕ) → NoRecord d → RecordsCause s k d (Fault refusal.Malformed)
   unfolding recordsBytes lawfulTrace
-  cause-malformed s d n = ([], d, refl, tt, n)
+  cause-malformed s k d n = ([], d, refl, tt, n)
 
-  cause-unlawful : (s : State) (d : List ℕ) (r : Record) (more : List ℕ) → d ≡ recordBytes r ++ more → (T (lawful P s r) → ⊥) → RecordsCause s d (Fault refusal.Unlawful)
+  cause-unlawful : (s : State) (k : ℕ) (d : List ℕ) (r : Record) (more : List ℕ) → d ≡ recordBytes r ++ more → (T (lawful P s r) → ⊥) → RecordsCause s k d (Fault (unlawfulRecord k (brokenCover P s r)))
   unfolding recordsBytes lawfulTrace afterTrace
-  cause-unlawful s d r more e l = ([], r, more, e, tt, l)
+  cause-unlawful s k d r more e l = go (brokenCover P s r) refl
+    where
+      go : (x : Break) → brokenCover P s r ≡ x → RecordsCause s k d (Fault (unlawfulRecord k x))
+      go (At m c) h = ([], r, more, e, tt, l, λ i. unlawfulRecord (add-zero k i) (h i))
+      go Nowhere h = ([], r, more, e, tt, l, λ i. unlawfulRecord (add-zero k i) (h i))
 
   -- a lawful record in front
-  cause-more : (s : State) (d : List ℕ) (r : Record) (rest : List ℕ) → d ≡ recordBytes r ++ rest → T (lawful P s r)
-      → (c : Checked) → RecordsCause (after P s r) rest c → RecordsCause s d (withRecord r c)
+  cause-more : (s : State) (k : ℕ) (d : List ℕ) (r : Record) (rest : List ℕ) → d ≡ recordBytes r ++ rest → T (lawful P s r)
+      → (c : Checked) → RecordsCause (after P s r) (k + 1) rest c → RecordsCause s k d (withRecord r c)
   unfolding recordsBytes afterTrace
-  cause-more s d r rest e l (Lawful u) x = (e ∙ ap (λ (w : List ℕ). recordBytes r ++ w) (x .0), trace-iff P s r u .1 (l, x .1))
-  cause-more s d r rest e l (Fault refusal.Malformed) x =
+  cause-more s k d r rest e l (Lawful u) x = (e ∙ ap (λ (w : List ℕ). recordBytes r ++ w) (x .0), trace-iff P s r u .1 (l, x .1))
+  cause-more s k d r rest e l (Fault refusal.Malformed) x =
       (r ∷ x .0, x .1, e ∙ ap (λ (w : List ℕ). recordBytes r ++ w) (x .2) ∙ sym (append-assoc (recordBytes r) (recordsBytes (x .0)) (x .1)), trace-iff P s r (x .0) .1 (l, x .3), x .4)
-  cause-more s d r rest e l (Fault refusal.Unlawful) x =
-      (r ∷ x .0, x .1, x .2, e ∙ ap (λ (w : List ℕ). recordBytes r ++ w) (x .3) ∙ sym (append-assoc (recordBytes r) (recordsBytes (x .0)) (recordBytes (x .1) ++ x .2)), trace-iff P s r (x .0) .1 (l, x .4), x .5)
-  cause-more s d r rest e l (Fault (refusal.Sheet y)) x = x
-  cause-more s d r rest e l (Fault refusal.PlanLength) x = x
-  cause-more s d r rest e l (Fault refusal.ResultLength) x = x
-  cause-more s d r rest e l (Fault refusal.TraceFront) x = x
-  cause-more s d r rest e l (Fault refusal.Plan) x = x
+  cause-more s k d r rest e l (Fault (refusal.Unlawful j m c)) (u, y, more, h, t, n, w) = (
+    r ∷ u,
+    y,
+    more,
+    e ∙ ap (λ (w : List ℕ). recordBytes r ++ w) h ∙ sym (append-assoc (recordBytes r) (recordsBytes u) (recordBytes y ++ more)),
+    trace-iff P s r u .1 (l, t),
+    n,
+    ap (λ (a : ℕ). unlawfulRecord a (brokenCover P (afterTrace P (after P s r) u) y)) (one-more k u) ∙ w,
+  )
+  cause-more s k d r rest e l (Fault (refusal.Sheet y)) x = x
+  cause-more s k d r rest e l (Fault refusal.PlanLength) x = x
+  cause-more s k d r rest e l (Fault refusal.ResultLength) x = x
+  cause-more s k d r rest e l (Fault refusal.TraceFront) x = x
+  cause-more s k d r rest e l (Fault refusal.Plan) x = x
 
   -- records in front of what is found after them
   abbrev withRecords : List Record → Checked → Checked
@@ -130,77 +177,83 @@ module _ (P : Problem) where
 
   module _ (t : List ℕ) where
     -- with more turns than bytes left, what the check finds has its cause
-    check-cause : (f : ℕ) (s : State) (p : ℕ) → length t - p < f → RecordsCause s (drop p t) (checkFrom f P t s p)
-    check-cause zero s p h = absurd (omega arith)
-    check-cause (suc f) s p h = by-read (recordAt t p) refl (check-cause f)
+    check-cause : (f : ℕ) (s : State) (k p : ℕ) → length t - p < f → RecordsCause s k (drop p t) (checkFrom f P t s k p)
+    check-cause zero s k p h = absurd (omega arith)
+    check-cause (suc f) s k p h = by-read (recordAt t p) refl (check-cause f)
       where
         Later : Type 0
-        Later = (s : State) (p : ℕ) → length t - p < f → RecordsCause s (drop p t) (checkFrom f P t s p)
+        Later = (s : State) (k p : ℕ) → length t - p < f → RecordsCause s k (drop p t) (checkFrom f P t s k p)
 
-        by-law : (r : Record) (q : ℕ) → recordAt t p ≡ Read r q → T (lawful P s r) ⊎ (T (lawful P s r) → ⊥) → Later → RecordsCause s (drop p t) (checkFrom (suc f) P t s p)
+        by-law : (r : Record) (q : ℕ) → recordAt t p ≡ Read r q → T (lawful P s r) ⊎ (T (lawful P s r) → ⊥) → Later → RecordsCause s k (drop p t) (checkFrom (suc f) P t s k p)
         by-law r q e (inl l) ih =
             let n = next-after t p r q e in
-            subst (RecordsCause s (drop p t)) (sym (turn-lawful P t f s p r q e (T-true (lawful P s r) l)))
-            (cause-more s (drop p t) r (drop q t) (read-bytes t p r q e) l (checkFrom f P t (after P s r) q) (ih (after P s r) q (omega arith)))
+            subst (RecordsCause s k (drop p t)) (sym (turn-lawful P t f s k p r q e (T-true (lawful P s r) l)))
+            (cause-more s k (drop p t) r (drop q t) (read-bytes t p r q e) l (checkFrom f P t (after P s r) (k + 1) q) (ih (after P s r) (k + 1) q (omega arith)))
         by-law r q e (inr l) ih =
-            subst (RecordsCause s (drop p t)) (sym (turn-unlawful P t f s p r q e (T-false (lawful P s r) l))) (cause-unlawful s (drop p t) r (drop q t) (read-bytes t p r q e) l)
+            subst (RecordsCause s k (drop p t)) (sym (turn-unlawful P t f s k p r q e (T-false (lawful P s r) l))) (cause-unlawful s k (drop p t) r (drop q t) (read-bytes t p r q e) l)
 
-        by-read : (x : RecordRead) → recordAt t p ≡ x → Later → RecordsCause s (drop p t) (checkFrom (suc f) P t s p)
-        by-read End e ih = subst (RecordsCause s (drop p t)) (sym (turn-end P t f s p e)) (cause-end s (drop p t) (end-bytes t p e))
-        by-read Malformed e ih = subst (RecordsCause s (drop p t)) (sym (turn-malformed P t f s p e)) (cause-malformed s (drop p t) (malformed-none t p e))
+        by-read : (x : RecordRead) → recordAt t p ≡ x → Later → RecordsCause s k (drop p t) (checkFrom (suc f) P t s k p)
+        by-read End e ih = subst (RecordsCause s k (drop p t)) (sym (turn-end P t f s k p e)) (cause-end s k (drop p t) (end-bytes t p e))
+        by-read Malformed e ih = subst (RecordsCause s k (drop p t)) (sym (turn-malformed P t f s k p e)) (cause-malformed s k (drop p t) (malformed-none t p e))
         by-read (Read r q) e ih = by-law r q e (T-dec (lawful P s r)) ih
 
     -- the check goes over lawful records to the place after them
-    abbrev Over : List Record → ℕ → State → ℕ → List ℕ → Type 0
-    Over u f s p more = (g : ℕ) × (q : ℕ) × (length t - q < g) × (drop q t ≡ more) × (checkFrom f P t s p ≡ withRecords u (checkFrom g P t (afterTrace P s u) q))
+    abbrev Over : List Record → ℕ → State → (k p : ℕ) → List ℕ → Type 0
+    Over u f s k p more = (g : ℕ) × (q : ℕ) × (length t - q < g) × (drop q t ≡ more) × (checkFrom f P t s k p ≡ withRecords u (checkFrom g P t (afterTrace P s u) (k + length u) q))
 
-    over : (u : List Record) (f : ℕ) (s : State) (p : ℕ) (more : List ℕ) → length t - p < f → drop p t ≡ recordsBytes u ++ more → T (lawfulTrace P s u) → Over u f s p more
+    over : (u : List Record) (f : ℕ) (s : State) (k p : ℕ) (more : List ℕ) → length t - p < f → drop p t ≡ recordsBytes u ++ more → T (lawfulTrace P s u) → Over u f s k p more
     unfolding recordsBytes afterTrace
-    over [] f s p more h e l = (f, p, h, e, refl)
-    over (r ∷ u) zero s p more h e l = absurd (omega arith)
-    over (r ∷ u) (suc f) s p more h e l =
+    over [] f s k p more h e l = (f, p, h, e, ap (λ (a : ℕ). checkFrom f P t s a p) (sym (add-zero k)))
+    over (r ∷ u) zero s k p more h e l = absurd (omega arith)
+    over (r ∷ u) (suc f) s k p more h e l =
         let x = read-here t p r (recordsBytes u ++ more) (e ∙ append-assoc (recordBytes r) (recordsBytes u) more) in
         let n = next-after t p r (p + length (recordBytes r)) (x .0) in
         let y = trace-iff P s r u .0 l in
-        let z = over u f (after P s r) (p + length (recordBytes r)) more (omega arith) (x .1) (y .1) in
-        (z .0, z .1, z .2, z .3, turn-lawful P t f s p r (p + length (recordBytes r)) (x .0) (T-true (lawful P s r) (y .0)) ∙ ap (withRecord r) (z .4))
+        let z = over u f (after P s r) (k + 1) (p + length (recordBytes r)) more (omega arith) (x .1) (y .1) in (
+          z .0,
+          z .1,
+          z .2,
+          z .3,
+          turn-lawful P t f s k p r (p + length (recordBytes r)) (x .0) (T-true (lawful P s r) (y .0)) ∙ ap (withRecord r) (z .4)
+              ∙ ap (λ (a : ℕ). withRecord r (withRecords u (checkFrom (z .0) P t (afterTrace P (after P s r) u) a (z .1)))) (sym (one-more k u)),
+        )
 
     -- what stands at a place decides
-    here-end : (g : ℕ) (s : State) (q : ℕ) → length t - q < g → drop q t ≡ [] → checkFrom g P t s q ≡ Lawful []
-    here-end zero s q h e = absurd (omega arith)
-    here-end (suc g) s q h e = turn-end P t g s q (at-end t q (let a = length-drop q t in let b : length (drop q t) ≡ 0 = ap length e in omega arith))
+    here-end : (g : ℕ) (s : State) (k q : ℕ) → length t - q < g → drop q t ≡ [] → checkFrom g P t s k q ≡ Lawful []
+    here-end zero s k q h e = absurd (omega arith)
+    here-end (suc g) s k q h e = turn-end P t g s k q (at-end t q (let a = length-drop q t in let b : length (drop q t) ≡ 0 = ap length e in omega arith))
 
-    here-malformed : (g : ℕ) (s : State) (q : ℕ) → length t - q < g → NoRecord (drop q t) → checkFrom g P t s q ≡ Fault refusal.Malformed
-    here-malformed zero s q h n = absurd (omega arith)
-    here-malformed (suc g) s q h n = turn-malformed P t g s q (none-malformed t q n)
+    here-malformed : (g : ℕ) (s : State) (k q : ℕ) → length t - q < g → NoRecord (drop q t) → checkFrom g P t s k q ≡ Fault refusal.Malformed
+    here-malformed zero s k q h n = absurd (omega arith)
+    here-malformed (suc g) s k q h n = turn-malformed P t g s k q (none-malformed t q n)
 
-    here-unlawful : (g : ℕ) (s : State) (q : ℕ) (r : Record) (more : List ℕ) → length t - q < g → drop q t ≡ recordBytes r ++ more → (T (lawful P s r) → ⊥) → checkFrom g P t s q ≡ Fault refusal.Unlawful
-    here-unlawful zero s q r more h e l = absurd (omega arith)
-    here-unlawful (suc g) s q r more h e l = turn-unlawful P t g s q r _ (read-here t q r more e .0) (T-false (lawful P s r) l)
+    here-unlawful : (g : ℕ) (s : State) (k q : ℕ) (r : Record) (more : List ℕ) → length t - q < g → drop q t ≡ recordBytes r ++ more → (T (lawful P s r) → ⊥) → checkFrom g P t s k q ≡ Fault (unlawfulRecord k (brokenCover P s r))
+    here-unlawful zero s k q r more h e l = absurd (omega arith)
+    here-unlawful (suc g) s k q r more h e l = turn-unlawful P t g s k q r _ (read-here t q r more e .0) (T-false (lawful P s r) l)
 
-    cause-check : (f : ℕ) (s : State) (p : ℕ) → length t - p < f → (c : Checked) → RecordsCause s (drop p t) c → checkFrom f P t s p ≡ c
-    cause-check f s p h (Lawful u) x =
-        let y = over u f s p [] h (x .0 ∙ sym (append-nil (recordsBytes u))) (x .1) in
-        y .4 ∙ ap (withRecords u) (here-end (y .0) (afterTrace P s u) (y .1) (y .2) (y .3)) ∙ all-lawful u
-    cause-check f s p h (Fault refusal.Malformed) (u, more, e, l, n) =
-        let y = over u f s p more h e l in
-        y .4 ∙ ap (withRecords u) (here-malformed (y .0) (afterTrace P s u) (y .1) (y .2) (subst NoRecord (sym (y .3)) n)) ∙ fault-after u refusal.Malformed
-    cause-check f s p h (Fault refusal.Unlawful) (u, r, more, e, l, n) =
-        let y = over u f s p (recordBytes r ++ more) h e l in
-        y .4 ∙ ap (withRecords u) (here-unlawful (y .0) (afterTrace P s u) (y .1) r more (y .2) (y .3) n) ∙ fault-after u refusal.Unlawful
-    cause-check f s p h (Fault (refusal.Sheet r)) x = absurd x
-    cause-check f s p h (Fault refusal.PlanLength) x = absurd x
-    cause-check f s p h (Fault refusal.ResultLength) x = absurd x
-    cause-check f s p h (Fault refusal.TraceFront) x = absurd x
-    cause-check f s p h (Fault refusal.Plan) x = absurd x
+    cause-check : (f : ℕ) (s : State) (k p : ℕ) → length t - p < f → (c : Checked) → RecordsCause s k (drop p t) c → checkFrom f P t s k p ≡ c
+    cause-check f s k p h (Lawful u) x =
+        let y = over u f s k p [] h (x .0 ∙ sym (append-nil (recordsBytes u))) (x .1) in
+        y .4 ∙ ap (withRecords u) (here-end (y .0) (afterTrace P s u) (k + length u) (y .1) (y .2) (y .3)) ∙ all-lawful u
+    cause-check f s k p h (Fault refusal.Malformed) (u, more, e, l, n) =
+        let y = over u f s k p more h e l in
+        y .4 ∙ ap (withRecords u) (here-malformed (y .0) (afterTrace P s u) (k + length u) (y .1) (y .2) (subst NoRecord (sym (y .3)) n)) ∙ fault-after u refusal.Malformed
+    cause-check f s k p h (Fault (refusal.Unlawful j m c)) (u, r, more, e, l, n, w) =
+        let y = over u f s k p (recordBytes r ++ more) h e l in
+        y .4 ∙ ap (withRecords u) (here-unlawful (y .0) (afterTrace P s u) (k + length u) (y .1) r more (y .2) (y .3) n ∙ ap Fault w) ∙ fault-after u (refusal.Unlawful j m c)
+    cause-check f s k p h (Fault (refusal.Sheet r)) x = absurd x
+    cause-check f s k p h (Fault refusal.PlanLength) x = absurd x
+    cause-check f s k p h (Fault refusal.ResultLength) x = absurd x
+    cause-check f s k p h (Fault refusal.TraceFront) x = absurd x
+    cause-check f s k p h (Fault refusal.Plan) x = absurd x
 
     -- from a place on, with more turns than bytes are left, the check finds this for its cause and for no other
-    pub records-iff : (f : ℕ) (s : State) (p : ℕ) → length t - p < f → (c : Checked) → (checkFrom f P t s p ≡ c) ↔ RecordsCause s (drop p t) c
-    records-iff f s p h = cause-iff (checkFrom f P t s p) (RecordsCause s (drop p t)) (cause-check f s p h) (checkFrom f P t s p, check-cause f s p h)
+    pub records-iff : (f : ℕ) (s : State) (k p : ℕ) → length t - p < f → (c : Checked) → (checkFrom f P t s k p ≡ c) ↔ RecordsCause s k (drop p t) c
+    records-iff f s k p h = cause-iff (checkFrom f P t s k p) (RecordsCause s k (drop p t)) (cause-check f s k p h) (checkFrom f P t s k p, check-cause f s k p h)
 
     -- more turns than bytes are left never run out, so that their number does not change what is found
-    pub check-fuel : (f g : ℕ) (s : State) (p : ℕ) → length t - p < f → length t - p < g → checkFrom f P t s p ≡ checkFrom g P t s p
-    check-fuel f g s p h k = cause-check f s p h (checkFrom g P t s p) (check-cause g s p k)
+    pub check-fuel : (f g : ℕ) (s : State) (k p : ℕ) → length t - p < f → length t - p < g → checkFrom f P t s k p ≡ checkFrom g P t s k p
+    check-fuel f g s k p h i = cause-check f s k p h (checkFrom g P t s k p) (check-cause g s k p i)
 
 -- ---- why a whole trace is judged as it is
 
@@ -211,29 +264,29 @@ module _ (P : Problem) (t : List ℕ) where
   TraceCause (Fault refusal.TraceFront) = (t ≡ []) ⊎ (byteAt t 0 ≢ 1)
   -- 16: after the bytes of a lawful trace, bytes that begin with no record's
   TraceCause (Fault refusal.Malformed) = (u : List Record) × (more : List ℕ) × (t ≡ traceBytes u ++ more) × T (lawfulTrace P (full P) u) × NoRecord more
-  -- 17: after the bytes of a lawful trace, those of a record that is not lawful in the state reached
-  TraceCause (Fault refusal.Unlawful) =
+  -- 17: after the bytes of a lawful trace of k records, those of a record that is not lawful in the state reached, and of it l and c are named
+  TraceCause (Fault (refusal.Unlawful k l c)) =
       (u : List Record) × (r : Record) × (more : List ℕ) × (t ≡ traceBytes u ++ (recordBytes r ++ more)) × T (lawfulTrace P (full P) u)
-      × (T (lawful P (afterTrace P (full P) u) r) → ⊥)
+      × (T (lawful P (afterTrace P (full P) u) r) → ⊥) × (length u ≡ k) × Named P (afterTrace P (full P) u) r l c
   TraceCause (Fault (refusal.Sheet r)) = ⊥
   TraceCause (Fault refusal.PlanLength) = ⊥
   TraceCause (Fault refusal.ResultLength) = ⊥
   TraceCause (Fault refusal.Plan) = ⊥
 
   -- where byte 0 is 1 the records follow
-  begun : (d : List ℕ) → t ≡ 1 ∷ d → checkTrace P t ≡ checkFrom (suc (length t)) P t (full P) 1
+  begun : (d : List ℕ) → t ≡ 1 ∷ d → checkTrace P t ≡ checkFrom (suc (length t)) P t (full P) 0 1
   unfolding checkTrace
   begun d e = rw (front, checkTrace)
     where
       front : (ltb 0 (length t) && eqb (byteAt t 0) 1) ≡ true
       front = subst (λ (w : List ℕ). (ltb 0 (length w) && eqb (byteAt w 0) 1) ≡ true) (sym e) (simp (lt-ltb 0 (length (1 ∷ d)) (omega arith)))
 
-  begun-iff : (d : List ℕ) → t ≡ 1 ∷ d → (c : Checked) → (checkTrace P t ≡ c) ↔ RecordsCause P (full P) d c
+  begun-iff : (d : List ℕ) → t ≡ 1 ∷ d → (c : Checked) → (checkTrace P t ≡ c) ↔ RecordsCause P (full P) 0 d c
   begun-iff d e c =
-      let x = records-iff P t (suc (length t)) (full P) 1 (omega arith) c in
+      let x = records-iff P t (suc (length t)) (full P) 0 1 (omega arith) c in
       let q : drop 1 t ≡ d = ap (drop 1) e in (
-        λ h. subst (λ (w : List ℕ). RecordsCause P (full P) w c) q (x .0 (sym (begun d e) ∙ h)),
-        λ h. begun d e ∙ x .1 (subst (λ (w : List ℕ). RecordsCause P (full P) w c) (sym q) h),
+        λ h. subst (λ (w : List ℕ). RecordsCause P (full P) 0 w c) q (x .0 (sym (begun d e) ∙ h)),
+        λ h. begun d e ∙ x .1 (subst (λ (w : List ℕ). RecordsCause P (full P) 0 w c) (sym q) h),
       )
 
   wrong-front : (ltb 0 (length t) && eqb (byteAt t 0) 1) ≡ false → checkTrace P t ≡ Fault refusal.TraceFront
@@ -241,11 +294,13 @@ module _ (P : Problem) (t : List ℕ) where
   wrong-front e = rw (e, checkTrace)
 
   -- the causes of the records, of the whole trace
-  of-records : (d : List ℕ) → t ≡ 1 ∷ d → (c : Checked) → RecordsCause P (full P) d c → TraceCause c
+  of-records : (d : List ℕ) → t ≡ 1 ∷ d → (c : Checked) → RecordsCause P (full P) 0 d c → TraceCause c
   unfolding traceBytes
   of-records d e (Lawful u) x = (e ∙ ap (λ (w : List ℕ). 1 ∷ w) (x .0), x .1)
   of-records d e (Fault refusal.Malformed) (u, more, h, l, n) = (u, more, e ∙ ap (λ (w : List ℕ). 1 ∷ w) h, l, n)
-  of-records d e (Fault refusal.Unlawful) (u, r, more, h, l, n) = (u, r, more, e ∙ ap (λ (w : List ℕ). 1 ∷ w) h, l, n)
+  of-records d e (Fault (refusal.Unlawful k j c)) (u, r, more, h, l, n, w) =
+      let y = named-iff (trace-fits P (full-fits P) u) r n (0 + length u) k j c .0 w in
+      (u, r, more, e ∙ ap (λ (w : List ℕ). 1 ∷ w) h, l, n, omega (arith, y .0), y .1)
   of-records d e (Fault (refusal.Sheet r)) x = absurd x
   of-records d e (Fault refusal.PlanLength) x = absurd x
   of-records d e (Fault refusal.ResultLength) x = absurd x
@@ -272,7 +327,9 @@ module _ (P : Problem) (t : List ℕ) where
   cause-trace (Fault refusal.TraceFront) (inl e) = wrong-front (ap (λ (w : List ℕ). ltb 0 (length w) && eqb (byteAt w 0) 1) e)
   cause-trace (Fault refusal.TraceFront) (inr d) = wrong-front (T-false _ (λ h. d (eqb-iff (byteAt t 0) 1 .0 (and-iff (ltb 0 (length t)) (eqb (byteAt t 0) 1) .0 h .1))))
   cause-trace (Fault refusal.Malformed) (u, more, e, l, n) = begun-iff (recordsBytes u ++ more) e (Fault refusal.Malformed) .1 (u, more, refl, l, n)
-  cause-trace (Fault refusal.Unlawful) (u, r, more, e, l, n) = begun-iff (recordsBytes u ++ (recordBytes r ++ more)) e (Fault refusal.Unlawful) .1 (u, r, more, refl, l, n)
+  cause-trace (Fault (refusal.Unlawful k j c)) (u, r, more, e, l, n, h, x) =
+      begun-iff (recordsBytes u ++ (recordBytes r ++ more)) e (Fault (refusal.Unlawful k j c)) .1
+      (u, r, more, refl, l, n, named-iff (trace-fits P (full-fits P) u) r n (0 + length u) k j c .1 (omega arith, x))
   cause-trace (Fault (refusal.Sheet r)) x = absurd x
   cause-trace (Fault refusal.PlanLength) x = absurd x
   cause-trace (Fault refusal.ResultLength) x = absurd x

@@ -37,10 +37,10 @@ module _ {t : List ℕ} {m : Masks} (R : Ready t m) (trace : List ℕ) (p : ℕ)
       go record·.Malformed e = tt
 
   -- no record stands there
-  pub none-undone : isRecord (recordAt trace p) ≡ false → plan ≡ undoneBy (held t) (stateOf m) (checkedFrom (held t) trace (stateOf m) p) plan
+  pub none-undone : isRecord (recordAt trace p) ≡ false → plan ≡ undoneBy (held t) (stateOf m) (checkedFrom (held t) trace (stateOf m) 0 p) plan
   none-undone h = go (recordAt trace p) refl h
     where
-      go : (x : RecordRead) → recordAt trace p ≡ x → isRecord x ≡ false → plan ≡ undoneBy (held t) (stateOf m) (checkedFrom (held t) trace (stateOf m) p) plan
+      go : (x : RecordRead) → recordAt trace p ≡ x → isRecord x ≡ false → plan ≡ undoneBy (held t) (stateOf m) (checkedFrom (held t) trace (stateOf m) 0 p) plan
       go (record·.Read r q) e h = absurd (clash {b = true} refl h)
       go record·.End e h = undone-end (held t) trace (stateOf m) p plan (U .long) e
       go record·.Malformed e h = undone-malformed (held t) trace (stateOf m) p plan e
@@ -72,13 +72,13 @@ module _ {t : List ℕ} {m : Masks} (R : Ready t m) (trace : List ℕ) (p : ℕ)
     later-undoable = subst (λ (k : ℕ). UndoableFrom t trace later k plan) (sym moves) (undoable-next R trace p r q e U later (ap (afterFound (held t) m) e))
 
     -- ys is the plan once the later records are undone
-    module _ (ys : List ℕ) (ey : ys ≡ undoneBy (held t) (stateOf later) (checkedFrom (held t) trace (stateOf later) (placeAfter trace p)) plan) where
-      at-next : ys ≡ undoneBy (held t) (stateOf later) (checkedFrom (held t) trace (stateOf later) q) plan
-      at-next = ey ∙ ap (λ (k : ℕ). undoneBy (held t) (stateOf later) (checkedFrom (held t) trace (stateOf later) k) plan) moves
+    module _ (ys : List ℕ) (ey : ys ≡ undoneBy (held t) (stateOf later) (checkedFrom (held t) trace (stateOf later) 0 (placeAfter trace p)) plan) where
+      at-next : ys ≡ undoneBy (held t) (stateOf later) (checkedFrom (held t) trace (stateOf later) 0 q) plan
+      at-next = ey ∙ ap (λ (k : ℕ). undoneBy (held t) (stateOf later) (checkedFrom (held t) trace (stateOf later) 0 k) plan) moves
 
       pub found-undoable : UndoableFound t m (recordAt trace p) ys
       found-undoable = subst (λ (y : RecordRead). UndoableFound t m y ys) (sym e) (undoable-first R trace p r q e U later (ap (afterFound (held t) m) e) ys at-next)
 
-      pub found-undone : (zs : List ℕ) → zs ≡ undoneFound (held t) (stateOf m) (recordAt trace p) ys → zs ≡ undoneBy (held t) (stateOf m) (checkedFrom (held t) trace (stateOf m) p) plan
+      pub found-undone : (zs : List ℕ) → zs ≡ undoneFound (held t) (stateOf m) (recordAt trace p) ys → zs ≡ undoneBy (held t) (stateOf m) (checkedFrom (held t) trace (stateOf m) 0 p) plan
       found-undone zs ez =
           undone-first R trace p r q e U later (ap (afterFound (held t) m) e) ys at-next zs (ez ∙ ap (λ (y : RecordRead). undoneFound (held t) (stateOf m) y ys) e)

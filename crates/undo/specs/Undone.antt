@@ -33,11 +33,12 @@ pub record Undoable (t : List ℕ) (m : Masks) (r : Record) (plan : List ℕ) : 
   pub lawfully : T (lawful (held t) (stateOf m) r)
   pub solved : Solution (held t) (after (held t) (stateOf m) r) (planOf plan)
 
--- the records from the place p on are lawful in the state of m, and the plan solves the state that they lead to
+-- the records from the place p on are lawful in the state of m, and the plan solves the state that they lead to. Lawful records have no fault
+-- that could carry a number: they are counted from 0 wherever p is.
 pub record UndoableFrom (t trace : List ℕ) (m : Masks) (p : ℕ) (plan : List ℕ) : Type 0 where
   pub long : length plan ≡ (held t) .n
   pub records : List Record
-  pub checks : checkedFrom (held t) trace (stateOf m) p ≡ Records records
+  pub checks : checkedFrom (held t) trace (stateOf m) 0 p ≡ Records records
   pub solved : Solution (held t) (afterTrace (held t) (stateOf m) records) (planOf plan)
 
 -- The plan with the records undone,

@@ -215,7 +215,7 @@ fn undo_found(t: &[u16], m: Masks, x: RecordRead, out: &mut [u8])
 // The records from the reader's place on undone, last first: each call keeps the state before its record until the later ones are undone.
 fn undo_from<'a>(t: &[u16], m: Masks, r: Reader<'a>, out: &mut [u8])
     requires { ⌜ Ready (now t) m × (UndoableFrom (now t) (now (r .src)) m (r .at) (now out)) ⌝ }
-    ensures { λ _. ⌜ now (out .exit) ≡ undoneBy (held (now (t .entry))) (stateOf m) (checkedFrom (held (now (t .entry))) (now (r .entry .src)) (stateOf m) (r .entry .at)) (now (out .entry)) ⌝ }
+    ensures { λ _. ⌜ now (out .exit) ≡ undoneBy (held (now (t .entry))) (stateOf m) (checkedFrom (held (now (t .entry))) (now (r .entry .src)) (stateOf m) 0 (r .entry .at)) (now (out .entry)) ⌝ }
 {
     let x = peek(r);
     if is_record(x) {
@@ -227,7 +227,7 @@ fn undo_from<'a>(t: &[u16], m: Masks, r: Reader<'a>, out: &mut [u8])
 // The whole trace undone from the first state, by one reader: plain parameters, so that its caller needs no walk.
 pub fn undo_all(t: &[u16], first: Masks, trace: &[u8], out: &mut [u8])
     requires { ⌜ Ready (now t) first × (UndoableFrom (now t) (now trace) first 1 (now out)) ⌝ }
-    ensures { λ _. ⌜ now (out .exit) ≡ undoneBy (held (now (t .entry))) (stateOf first) (checkedFrom (held (now (t .entry))) (now (trace .entry)) (stateOf first) 1) (now (out .entry)) ⌝ }
+    ensures { λ _. ⌜ now (out .exit) ≡ undoneBy (held (now (t .entry))) (stateOf first) (checkedFrom (held (now (t .entry))) (now (trace .entry)) (stateOf first) 0 1) (now (out .entry)) ⌝ }
 {
     undo_from(t, first, placed(trace, 1), out);
 }

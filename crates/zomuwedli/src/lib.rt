@@ -4,6 +4,7 @@ ghost use Prim.Native.Nat.{_+_, _*_};
 ghost use Rattle.trace.specs.Written.{written};
 ghost use Rattle.boundary.specs.Calls.{readCall, runCall, startCall, handCall, putBackCall};
 ghost use Rattle.boundary_sheets.specs.Calls.{colourCall};
+use boundary::put_back_answer;
 use boundary::put_state;
 use boundary::read_state;
 use colour::Coloured;
@@ -109,7 +110,8 @@ pub extern "C" fn zomuwedli_hand_call(sheet: &[u8], state: &mut [u8], item: u64)
     }
 }
 
-// Putting back. The refusal's number, or 0 with the result written.
+// Putting back. Bits 0-7: the refusal's number, 0 where the result was written. Where it is 17, bits 8-23: the number of the record that is
+// not lawful; bits 24-31: the item and bits 32-39: the setting where its cover breaks, 255 for both where none is named.
 #[no_mangle]
 pub extern "C" fn zomuwedli_put_back(
     sheet: &[u8],
@@ -121,7 +123,7 @@ pub extern "C" fn zomuwedli_put_back(
     ensures result { λ _. ⌜ now (result .exit) ≡ (putBackCall (now (sheet .entry)) (now (trace .entry)) (now (plan .entry)) (now (result .entry))) .result ⌝ }
 {
     match extend::put_back(sheet, trace, plan, result) {
-        Extended::Refused(r) => jobs::extend_number(r) as u64,
+        Extended::Refused(r) => put_back_answer(r),
         Extended::Done => 0,
     }
 }

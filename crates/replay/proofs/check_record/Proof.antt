@@ -1,10 +1,12 @@
 -- `replay::check_record`: one turn of a check, by what the reader found. Assumes nothing.
 use mathlib.Core.Path.{sym, ap, _∙_}
 use mathlib.Core.Bool.{Bool}
+use Prim.Native.Nat.{_+_}
 use Rattle.bounded.proofs.Truth.{T-of}
-use Rattle.problem.specs.Reduce.{after}
+use Rattle.problem.specs.Reduce.{brokenCover, after}
 use Rattle.problem.specs.Held.{held}
 use Rattle.problem.specs.Masks.{stateOf, masksOf}
+use Rattle.problem.specs.declared.Masks.{Masks}
 use Rattle.replay.specs.Walk.{goingOn, stoppedWith, ruledTurn, checkedTurn}
 use borrow.Author.Needs.{needs}
 use Rattle.replay.proofs.check_record.Statement.{statement}
@@ -17,13 +19,16 @@ lawful-requires : tie.Need-lawful-requires
 lawful-requires c κs = search needs
 
 after-lawful-requires : tie.Need-after-lawful-requires
-after-lawful-requires c κs = (c .before .before .before .before .before .before .before .before .before .before .pre, T-of (sym (c .before .lawful .ensures) ∙ c .if1 .taken))
+after-lawful-requires c κs = (c .before .before .before .before .before .before .before .before .before .before .pre .0, T-of (sym (c .before .lawful .ensures) ∙ c .if1 .taken))
+
+add-going : tie.Need-add-going
+add-going c = search needs
 
 going-requires : tie.Need-going-requires
 going-requires c κs = search needs
 
-fault-requires : tie.Need-fault-requires
-fault-requires c κs = search needs
+unlawful-requires : tie.Need-unlawful-requires
+unlawful-requires c κs = search needs
 
 stopped-requires : tie.Need-stopped-requires
 stopped-requires c κs = search needs
@@ -37,23 +42,35 @@ stopped-requires-2 c κs = search needs
 enum-told-2 : tie.Need-enum-told-2
 enum-told-2 c = search needs
 
-fault-requires-2 : tie.Need-fault-requires-2
-fault-requires-2 c κs = search needs
+fault-requires : tie.Need-fault-requires
+fault-requires c κs = search needs
 
 stopped-requires-3 : tie.Need-stopped-requires-3
 stopped-requires-3 c κs = search needs
 
 returns : tie.Need-returns
-returns c = let a = c .before .before .before .before .before .before .before .before .before .before .before .before .args in let x = c .before .before .before .before .before .before .before .x .given in let P = held (a .t .now) in let w = a .c in c .going .ensures ∙ ap goingOn (c .before .after-lawful .ensures) ∙ sym (ap (checkedTurn P w) (x .1) ∙ ap (λ (b : Bool). ruledTurn b (masksOf (after P (stateOf (w .end .state)) (x .0 .0)))) (sym (c .before .before .before .lawful .ensures) ∙ c .before .before .if1 .taken))
+returns c =
+    let a = c .before .before .before .before .before .before .before .before .before .before .before .before .before .args in
+    let x = c .before .before .before .before .before .before .before .before .x .given in
+    let P = held (a .t .now) in
+    let w = a .c in
+    c .going .ensures ∙ ap (λ (y : Masks). goingOn y (w .count + 1)) (c .before .before .after-lawful .ensures)
+    ∙ sym (ap (checkedTurn P w) (x .1) ∙ ap (λ (b : Bool). ruledTurn b (masksOf (after P (stateOf (w .end .state)) (x .0 .0))) (w .count) (brokenCover P (stateOf (w .end .state)) (x .0 .0))) (sym (c .before .before .before .before .lawful .ensures) ∙ c .before .before .before .if1 .taken))
 
 returns-2 : tie.Need-returns-2
-returns-2 c = let a = c .before .before .before .before .before .before .before .before .before .before .before .before .args in let x = c .before .before .before .before .before .before .before .x .given in let P = held (a .t .now) in let w = a .c in c .stopped .ensures ∙ ap stoppedWith (c .before .fault .ensures) ∙ sym (ap (checkedTurn P w) (x .1) ∙ ap (λ (b : Bool). ruledTurn b (masksOf (after P (stateOf (w .end .state)) (x .0 .0)))) (sym (c .before .before .before .lawful .ensures) ∙ c .before .before .if1 .left))
+returns-2 c =
+    let a = c .before .before .before .before .before .before .before .before .before .before .before .before .before .before .args in
+    let x = c .before .before .before .before .before .before .before .before .before .x .given in
+    let P = held (a .t .now) in
+    let w = a .c in
+    c .stopped .ensures ∙ ap stoppedWith (c .before .unlawful .ensures)
+    ∙ sym (ap (checkedTurn P w) (x .1) ∙ ap (λ (b : Bool). ruledTurn b (masksOf (after P (stateOf (w .end .state)) (x .0 .0))) (w .count) (brokenCover P (stateOf (w .end .state)) (x .0 .0))) (sym (c .before .before .before .before .before .lawful .ensures) ∙ c .before .before .before .before .if1 .left))
 
 returns-3 : tie.Need-returns-3
 returns-3 c = let a = c .before .before .before .before .before .before .args in c .stopped2 .ensures ∙ sym (ap (checkedTurn (held (a .t .now)) (a .c)) (c .before .enum-told .given .1))
 
 returns-4 : tie.Need-returns-4
-returns-4 c = let a = c .before .before .before .before .before .before .before .args in c .stopped3 .ensures ∙ ap stoppedWith (c .before .fault2 .ensures) ∙ sym (ap (checkedTurn (held (a .t .now)) (a .c)) (c .before .before .enum-told2 .given .1))
+returns-4 c = let a = c .before .before .before .before .before .before .before .args in c .stopped3 .ensures ∙ ap stoppedWith (c .before .fault .ensures) ∙ sym (ap (checkedTurn (held (a .t .now)) (a .c)) (c .before .before .enum-told2 .given .1))
 
 pub check-record-spec : {M : Type 1} → statement M
 check-record-spec =
@@ -62,13 +79,14 @@ check-record-spec =
     enum-known-x
     lawful-requires
     after-lawful-requires
+    add-going
     going-requires
-    fault-requires
+    unlawful-requires
     stopped-requires
     enum-told
     stopped-requires-2
     enum-told-2
-    fault-requires-2
+    fault-requires
     stopped-requires-3
     returns
     returns-2

@@ -28,7 +28,7 @@ check-records-requires : tie.Need-check-records-requires
 check-records-requires c κs = let p = c .before .before .before .before .before .pre in ready-full (p .0) _ (p .1) .0
 
 returns-3 : tie.Need-returns-3
-returns-3 c = let a = c .before .before .before .before .before .before .args in let p = c .before .before .before .before .before .before .pre in let P = held (a .t .now) in let e = ready-full (p .0) (a .first) (p .1) .1 in c .check-records .ensures ∙ ap (λ (z : State). ended P z (checkedFrom P (a .trace .now) z 1)) e ∙ ap (ended P (full P)) (sym (right-front P (a .trace .now) (c .before .before .before .if1 .left) (c .before .if2 .left)))
+returns-3 c = let a = c .before .before .before .before .before .before .args in let p = c .before .before .before .before .before .before .pre in let P = held (a .t .now) in let e = ready-full (p .0) (a .first) (p .1) .1 in c .check-records .ensures ∙ ap (λ (z : State). ended P z (checkedFrom P (a .trace .now) z 0 1)) e ∙ ap (ended P (full P)) (sym (right-front P (a .trace .now) (c .before .before .before .if1 .left) (c .before .if2 .left)))
 
 pub check-trace-spec : {M : Type 1} → statement M
 check-trace-spec =

@@ -162,7 +162,7 @@ module _ {M : Type 1} (𝓤 : URA M) (H : Heap 𝓤) (A : Atoms 𝓤) (W : Given
   to-self κ q δ m p l = (((κt, (κr, (κ, tt))), (qt, (qr, (q, tt))), tt, args-self κ δ m p l, vals-self κ m p), tt)
 
   abbrev left-self : Masks → ℕ → List ℕ → List ℕ
-  left-self m p l = undoneBy (held (now t)) (stateOf m) (checkedFrom (held (now t)) (now s) (stateOf m) p) l
+  left-self m p l = undoneBy (held (now t)) (stateOf m) (checkedFrom (held (now t)) (now s) (stateOf m) 0 p) l
 
   module _ {X : Type 0} {Γ : List (Item 𝓤)} {C : Calls 𝓤 H} {Λ : Loops 𝓤 H} {E : Env 𝓤 H} {po : Post 𝓤 H} {xs : List Operand} {d : Place} {rest : Body} where
     calls-self : X → FmC 𝓤 H (W .laws) C → (m : Masks) (p : ℕ) (l : List ℕ) → Is N.the-row m (f m ∷ []) → p < 2 ^ 64 → length l ≡ n → Room u8 n → Ready (now t) m → UndoableFrom (now t) (now s) m p l

@@ -84,7 +84,7 @@ module _ {M : Type 1} (𝓤 : URA M) (H : Heap 𝓤) (A : Atoms 𝓤) (W : Given
   tokens = ‵ (flft κt qt) ⊛ ‵ (flft κr qr) ⊛ ‵ (flft κo qo) ⊛ ‵ ftrue
 
   abbrev left : List ℕ
-  left = undoneBy (held (now t)) (stateOf m) (checkedFrom (held (now t)) (now s) (stateOf m) 1) (now x)
+  left = undoneBy (held (now t)) (stateOf m) (checkedFrom (held (now t)) (now s) (stateOf m) 0 1) (now x)
 
   -- the call of `undo_from`
   abbrev args : Args undo.signature (κt, (κr, (κo, tt)))

@@ -1,6 +1,7 @@
--- `zomuwedli::zomuwedli_put_back`: what the job answers. Assumes nothing.
-use mathlib.Core.Path.{ap, _∙_}
+-- `zomuwedli::zomuwedli_put_back`: what the job answers; what a refusal carries fits. Assumes nothing.
+use mathlib.Core.Path.{sym, ap, _∙_}
 use Rattle.boundary.specs.Calls.{PutBackCall}
+use Rattle.boundary.proofs.Small.{back-small}
 use Rattle.boundary.proofs.Calls.{back-says}
 use borrow.Author.Needs.{needs}
 use Rattle.zomuwedli.proofs.zomuwedli_put_back.Statement.{statement}
@@ -12,11 +13,8 @@ put-back-requires c κs = search needs
 enum-known-r : tie.Need-enum-known-r
 enum-known-r c = search needs
 
-extend-number-requires : tie.Need-extend-number-requires
-extend-number-requires c κs = search needs
-
-cast-result : tie.Need-cast-result
-cast-result c = search needs
+put-back-answer-requires : tie.Need-put-back-answer-requires
+put-back-answer-requires c κs = back-small _ _ _ _ _ (sym (c .before .before .before .before .before .put-back .ensures .0) ∙ c .before .r .given .1)
 
 enum-told : tie.Need-enum-told
 enum-told c = search needs
@@ -29,7 +27,7 @@ returns c =
     let a = c .before .before .before .before .before .before .before .before .before .before .before .before .args in
     let x = c .before .before .before .before .before .before .put-back in
     let e = back-says (a .sheet .now) (a .trace .now) (a .plan .now) (a .result .now) _ _ (x .ensures .0) (x .ensures .1) _ (c .before .before .r .given .1) in
-    (c .extend-number .ensures ∙ ap (λ (y : PutBackCall). y .answer) e, ap (λ (y : PutBackCall). y .result) e)
+    (c .put-back-answer .ensures ∙ ap (λ (y : PutBackCall). y .answer) e, ap (λ (y : PutBackCall). y .result) e)
 
 same-length-2 : tie.Need-same-length-2
 same-length-2 c = search needs
@@ -47,8 +45,7 @@ zomuwedli-put-back-spec =
     (tie.spec
     put-back-requires
     enum-known-r
-    extend-number-requires
-    cast-result
+    put-back-answer-requires
     enum-told
     same-length
     returns

@@ -1,0 +1,59 @@
+-- `replay::broken_cover`: each arm's answer is the record's. Assumes nothing.
+use Rattle.problem.specs.Reduce.{brokenCover}
+use borrow.Author.Needs.{needs}
+use Rattle.replay.proofs.broken_cover.Statement.{statement}
+use Rattle.replay.proofs.broken_cover.Tie as tie
+
+enum-told : tie.Need-enum-told
+enum-told c = search needs
+
+enum-told-2 : tie.Need-enum-told-2
+enum-told-2 c = search needs
+
+enum-told-3 : tie.Need-enum-told-3
+enum-told-3 c = search needs
+
+enum-known-r : tie.Need-enum-known-r
+enum-known-r c = search needs
+
+broken-neighbourhood-requires : tie.Need-broken-neighbourhood-requires
+broken-neighbourhood-requires c κs = search needs
+
+enum-told-4 : tie.Need-enum-told-4
+enum-told-4 c = search needs
+
+returns : tie.Need-returns
+unfolding brokenCover
+returns c = search needs
+
+returns-2 : tie.Need-returns-2
+unfolding brokenCover
+returns-2 c = search needs
+
+returns-3 : tie.Need-returns-3
+unfolding brokenCover
+returns-3 c = search needs
+
+returns-4 : tie.Need-returns-4
+unfolding brokenCover
+returns-4 c = rw (c .before .before .r .given .1) (c .broken-neighbourhood .ensures)
+
+returns-5 : tie.Need-returns-5
+unfolding brokenCover
+returns-5 c = search needs
+
+pub broken-cover-spec : {M : Type 1} → statement M
+broken-cover-spec =
+    tie.close
+    (tie.spec
+    enum-told
+    enum-told-2
+    enum-told-3
+    enum-known-r
+    broken-neighbourhood-requires
+    enum-told-4
+    returns
+    returns-2
+    returns-3
+    returns-4
+    returns-5)
