@@ -29,7 +29,7 @@ use Rattle.jobs.specs.declared.Extended.the-variants.{Done, Refused}
 use Rattle.jobs.specs.declared.ExtendRefusal.the-variants as refusal
 use Rattle.jobs.proofs.Opened.{put-back-plan-length-over, put-back-result-length-over, put-back-checked-over}
 use Rattle.jobs.proofs.SheetCause.{Whose, Sheets, Own, SheetCause, Told, sheet-iff}
-use Rattle.trace.proofs.Causes.{NoRecord, Named, TraceCause, checked-iff}
+use Rattle.trace.proofs.Causes.{NoRecord, Carried, TraceCause, checked-iff}
 
 -- ---- the plan
 
@@ -121,7 +121,7 @@ module _ (P : Problem) (t p b : List ℕ) where
   BackCauseOver (Refused (refusal.Unlawful k l c)) =
       Sized
       × ((u : List Record) × (r : Record) × (more : List ℕ) × (t ≡ traceBytes u ++ (recordBytes r ++ more)) × T (lawfulTrace P (full P) u)
-      × (T (lawful P (left u) r) → ⊥) × (length u ≡ k) × Named P (left u) r l c)
+      × (T (lawful P (left u) r) → ⊥) × (length u ≡ k) × Carried P (left u) r l c)
   -- 19: the trace is lawful, and the plan is not one of what it leaves
   BackCauseOver (Refused refusal.Plan) = Sized × ((u : List Record) × (t ≡ traceBytes u) × T (lawfulTrace P (full P) u) × PlanFault P (left u) p)
   -- accepted: the trace is lawful, and the plan is one of what it leaves

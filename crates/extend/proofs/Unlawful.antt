@@ -24,7 +24,7 @@ use Rattle.jobs.specs.PutBack.{putBackJob}
 use Rattle.jobs.specs.declared.Extended.the-variants.{Refused}
 use Rattle.jobs.specs.declared.ExtendRefusal.the-variants.{Unlawful}
 use Rattle.jobs.proofs.Opened.{variables-of}
-use Rattle.trace.proofs.Causes.{Named}
+use Rattle.trace.proofs.Causes.{Carried}
 use Rattle.extend.proofs.Causes.{BackCauseOver, put-back-iff}
 
 -- the state that records lead to
@@ -80,19 +80,19 @@ module _ {P : Problem} (B : Bounded P) where
         small = (omega (arith, m, trace-short P u h, sizes-most P B), within x .0, within x .1);
       }
     where
-      asked : Named P (reached P u) r l c → ((l ≡ 255) × (c ≡ 255) → ⊥) → CoverAlone P (reached P u) r
+      asked : Carried P (reached P u) r l c → ((l ≡ 255) × (c ≡ 255) → ⊥) → CoverAlone P (reached P u) r
       asked (inl y) d = y .0
       asked (inr y) d = absurd (d (y .1, y .2))
 
-      breaks : Named P (reached P u) r l c → CoverAlone P (reached P u) r → BreaksAt P (reached P u) r l c
+      breaks : Carried P (reached P u) r l c → CoverAlone P (reached P u) r → BreaksAt P (reached P u) r l c
       breaks (inl y) C = y .1
       breaks (inr y) C = absurd (y .0 C)
 
-      none : Named P (reached P u) r l c → (CoverAlone P (reached P u) r → ⊥) → (l ≡ 255) × (c ≡ 255)
+      none : Carried P (reached P u) r l c → (CoverAlone P (reached P u) r → ⊥) → (l ≡ 255) × (c ≡ 255)
       none (inl y) d = absurd (d (y .0))
       none (inr y) d = (y .1, y .2)
 
-      within : Named P (reached P u) r l c → (l ≤ 255) × (c ≤ 255)
+      within : Carried P (reached P u) r l c → (l ≤ 255) × (c ≤ 255)
       within (inl y) = let z = below u r l c (y .1) in (omega arith, omega arith)
       within (inr y) = let f = y .1 in let g = y .2 in (omega arith, omega arith)
 

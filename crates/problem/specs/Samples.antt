@@ -77,7 +77,7 @@ pub data Claim : Type 0 where
   -- the cover test at l in the full state, of a of i in the place of b of j
   Tests : (i a j b l : ℕ) → Cover → Claim
   -- what is named of a record after the trace
-  Named : List Record → Record → Break → Claim
+  Broken : List Record → Record → Break → Claim
   -- how many solutions are left after the trace
   Plans : List Record → ℕ → Claim
   -- the plan put back by undoing the trace
@@ -104,7 +104,7 @@ abbrev pub Meets : Problem → Claim → Type 0
 Meets P (Runs t e) = (run P (full P) ≡ t) × (endOf P (afterTrace P (full P) t) ≡ e)
 Meets P (Follows t b) = lawfulTrace P (full P) t ≡ b
 Meets P (Tests i a j b l x) = spoiler P (full P) i a j b l ≡ x
-Meets P (Named t r x) = brokenCover P (afterTrace P (full P) t) r ≡ x
+Meets P (Broken t r x) = brokenCover P (afterTrace P (full P) t) r ≡ x
 Meets P (Plans t k) = solutionCount P (afterTrace P (full P) t) ≡ k
 Meets P (Undone t p q) = listed (P .n) (undoTrace P (full P) t (λ i. getD p i 0)) ≡ q
 Meets P (Left t l) = liveAt P (afterTrace P (full P) t) ≡ l
@@ -142,12 +142,12 @@ rows =
       sheet = problem (2 ∷ 2 ∷ 2 ∷ []) unequal;
       claims =
           Runs [] Rest ∷ Plans [] 0 ∷ Follows (Neighbourhood 0 0 0 ∷ []) false ∷ ByHand 0 NoSnake ∷ ByHand 3 NotActive
-          ∷ Named [] (Neighbourhood 0 0 1) (At 1 1)
-          ∷ Named [] (Neighbourhood 2 0 1) (At 0 1)
-          ∷ Named [] (Neighbourhood 0 0 0) Nowhere
-          ∷ Named [] (Neighbourhood 0 2 1) Nowhere
-          ∷ Named [] (Neighbourhood 3 0 1) Nowhere
-          ∷ Named [] (Snake 0 0) Nowhere
+          ∷ Broken [] (Neighbourhood 0 0 1) (At 1 1)
+          ∷ Broken [] (Neighbourhood 2 0 1) (At 0 1)
+          ∷ Broken [] (Neighbourhood 0 0 0) Nowhere
+          ∷ Broken [] (Neighbourhood 0 2 1) Nowhere
+          ∷ Broken [] (Neighbourhood 3 0 1) Nowhere
+          ∷ Broken [] (Snake 0 0) Nowhere
           ∷ [];
     }
     -- D
@@ -163,8 +163,8 @@ rows =
           ∷ Tests 0 1 0 0 1 (Spoilt 1)
           ∷ Tests 1 0 1 2 2 (Spoilt 1)
           ∷ Tests 1 2 1 0 2 Holds
-          ∷ Named [] (Neighbourhood 1 2 0) (At 0 0)
-          ∷ Named (Snake 0 1 ∷ []) (Neighbourhood 1 2 0) (At 2 1)
+          ∷ Broken [] (Neighbourhood 1 2 0) (At 0 0)
+          ∷ Broken (Snake 0 1 ∷ []) (Neighbourhood 1 2 0) (At 2 1)
           ∷ [];
     }
     -- G

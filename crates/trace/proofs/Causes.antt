@@ -78,15 +78,15 @@ module _ (t : List ℕ) (p : ℕ) where
 
 -- Of a record r that is not lawful in the state q: "for a kind 4 record with i in, a and b different and on, and no item in left without a
 -- setting, the lowest item where the cover breaks and the lowest setting that spoils it there; for every other cause both are 255."
-abbrev pub Named : Problem → State → Record → (l c : ℕ) → Type 0
-Named P q r l c = (CoverAlone P q r × BreaksAt P q r l c) ⊎ ((CoverAlone P q r → ⊥) × (l ≡ unnamed) × (c ≡ unnamed))
+abbrev pub Carried : Problem → State → Record → (l c : ℕ) → Type 0
+Carried P q r l c = (CoverAlone P q r × BreaksAt P q r l c) ⊎ ((CoverAlone P q r → ⊥) × (l ≡ unnamed) × (c ≡ unnamed))
 
 -- what the definition answers is what is named, and nothing else
-named-iff : {P : Problem} {q : State} → Fits P q → (r : Record) → (T (lawful P q r) → ⊥) → (j k l c : ℕ)
-    → (unlawfulRecord j (brokenCover P q r) ≡ refusal.Unlawful k l c) ↔ ((j ≡ k) × Named P q r l c)
-named-iff {P} {q} F r n j k l c = (forth (brokenCover P q r) refl, λ x. back (x .0) (x .1))
+carried-iff : {P : Problem} {q : State} → Fits P q → (r : Record) → (T (lawful P q r) → ⊥) → (j k l c : ℕ)
+    → (unlawfulRecord j (brokenCover P q r) ≡ refusal.Unlawful k l c) ↔ ((j ≡ k) × Carried P q r l c)
+carried-iff {P} {q} F r n j k l c = (forth (brokenCover P q r) refl, λ x. back (x .0) (x .1))
   where
-    forth : (x : Break) → brokenCover P q r ≡ x → unlawfulRecord j x ≡ refusal.Unlawful k l c → (j ≡ k) × Named P q r l c
+    forth : (x : Break) → brokenCover P q r ≡ x → unlawfulRecord j x ≡ refusal.Unlawful k l c → (j ≡ k) × Carried P q r l c
     forth (At m d) e h =
         let y = names-iff F r n (At m d) .0 e in
         let f : m ≡ l = cc in
@@ -94,7 +94,7 @@ named-iff {P} {q} F r n j k l c = (forth (brokenCover P q r) refl, λ x. back (x
         (cc, inl (y .0, subst (λ (z : ℕ). BreaksAt P q r z c) f (subst (BreaksAt P q r m) g (y .1))))
     forth Nowhere e h = (cc, inr (names-iff F r n Nowhere .0 e, cc, cc))
 
-    back : j ≡ k → Named P q r l c → unlawfulRecord j (brokenCover P q r) ≡ refusal.Unlawful k l c
+    back : j ≡ k → Carried P q r l c → unlawfulRecord j (brokenCover P q r) ≡ refusal.Unlawful k l c
     back e (inl x) = ap (unlawfulRecord j) (names-iff F r n (At l c) .1 x) ∙ ap (λ (z : ℕ). refusal.Unlawful z l c) e
     back e (inr x) = ap (unlawfulRecord j) (names-iff F r n Nowhere .1 (x .0)) ∙ (λ i. refusal.Unlawful (e i) (sym (x .1) i) (sym (x .2) i))
 
@@ -267,7 +267,7 @@ module _ (P : Problem) (t : List ℕ) where
   -- 17: after the bytes of a lawful trace of k records, those of a record that is not lawful in the state reached, and of it l and c are named
   TraceCause (Fault (refusal.Unlawful k l c)) =
       (u : List Record) × (r : Record) × (more : List ℕ) × (t ≡ traceBytes u ++ (recordBytes r ++ more)) × T (lawfulTrace P (full P) u)
-      × (T (lawful P (afterTrace P (full P) u) r) → ⊥) × (length u ≡ k) × Named P (afterTrace P (full P) u) r l c
+      × (T (lawful P (afterTrace P (full P) u) r) → ⊥) × (length u ≡ k) × Carried P (afterTrace P (full P) u) r l c
   TraceCause (Fault (refusal.Sheet r)) = ⊥
   TraceCause (Fault refusal.PlanLength) = ⊥
   TraceCause (Fault refusal.ResultLength) = ⊥
@@ -299,7 +299,7 @@ module _ (P : Problem) (t : List ℕ) where
   of-records d e (Lawful u) x = (e ∙ ap (λ (w : List ℕ). 1 ∷ w) (x .0), x .1)
   of-records d e (Fault refusal.Malformed) (u, more, h, l, n) = (u, more, e ∙ ap (λ (w : List ℕ). 1 ∷ w) h, l, n)
   of-records d e (Fault (refusal.Unlawful k j c)) (u, r, more, h, l, n, w) =
-      let y = named-iff (trace-fits P (full-fits P) u) r n (0 + length u) k j c .0 w in
+      let y = carried-iff (trace-fits P (full-fits P) u) r n (0 + length u) k j c .0 w in
       (u, r, more, e ∙ ap (λ (w : List ℕ). 1 ∷ w) h, l, n, omega (arith, y .0), y .1)
   of-records d e (Fault (refusal.Sheet r)) x = absurd x
   of-records d e (Fault refusal.PlanLength) x = absurd x
@@ -329,7 +329,7 @@ module _ (P : Problem) (t : List ℕ) where
   cause-trace (Fault refusal.Malformed) (u, more, e, l, n) = begun-iff (recordsBytes u ++ more) e (Fault refusal.Malformed) .1 (u, more, refl, l, n)
   cause-trace (Fault (refusal.Unlawful k j c)) (u, r, more, e, l, n, h, x) =
       begun-iff (recordsBytes u ++ (recordBytes r ++ more)) e (Fault (refusal.Unlawful k j c)) .1
-      (u, r, more, refl, l, n, named-iff (trace-fits P (full-fits P) u) r n (0 + length u) k j c .1 (omega arith, x))
+      (u, r, more, refl, l, n, carried-iff (trace-fits P (full-fits P) u) r n (0 + length u) k j c .1 (omega arith, x))
   cause-trace (Fault (refusal.Sheet r)) x = absurd x
   cause-trace (Fault refusal.PlanLength) x = absurd x
   cause-trace (Fault refusal.ResultLength) x = absurd x
