@@ -22,7 +22,7 @@ const SHEETS: u64 = 104_000;
 const LARGE_SHEETS: u64 = 200;
 const HAND_LISTS: u64 = 14_000;
 const TRACES: u64 = 12_000;
-const UNLAWFUL_TRACES: u64 = 6_000;
+const UNLAWFUL_TRACES: u64 = 24_000;
 const LONG_TRACES: u64 = 500;
 const FILES: u64 = 60_000;
 const LONG_FILES: u64 = 200;
@@ -42,15 +42,18 @@ const JOBS: [&str; 6] = ["read", "run", "start", "hand call", "put back", "colou
 const COLOUR: usize = 5;
 const KINDS: [&str; 5] = ["bare", "snake", "fold", "cover", "slide"];
 
-/// The one cause of 17 that names an item and a setting.
-const BREAKS: &str = "a cover that breaks";
-
-/// Why a record is refused with 17. Each but the last two is counted where it alone speaks against the record.
-const CAUSES: [&str; 11] = [
-    BREAKS,
+/// Why a record is refused with 17, those first that name an item and a setting. Each but the last two is counted where it alone speaks
+/// against the record.
+const CAUSES: [&str; 16] = [
+    "a cover that breaks at the first other item in",
+    "a cover that breaks between",
+    "a cover that breaks at the last",
+    "a cover that breaks at the only one",
     "a cover, a = b",
-    "a cover, i out or not below n",
-    "a cover, a or b off",
+    "a cover, i out",
+    "a cover, i not below n",
+    "a cover, a off",
+    "a cover, b off",
     "a cover that breaks, an item emptied",
     "bare",
     "snake",
@@ -59,6 +62,8 @@ const CAUSES: [&str; 11] = [
     "a cover that holds, an item emptied",
     "several",
 ];
+/// Those that name an item and a setting.
+const NAMES: &[&str] = CAUSES.split_at(4).0;
 
 const EVERY_JOB: [usize; 6] = [0, 1, 2, 3, 4, COLOUR];
 
@@ -111,11 +116,12 @@ struct Counts {
     long_runs: u64,
     lent_records: [u64; 6],
     /// Records refused with 17, by CAUSES; those after a lawful one, and those whose number is more than a byte holds, the latter also
-    /// where they name an item and a setting.
+    /// where they name an item and a setting; and those that name an item with one out below it.
     unlawful: BTreeMap<&'static str, u64>,
     unlawful_later: u64,
     unlawful_far_on: u64,
     named_far_on: u64,
+    named_above_out: u64,
     slides_not_covers: u64,
     /// Steps that took an item out and switched off settings elsewhere: in accepted lent traces, and by hand.
     lent_partners_lost: u64,
@@ -183,8 +189,8 @@ impl Counts {
         println!("slides among them that are no covers: {}", self.slides_not_covers);
         println!("records refused with 17: {}", self.of_causes().map(|(cause, count)| format!("{cause} {count}")).join("; "));
         println!(
-            "among them after a lawful record: {}; of a number over 255: {}, {} of these naming a setting",
-            self.unlawful_later, self.unlawful_far_on, self.named_far_on
+            "among them after a lawful record: {}; of a number over 255: {}, {} of these naming a setting; naming an item above one out: {}",
+            self.unlawful_later, self.unlawful_far_on, self.named_far_on, self.named_above_out
         );
         println!(
             "items taken out that cost another item a setting: {} in lent traces, {} by hand",
@@ -216,6 +222,7 @@ impl Counts {
             ("17 after a lawful record".to_string(), self.unlawful_later, LEAST_OF_EACH_CAUSE),
             ("17 of a record over 255".to_string(), self.unlawful_far_on, LEAST_OF_EACH_CAUSE),
             ("17 of a record over 255 that names a setting".to_string(), self.named_far_on, LEAST_OF_EACH),
+            ("17 that names an item above one out".to_string(), self.named_above_out, LEAST_OF_EACH_CAUSE),
             ("sheets".to_string(), self.sheets, LEAST_SHEETS),
             ("runs of more than 255 steps".to_string(), self.long_runs, LEAST_LONG),
             ("slides that are no covers".to_string(), self.slides_not_covers, LEAST_OF_EACH),
@@ -462,12 +469,15 @@ impl Comparison {
 
     /// Counts why a record was refused with 17; only a cover that breaks may name something, and it must.
     fn count_unlawful(&mut self, problem: &Problem, trace: &[u8], unlawful: Unlawful) {
-        let cause = cause_of(problem, trace, unlawful.record);
-        assert_eq!(unlawful.spoiler().is_some(), cause == BREAKS, "{unlawful:?} for: {cause}");
+        let (state, step) = state_at(problem, trace, unlawful.record);
+        let cause = cause_of(problem, &state, step, usize::from(unlawful.item));
+        let named = NAMES.contains(&cause);
+        assert_eq!(unlawful.spoiler().is_some(), named, "{unlawful:?} for: {cause}");
         *self.counts.unlawful.entry(cause).or_default() += 1;
         self.counts.unlawful_later += u64::from(unlawful.record > 0);
         self.counts.unlawful_far_on += u64::from(unlawful.record > 255);
-        self.counts.named_far_on += u64::from(unlawful.record > 255 && cause == BREAKS);
+        self.counts.named_far_on += u64::from(unlawful.record > 255 && named);
+        self.counts.named_above_out += u64::from(named && (0..usize::from(unlawful.item)).any(|i| !state.is_active(i)));
     }
 
     /// Counts what an accepted lent trace holds.
@@ -485,28 +495,43 @@ impl Comparison {
     }
 }
 
-/// Which of CAUSES it is that this record gets 17, those before it being lawful: by what it says, and not by what was answered.
-fn cause_of(problem: &Problem, trace: &[u8], record: u16) -> &'static str {
+/// The record of this number, and the state that those before it lead to, which are lawful.
+fn state_at(problem: &Problem, trace: &[u8], record: u16) -> (State, Step) {
     let (mut state, mut rest) = (State::full(problem), &trace[1..]);
     for _ in 0..record {
         let (step, after) = Step::read(rest).expect("a lawful record");
         state = problem.perform(&state, step);
         rest = after;
     }
-    let (step, _) = Step::read(rest).expect("a whole record");
+    (state, Step::read(rest).expect("a whole record").0)
+}
+
+/// Which of CAUSES it is that a record gets 17 in this state: by what it says, and not by what was answered. Of a cover that breaks, which of
+/// the other items in the one answered is.
+fn cause_of(problem: &Problem, state: &State, step: Step, item: usize) -> &'static str {
+    let off = |i: usize, c: usize| !state.is_live(i, c);
     match step {
         // Whether the rule holds does not ask for items that are emptied.
         Step::Neighbourhood { i, b, a } if a != b && state.is_live(i, a) && state.is_live(i, b) => {
-            match (state.emptied(), problem.neighbourhood(&state, i, b, a)) {
-                (false, _) => BREAKS,
+            let others: Vec<usize> = state.active().iter().copied().filter(|&l| l != i).collect();
+            match (state.emptied(), problem.neighbourhood(state, i, b, a)) {
+                (false, _) if others == [item] => "a cover that breaks at the only one",
+                (false, _) if others.first() == Some(&item) => "a cover that breaks at the first other item in",
+                (false, _) if others.last() == Some(&item) => "a cover that breaks at the last",
+                (false, _) => "a cover that breaks between",
                 (true, false) => "a cover that breaks, an item emptied",
                 (true, true) => "a cover that holds, an item emptied",
             }
         }
         _ if state.emptied() => "several",
-        Step::Neighbourhood { i, .. } if !state.is_active(i) => "a cover, i out or not below n",
-        Step::Neighbourhood { i, b, a } if a == b && state.is_live(i, a) => "a cover, a = b",
-        Step::Neighbourhood { .. } => "a cover, a or b off",
+        Step::Neighbourhood { i, .. } if i >= problem.sizes().len() => "a cover, i not below n",
+        Step::Neighbourhood { i, .. } if !state.is_active(i) => "a cover, i out",
+        Step::Neighbourhood { i, b, a } => match (off(i, a), off(i, b)) {
+            (false, false) => "a cover, a = b",
+            (true, false) => "a cover, a off",
+            (false, true) => "a cover, b off",
+            (true, true) => "several",
+        },
         Step::Unsupported { .. } => "bare",
         Step::Snake { .. } => "snake",
         Step::Triangle { .. } => "fold",
