@@ -1,10 +1,15 @@
 -- `neighbourhood::first_break`: the other variables. Assumes nothing.
 use Rattle.cover.proofs.Laws.{break-word, others-out}
+use borrow.Author.Needs.{needs}
 use Rattle.neighbourhood.proofs.first_break.Statement.{statement}
 use Rattle.neighbourhood.proofs.first_break.Tie as tie
 
 without32-requires : tie.Need-without32-requires
-without32-requires c κs = let p = c .before .pre in p .1 .variable
+without32-requires c κs =
+    let p = c .before .pre .1 in
+    let i = p .variable in
+    let a = p .value in
+    search needs
 
 first-break-requires : tie.Need-first-break-requires
 first-break-requires c κs =
