@@ -85,6 +85,14 @@ lowest-hit f n k l p q = lowest-unique n f k (omega arith) (λ m h t. lowest-lea
 pub lowest-end : (f : ℕ → Bool) (n i : ℕ) → n ≤ i → i ≤ n → lowest i f ≡ i → lowest n f ≡ n
 lowest-end f n i l m e = let q : i ≡ n = omega arith in subst (λ (k : ℕ). lowest k f ≡ k) q e
 
+-- there is a lowest, or none
+pub lowest-or : (f : ℕ → Bool) (n : ℕ) → ((k : ℕ) × (k < n) × T (f k) × ((m : ℕ) → m < k → T (f m) → ⊥)) ⊎ ((k : ℕ) → k < n → T (f k) → ⊥)
+lowest-or f n =
+    ⊎-elim
+    (λ e. let x = lowest-is n f (any-iff n f .0 (T-of e)) in inl (lowest n f, x .0, x .1, lowest-least n f))
+    (λ e. inr (λ k l. T-not (any-each f n e k l)))
+    (split (anyBelow n f))
+
 -- ---- at the lowest
 
 module _ {A : Type 0} (f : ℕ → Bool) (g : ℕ → A) (z : A) where
@@ -110,14 +118,6 @@ module _ {A : Type 0} (f : ℕ → Bool) (g : ℕ → A) (z : A) where
   pub at-lowest-none : (n : ℕ) → ((k : ℕ) → k < n → T (f k) → ⊥) → atLowest n f g z ≡ z
   at-lowest-none n h = at-lowest-end n (any-intro f n (λ k l. T-false (f k) (h k l)))
 
-  -- there is one, or none
-  pub at-lowest-or : (n : ℕ) → ((k : ℕ) × (k < n) × T (f k) × ((m : ℕ) → m < k → T (f m) → ⊥)) ⊎ ((k : ℕ) → k < n → T (f k) → ⊥)
-  at-lowest-or n =
-      ⊎-elim
-      (λ e. let x = lowest-is n f (any-iff n f .0 (T-of e)) in inl (lowest n f, x .0, x .1, lowest-least n f))
-      (λ e. inr (λ k l. T-not (any-each f n e k l)))
-      (split (anyBelow n f))
-
 -- two tests that hold at the same numbers
 pub at-lowest-same : {A : Type 0} (n m : ℕ) (f h : ℕ → Bool) (g : ℕ → A) (z : A)
     → ((k : ℕ) → ((k < n) × T (f k)) ↔ ((k < m) × T (h k))) → atLowest n f g z ≡ atLowest m h g z
@@ -126,7 +126,7 @@ at-lowest-same n m f h g z same =
     (λ x. let y = same (x .0) .0 (x .1, x .2) in
     at-lowest-is f g z n (x .0) (x .1) (x .2) (x .3) ∙ sym (at-lowest-is h g z m (x .0) (y .0) (y .1) (λ k l t. x .3 k l (same k .1 (omega (arith, y .0), t) .1))))
     (λ x. at-lowest-none f g z n x ∙ sym (at-lowest-none h g z m (λ k l t. let y = same k .1 (l, t) in x k (y .0) (y .1))))
-    (at-lowest-or f g z n)
+    (lowest-or f n)
 
 -- ---- sums
 

@@ -13,7 +13,7 @@ use Rattle.bounded.specs.Mask.{bit, without}
 use Rattle.bounded.proofs.Truth.{T-ext, T-of, T-not, T-false, T-true, split, clash, and-iff, imp-iff, imp-fails, not-iff, eqb-iff}
 use Rattle.bounded.proofs.Bounded.{all-iff, any-iff}
 use Rattle.bounded.proofs.Mask.{bit-and, bit-not16, bit-without32, within}
-use Rattle.bounded.proofs.Loops.{all-intro, all-fail, at-lowest-is, at-lowest-none, at-lowest-or, at-lowest-same}
+use Rattle.bounded.proofs.Loops.{all-intro, all-fail, lowest-or, at-lowest-is, at-lowest-none, at-lowest-same}
 use Rattle.problem.specs.Problem.{Problem, State, allOther, allThird, unspoilt, breakAt, unbroken, spoils, spoiler, breaks, firstBreak}
 use Rattle.problem.specs.Held.{rowWord, held}
 use Rattle.problem.specs.Masks.{stateOf}
@@ -53,7 +53,7 @@ module _ (P : Problem) (s : State) (rest i a j b : ℕ) where
   -- there is none where a covers b at each variable of the set
   pub covers-all : coversIn P s rest i a j b ≡ allBelow 32 (λ l. imp (bit rest l) (unspoilt (spoiler P s i a j b l)))
   unfolding firstBreakIn
-  covers-all = go (at-lowest-or f g Nowhere 32) ∙ (λ t. allBelow 32 (λ l. unspoilt-in P s rest i a j b l t))
+  covers-all = go (lowest-or f 32) ∙ (λ t. allBelow 32 (λ l. unspoilt-in P s rest i a j b l t))
     where
       x : ℕ → Cover
       x = spoilerIn P s rest i a j b
@@ -168,7 +168,7 @@ module _ {t : List ℕ} {m : Masks} (R : Ready t m) where
   -- the first break at the other variables
   pub break-word : (i b a : ℕ) → i < 32 → firstBreakIn (held t) (stateOf m) (others (m .active) i) i a i b ≡ firstBreak (held t) (stateOf m) i b a
   unfolding firstBreakIn firstBreak stateOf
-  break-word i b a p = go (at-lowest-or f g Nowhere 32)
+  break-word i b a p = go (lowest-or f 32)
     where
       P : Problem
       P = held t

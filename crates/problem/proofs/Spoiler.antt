@@ -1,14 +1,14 @@
 -- The cover test: its answer is the lowest setting that spoils the cover, or that there is none, and every rule means what it meant while
 -- the test said yes or no. And what is named of a record that is not lawful: where its cover breaks. Assumes nothing.
 use mathlib.Core.Path.{_≡_, refl, ap, _∙_}
-use mathlib.Core.Bool.{Bool, not, _&&_}
+use mathlib.Core.Bool.{Bool, true, false, not, _&&_}
 use mathlib.Core.Logic.{_⊎_, inl, inr, ⊎-elim, _≢_, _↔_, Iff·rfl}
 use Prim.Native.Nat.{ℕ, _<_}
 use lib.Dec.{T, eqb}
 use Rattle.bounded.specs.Bounded.{imp}
 use Rattle.bounded.proofs.Truth.{T-ext, T-dec, T-true, T-false, and-iff, imp-iff, not-iff, eqb-iff}
 use Rattle.bounded.proofs.Bounded.{all-iff}
-use Rattle.bounded.proofs.Loops.{at-lowest-is, at-lowest-none, at-lowest-or}
+use Rattle.bounded.proofs.Loops.{lowest-or, at-lowest-is, at-lowest-none}
 use Rattle.bounded.proofs.Causes.{cause-iff}
 use Rattle.problem.specs.Problem.{Problem, State, allLive, allOther, allThird, noneEmpty, unspoilt, breakAt, spoils, spoiler, snakeServes, triangleServes, neighbourhood, slideServes, breaks, firstBreak, coverAsked}
 use Rattle.problem.specs.Reduce.{holds, lawful, brokenCover}
@@ -36,7 +36,7 @@ module _ {P : Problem} {s : State} (F : Fits P s) where
   -- The cover test answers so for this and for nothing else.
   pub spoiler-iff : (i a j b l : ℕ) (x : Cover) → (spoiler P s i a j b l ≡ x) ↔ SpoilerSays P s i a j b l x
   unfolding spoiler
-  spoiler-iff i a j b l = cause-iff (spoiler P s i a j b l) (SpoilerSays P s i a j b l) answers (⊎-elim found none (at-lowest-or f Spoilt Holds (P .size l)))
+  spoiler-iff i a j b l = cause-iff (spoiler P s i a j b l) (SpoilerSays P s i a j b l) answers (⊎-elim found none (lowest-or f (P .size l)))
     where
       f : ℕ → Bool
       f = spoils P s i a j b l
@@ -102,7 +102,7 @@ module _ {P : Problem} {s : State} (F : Fits P s) where
 
   pub break-iff : (i b a : ℕ) (x : Break) → (firstBreak P s i b a ≡ x) ↔ BreakSays P s i b a x
   unfolding firstBreak
-  break-iff i b a = cause-iff (firstBreak P s i b a) (BreakSays P s i b a) answers (⊎-elim found none (at-lowest-or f g Nowhere (P .n)))
+  break-iff i b a = cause-iff (firstBreak P s i b a) (BreakSays P s i b a) answers (⊎-elim found none (lowest-or f (P .n)))
     where
       f : ℕ → Bool
       f = breaks P s i b a
@@ -160,6 +160,16 @@ module _ (P : Problem) (s : State) where
   Names r (At l c) = CoverAlone r × BreaksAt r l c
   Names r Nowhere = CoverAlone r → ⊥
 
+-- where the test passes, and where it fails
+module _ (P : Problem) (s : State) (i b a : ℕ) where
+  pub broken-asked : coverAsked P s i b a ≡ true → brokenCover P s (Neighbourhood i b a) ≡ firstBreak P s i b a
+  unfolding brokenCover
+  broken-asked e = rw (e, brokenCover)
+
+  pub broken-unasked : coverAsked P s i b a ≡ false → brokenCover P s (Neighbourhood i b a) ≡ Nowhere
+  unfolding brokenCover
+  broken-unasked e = rw (e, brokenCover)
+
 module _ {P : Problem} {s : State} (F : Fits P s) where
   -- what is named is on the sheet
   pub named-listed : (r : Record) (l c : ℕ) → BreaksAt P s r l c → (l < P .n) × (c < P .size l)
@@ -177,14 +187,6 @@ module _ {P : Problem} {s : State} (F : Fits P s) where
   unfolding lawful holds
   asked-lawful i b a C h = and-iff (noneEmpty P s) (neighbourhood P s i b a) .1 (noneEmpty-iff F .1 (C .1 .1 .1 .1), neighbourhood-iff F i b a .1 (C .1 .1 .1 .0, (C .1 .1 .0, (C .1 .0, h))))
 
-  asked-broken : (i b a : ℕ) → CoverAsked P s i b a → brokenCover P s (Neighbourhood i b a) ≡ firstBreak P s i b a
-  unfolding brokenCover
-  asked-broken i b a C = rw (T-true (coverAsked P s i b a) (asked-iff i b a .1 C), brokenCover)
-
-  unasked-broken : (i b a : ℕ) → (CoverAsked P s i b a → ⊥) → brokenCover P s (Neighbourhood i b a) ≡ Nowhere
-  unfolding brokenCover
-  unasked-broken i b a n = rw (T-false (coverAsked P s i b a) (λ t. n (asked-iff i b a .0 t)), brokenCover)
-
   -- Of a record that is not lawful this is named, and nothing else: item and setting exactly where only the cover can be at fault, and
   -- then there always are such.
   pub names-iff : (r : Record) → (T (lawful P s r) → ⊥) → (x : Break) → (brokenCover P s r ≡ x) ↔ Names P s r x
@@ -192,8 +194,8 @@ module _ {P : Problem} {s : State} (F : Fits P s) where
   names-iff r n = cause-iff (brokenCover P s r) (Names P s r) (answers r) (some r n)
     where
       answers : (r : Record) (x : Break) → Names P s r x → brokenCover P s r ≡ x
-      answers (Neighbourhood i b a) (At l c) h = asked-broken i b a (h .0) ∙ break-iff F i b a (At l c) .1 (h .1)
-      answers (Neighbourhood i b a) Nowhere h = unasked-broken i b a h
+      answers (Neighbourhood i b a) (At l c) h = broken-asked P s i b a (T-true (coverAsked P s i b a) (asked-iff i b a .1 (h .0))) ∙ break-iff F i b a (At l c) .1 (h .1)
+      answers (Neighbourhood i b a) Nowhere h = broken-unasked P s i b a (T-false (coverAsked P s i b a) (λ t. h (asked-iff i b a .0 t)))
       answers (Unsupported i b k) (At l c) h = absurd (h .0)
       answers (Unsupported i b k) Nowhere h = refl
       answers (Snake i v) (At l c) h = absurd (h .0)

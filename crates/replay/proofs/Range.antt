@@ -7,14 +7,13 @@ use native.Mathlib.Omega.{arith}
 use lib.Dec.{ltb}
 use borrow.Author.Tests.{ltb-true}
 use Rattle.bounded.proofs.Truth.{T-of, T-not, T-false, both, and-iff, ltb-iff}
-use Rattle.problem.specs.Problem.{Problem, State, noneEmpty, unsupported, snake, triangle, neighbourhood, snakeSubstitution, slideSpares, firstBreak, coverAsked}
-use Rattle.problem.specs.Reduce.{holds, lawful, brokenCover, after}
+use Rattle.problem.specs.Problem.{Problem, State, noneEmpty, unsupported, snake, triangle, neighbourhood, snakeSubstitution, slideSpares, coverAsked}
+use Rattle.problem.specs.Reduce.{holds, lawful, after}
 use Rattle.problem.specs.Held.{held}
 use Rattle.problem.specs.Masks.{stateOf, masksOf}
 use Rattle.problem.specs.declared.Masks.{Masks}
 use Rattle.problem.specs.declared.Record.{Record}
 use Rattle.problem.specs.declared.Record.the-variants.{Unsupported, Snake, Triangle, Neighbourhood, SnakeSubstitution}
-use Rattle.problem.specs.declared.Break.the-variants.{Nowhere}
 use Rattle.held.specs.Ready.{Ready, Value}
 use Rattle.held.proofs.Laws.{live-value, active-32}
 use Rattle.steps.proofs.States.{after-state, after-ready, holds-within}
@@ -84,12 +83,3 @@ module _ (P : Problem) (s : State) (r : Record) where
   pub lawful-off : noneEmpty P s ≡ false → false ≡ lawful P s r
   unfolding lawful
   lawful-off e = ap (λ (b : Bool). b && holds P s r) (sym e)
-
-module _ (P : Problem) (s : State) (i b a : ℕ) where
-  pub broken-on : coverAsked P s i b a ≡ true → firstBreak P s i b a ≡ brokenCover P s (Neighbourhood i b a)
-  unfolding brokenCover
-  broken-on e = sym (rw (e, brokenCover))
-
-  pub broken-off : coverAsked P s i b a ≡ false → Nowhere ≡ brokenCover P s (Neighbourhood i b a)
-  unfolding brokenCover
-  broken-off e = sym (rw (e, brokenCover))
