@@ -3,20 +3,20 @@ use mathlib.Core.Path.{refl}
 use Rattle.bounded.specs.Bounded as bounded
 use Rattle.bounded.specs.Table as table
 use Rattle.problem.specs.Problem.{bothWays, full, stateFits, allActive, allLive, anyLive, lowestLive, allOther, allThird, noneEmpty, spoils, spoiler, breaks, firstBreak, coverAsked, unsupported, snakeServes, snake, triangleServes, triangle, neighbourhood, slideServes, snakeSubstitution, remove, eliminate, liveCount}
-use Rattle.problem.specs.Reduce.{holds, lawful, brokenCover, after, lawfulTrace, afterTrace, stepIf, first, nextUnsupported, nextSnake, nextTriangle, nextNeighbourhood, nextSnakeSubstitution, nextOfKind, next, runFrom, run, endOf}
+use Rattle.problem.specs.Reduce.{holdsBy, lawfulBy, brokenCover, after, lawfulTraceBy, afterTrace, stepIf, first, nextUnsupported, nextSnake, nextTriangle, nextNeighbourhood, nextSnakeSubstitutionBy, nextOfKindBy, nextBy, runFromBy, runBy, endOf}
 use Rattle.problem.specs.Manual.{supported, prune, pruneTimes, start, call}
 use Rattle.problem.specs.Extend.{solves, put, repair, undo, undoTrace}
 use Rattle.problem.specs.Solutions.{solutionsFrom, solutionCount}
 use Rattle.problem.specs.Samples.{AllRows, rows}
 
 pub samples : AllRows rows
-unfolding bounded.allBelow bounded.anyBelow bounded.lowest bounded.atLowest bounded.sumTo bounded.countBelow table.tab bothWays full stateFits allActive allLive anyLive lowestLive allOther allThird noneEmpty spoils spoiler breaks firstBreak coverAsked unsupported snakeServes snake triangleServes triangle neighbourhood slideServes snakeSubstitution remove eliminate liveCount holds lawful brokenCover after lawfulTrace afterTrace stepIf first nextUnsupported nextSnake nextTriangle nextNeighbourhood nextSnakeSubstitution nextOfKind next runFrom run endOf supported prune pruneTimes start call solves put repair undo undoTrace solutionsFrom solutionCount
+unfolding bounded.allBelow bounded.anyBelow bounded.lowest bounded.atLowest bounded.sumTo bounded.countBelow table.tab bothWays full stateFits allActive allLive anyLive lowestLive allOther allThird noneEmpty spoils spoiler breaks firstBreak coverAsked unsupported snakeServes snake triangleServes triangle neighbourhood slideServes snakeSubstitution remove eliminate liveCount holdsBy lawfulBy brokenCover after lawfulTraceBy afterTrace stepIf first nextUnsupported nextSnake nextTriangle nextNeighbourhood nextSnakeSubstitutionBy nextOfKindBy nextBy runFromBy runBy endOf supported prune pruneTimes start call solves put repair undo undoTrace solutionsFrom solutionCount
 samples = (
   ((refl, refl), tt),
   (
-    ((refl, refl), (refl, (refl, tt))),
+    ((refl, refl), (refl, (refl, (refl, tt)))),
     (
-      ((refl, refl), (refl, (refl, (refl, (refl, (refl, (refl, (refl, (refl, (refl, (refl, tt))))))))))),
+      ((refl, refl), (refl, (refl, (refl, (refl, (refl, (refl, (refl, (refl, (refl, (refl, (refl, tt)))))))))))),
       (
         ((refl, refl), (refl, (refl, tt))),
         (
@@ -28,14 +28,20 @@ samples = (
               (
                 ((refl, refl), tt),
                 (
-                  (refl, (refl, tt)),
+                  (refl, (refl, (refl, tt))),
                   (
-                    (refl, (refl, tt)),
+                    ((refl, refl), (refl, tt)),
                     (
-                      (refl, (refl, (refl, tt))),
+                      ((refl, refl), (refl, (refl, tt))),
                       (
                         (refl, (refl, tt)),
-                        tt,
+                        (
+                          (refl, (refl, (refl, tt))),
+                          (
+                            (refl, (refl, tt)),
+                            tt,
+                          ),
+                        ),
                       ),
                     ),
                   ),

@@ -143,8 +143,8 @@ module _ (P : Problem) (s : State) where
   unfoldable pub neighbourhood : (i b a : ℕ) → Bool
   neighbourhood i b a = s .live i b && (s .live i a && (not (eqb a b) && allOther i (λ l. unspoilt (spoiler i a i b l))))
 
-  -- kind 5: e "is allowed with a and covers d at every item other than k". With `spare` the item i is left out of these items, as
-  -- the paper (Cooper, "Strengthening neighbourhood substitution") has it; the format is narrower and keeps it in.
+  -- kind 5: e "is allowed with a and covers d at every item other than i and k". This is `spare`: i moves to a anyway. Without it i is
+  -- kept among these items, as the rule of before had it.
   unfoldable pub slideServes : (spare : Bool) (i a k d e : ℕ) → Bool
   slideServes spare i a k d e = P .allowed i a k e && allOther k (λ l. imp (not (spare && eqb l i)) (unspoilt (spoiler k e k d l)))
 
@@ -184,9 +184,15 @@ module _ (P : Problem) (s : State) where
         live = λ j w. s .live j w && (not (eqb j i) && anyLive i (λ c. P .allowed j w i c));
       }
 
--- the format's slide rule keeps i among the items where e covers d; true leaves it out, as the paper does
+-- ---- the rulebook, by the slide's word
+
+-- the rulebook in force: the slide spares i, as the paper (Cooper, "Strengthening neighbourhood substitution") has it
 abbrev pub slideSpares : Bool
-slideSpares = false
+slideSpares = true
+
+-- the rulebook of before, whose slide does not. No job has it; it is here to be compared with.
+abbrev pub narrow : Bool
+narrow = false
 
 -- how many settings are on, and how many the problem lists
 unfoldable pub liveCount : Problem → State → ℕ

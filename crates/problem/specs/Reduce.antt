@@ -1,4 +1,5 @@
--- docs/FORMAT.md, "The run": records, lawful records and traces, the next step in the required order, the run and its end.
+-- docs/FORMAT.md, "The run": records, lawful records and traces, the next step in the required order, the run and its end. What reads the
+-- slide rule takes the rulebook's word, `spare`, and a name that ends in By; the name without it is the same under the rulebook in force.
 use mathlib.Core.Bool.{Bool, true, false, _&&_}
 use mathlib.Core.List.{List, [], _∷_}
 use Prim.Native.Nat.{ℕ, zero, suc}
@@ -24,16 +25,22 @@ kindOf (Neighbourhood i b a) = 4
 kindOf (SnakeSubstitution i b a) = 5
 
 -- the rule of the record's kind holds for its fields
-unfoldable pub holds : Problem → State → Record → Bool
-holds P s (Unsupported i b k) = unsupported P s i b k
-holds P s (Snake i v) = snake P s i v
-holds P s (Triangle i j) = triangle P s i j
-holds P s (Neighbourhood i b a) = neighbourhood P s i b a
-holds P s (SnakeSubstitution i b a) = snakeSubstitution P s slideSpares i b a
+unfoldable pub holdsBy : (spare : Bool) → Problem → State → Record → Bool
+holdsBy spare P s (Unsupported i b k) = unsupported P s i b k
+holdsBy spare P s (Snake i v) = snake P s i v
+holdsBy spare P s (Triangle i j) = triangle P s i j
+holdsBy spare P s (Neighbourhood i b a) = neighbourhood P s i b a
+holdsBy spare P s (SnakeSubstitution i b a) = snakeSubstitution P s spare i b a
 
 -- "No step is taken once some item in has no setting on."
-unfoldable pub lawful : Problem → State → Record → Bool
-lawful P s r = noneEmpty P s && holds P s r
+unfoldable pub lawfulBy : (spare : Bool) → Problem → State → Record → Bool
+lawfulBy spare P s r = noneEmpty P s && holdsBy spare P s r
+
+abbrev pub holds : Problem → State → Record → Bool
+holds = holdsBy slideSpares
+
+abbrev pub lawful : Problem → State → Record → Bool
+lawful = lawfulBy slideSpares
 
 -- what is named of a record that is not lawful: where its cover breaks, for a record of kind 4 that asks nothing else in vain, and nothing
 -- for every other cause
@@ -55,9 +62,12 @@ after P s (SnakeSubstitution i b a) = remove P s i b
 -- ---- a trace
 
 -- each record is lawful in the state reached
-unfoldable pub lawfulTrace : Problem → State → List Record → Bool
-lawfulTrace P s [] = true
-lawfulTrace P s (r ∷ t) = elim (lawful P s r) [ true ↦ lawfulTrace P (after P s r) t | false ↦ false ]
+unfoldable pub lawfulTraceBy : (spare : Bool) → Problem → State → List Record → Bool
+lawfulTraceBy spare P s [] = true
+lawfulTraceBy spare P s (r ∷ t) = elim (lawfulBy spare P s r) [ true ↦ lawfulTraceBy spare P (after P s r) t | false ↦ false ]
+
+abbrev pub lawfulTrace : Problem → State → List Record → Bool
+lawfulTrace = lawfulTraceBy slideSpares
 
 -- the state that a trace leads to
 unfoldable pub afterTrace : Problem → State → List Record → State
@@ -99,32 +109,48 @@ module _ (P : Problem) (s : State) where
   unfoldable pub nextNeighbourhood : Next
   nextNeighbourhood = first (P .n) (λ i. first (P .size i) (λ b. first (P .size i) (λ a. stepIf (neighbourhood P s i b a) (Neighbourhood i b a))))
 
-  unfoldable pub nextSnakeSubstitution : Next
-  nextSnakeSubstitution =
-      first (P .n) (λ i. first (P .size i) (λ b. first (P .size i) (λ a. stepIf (snakeSubstitution P s slideSpares i b a) (SnakeSubstitution i b a))))
+module _ (spare : Bool) (P : Problem) (s : State) where
+  unfoldable pub nextSnakeSubstitutionBy : Next
+  nextSnakeSubstitutionBy =
+      first (P .n) (λ i. first (P .size i) (λ b. first (P .size i) (λ a. stepIf (snakeSubstitution P s spare i b a) (SnakeSubstitution i b a))))
 
   -- the kinds in their order
-  unfoldable pub nextOfKind : ℕ → Next
-  nextOfKind zero = Nothing
-  nextOfKind (suc zero) = nextUnsupported
-  nextOfKind (suc (suc zero)) = nextSnake
-  nextOfKind (suc (suc (suc zero))) = nextTriangle
-  nextOfKind (suc (suc (suc (suc zero)))) = nextNeighbourhood
-  nextOfKind (suc (suc (suc (suc (suc k))))) = nextSnakeSubstitution
+  unfoldable pub nextOfKindBy : ℕ → Next
+  nextOfKindBy zero = Nothing
+  nextOfKindBy (suc zero) = nextUnsupported P s
+  nextOfKindBy (suc (suc zero)) = nextSnake P s
+  nextOfKindBy (suc (suc (suc zero))) = nextTriangle P s
+  nextOfKindBy (suc (suc (suc (suc zero)))) = nextNeighbourhood P s
+  nextOfKindBy (suc (suc (suc (suc (suc k))))) = nextSnakeSubstitutionBy
 
-  unfoldable pub next : Next
-  next = elim (noneEmpty P s) [ true ↦ first kindBound nextOfKind | false ↦ Nothing ]
+  unfoldable pub nextBy : Next
+  nextBy = elim (noneEmpty P s) [ true ↦ first kindBound nextOfKindBy | false ↦ Nothing ]
+
+abbrev pub nextSnakeSubstitution : Problem → State → Next
+nextSnakeSubstitution = nextSnakeSubstitutionBy slideSpares
+
+abbrev pub nextOfKind : Problem → State → ℕ → Next
+nextOfKind = nextOfKindBy slideSpares
+
+abbrev pub next : Problem → State → Next
+next = nextBy slideSpares
 
 -- ---- the run
 
 -- the records of at most f steps
-unfoldable pub runFrom : ℕ → Problem → State → List Record
-runFrom zero P s = []
-runFrom (suc f) P s = elim (next P s) [ Nothing ↦ [] | Step r ↦ r ∷ runFrom f P (after P s r) ]
+unfoldable pub runFromBy : (spare : Bool) → ℕ → Problem → State → List Record
+runFromBy spare zero P s = []
+runFromBy spare (suc f) P s = elim (nextBy spare P s) [ Nothing ↦ [] | Step r ↦ r ∷ runFromBy spare f P (after P s r) ]
 
 -- the run from a state to its end. Each step uses up a setting that was on, so that as many steps as settings are on are enough.
-unfoldable pub run : Problem → State → List Record
-run P s = runFrom (suc (liveCount P s)) P s
+unfoldable pub runBy : (spare : Bool) → Problem → State → List Record
+runBy spare P s = runFromBy spare (suc (liveCount P s)) P s
+
+abbrev pub runFrom : ℕ → Problem → State → List Record
+runFrom = runFromBy slideSpares
+
+abbrev pub run : Problem → State → List Record
+run = runBy slideSpares
 
 -- "The end is impossible (an item in has no setting on), solved (no item in) or rest (items in, no rule holds)."
 unfoldable pub endOf : Problem → State → End

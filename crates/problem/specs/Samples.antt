@@ -6,9 +6,10 @@ use mathlib.Core.List.{List, [], _∷_}
 use Prim.Native.Nat.{ℕ, zero, suc}
 use lib.Dec.{eqb, leb}
 use lib.ListN.{getD, length}
+use Rattle.bounded.specs.Mask.{bit}
 use Rattle.bounded.specs.Table.{tab}
-use Rattle.problem.specs.Problem.{Problem, State, bothWays, both-ways-symmetric, full, spoiler}
-use Rattle.problem.specs.Reduce.{brokenCover, lawfulTrace, afterTrace, run, endOf}
+use Rattle.problem.specs.Problem.{Problem, State, bothWays, both-ways-symmetric, full, spoiler, narrow}
+use Rattle.problem.specs.Reduce.{brokenCover, lawfulTrace, lawfulTraceBy, afterTrace, run, runBy, endOf}
 use Rattle.problem.specs.Manual.{start, call}
 use Rattle.problem.specs.Extend.{undoTrace}
 use Rattle.problem.specs.Solutions.{solutionCount}
@@ -67,13 +68,21 @@ folded (suc i) a j b = leb b a
 abbrev pub lone : ℕ → ℕ → ℕ → ℕ → Bool
 lone i a j b = eqb b 0
 
+-- rows by their words, as a sheet has them: of item 0 with item 1, of item 0 with item 2, and of item 1 with item 2
+abbrev pub words : (zeroOne zeroTwo oneTwo : List ℕ) → ℕ → ℕ → ℕ → ℕ → Bool
+words x y z zero a j b = bit (getD (cond (eqb j 1) x y) a 0) b
+words x y z (suc i) a j b = bit (getD z a 0) b
+
 -- ---- what a row claims
 
 pub data Claim : Type 0 where
   -- the run's records and its end
   Runs : List Record → End → Claim
-  -- whether the trace is lawful from the full state
+  -- the run's records by the slide rule of before
+  RanBefore : List Record → Claim
+  -- whether the trace is lawful from the full state, and whether it was by the slide rule of before
   Follows : List Record → Bool → Claim
+  FollowedBefore : List Record → Bool → Claim
   -- the cover test at l in the full state, of a of i in the place of b of j
   Tests : (i a j b l : ℕ) → Cover → Claim
   -- what is named of a record after the trace
@@ -102,7 +111,9 @@ liveAt P s = tab (P .n) (λ i. passing (P .size i) 0 (s .live i))
 
 abbrev pub Meets : Problem → Claim → Type 0
 Meets P (Runs t e) = (run P (full P) ≡ t) × (endOf P (afterTrace P (full P) t) ≡ e)
+Meets P (RanBefore t) = runBy narrow P (full P) ≡ t
 Meets P (Follows t b) = lawfulTrace P (full P) t ≡ b
+Meets P (FollowedBefore t b) = lawfulTraceBy narrow P (full P) t ≡ b
 Meets P (Tests i a j b l x) = spoiler P (full P) i a j b l ≡ x
 Meets P (Broken t r x) = brokenCover P (afterTrace P (full P) t) r ≡ x
 Meets P (Plans t k) = solutionCount P (afterTrace P (full P) t) ≡ k
@@ -129,19 +140,22 @@ abbrev pub rows : List Row
 rows =
     -- A
     record { sheet = problem (2 ∷ []) unequal; claims = Runs (Snake 0 0 ∷ []) Solved ∷ [] }
-    -- B; undone first to last it would come back 0, 0. The slide is the paper's and not the format's.
+    -- B; undone first to last it would come back 0, 0. The slide spares item 0: settings 0 and 1 of item 1 cover each other nowhere else.
     ∷ record {
       sheet = problem (2 ∷ 2 ∷ []) unequal;
       claims =
           Runs (Snake 0 0 ∷ Snake 1 0 ∷ []) Solved ∷ Undone (Snake 0 0 ∷ Snake 1 0 ∷ []) (255 ∷ 255 ∷ []) (0 ∷ 1 ∷ [])
-          ∷ Follows (SnakeSubstitution 0 0 1 ∷ []) false
+          ∷ Follows (SnakeSubstitution 0 0 1 ∷ []) true
+          ∷ FollowedBefore (SnakeSubstitution 0 0 1 ∷ []) false
           ∷ [];
     }
-    -- C: no step, and no plan; no setting covers itself
+    -- C: no step, and no plan; no setting covers itself, and none slides
     ∷ record {
       sheet = problem (2 ∷ 2 ∷ 2 ∷ []) unequal;
       claims =
-          Runs [] Rest ∷ Plans [] 0 ∷ Follows (Neighbourhood 0 0 0 ∷ []) false ∷ ByHand 0 NoSnake ∷ ByHand 3 NotActive
+          Runs [] Rest ∷ Plans [] 0 ∷ Follows (Neighbourhood 0 0 0 ∷ []) false ∷ Follows (SnakeSubstitution 0 0 1 ∷ []) false
+          ∷ ByHand 0 NoSnake
+          ∷ ByHand 3 NotActive
           ∷ Broken [] (Neighbourhood 0 0 1) (At 1 1)
           ∷ Broken [] (Neighbourhood 2 0 1) (At 0 1)
           ∷ Broken [] (Neighbourhood 0 0 0) Nowhere
@@ -171,11 +185,23 @@ rows =
     ∷ record { sheet = problem (2 ∷ 2 ∷ 2 ∷ 2 ∷ []) twin; claims = Runs (Triangle 3 0 ∷ []) Rest ∷ [] }
     -- H
     ∷ record { sheet = problem (3 ∷ 2 ∷ 2 ∷ []) third; claims = Runs (Neighbourhood 0 0 2 ∷ []) Rest ∷ [] }
-    -- a lawful slide
+    -- a slide that is lawful by the rule of before too
     ∷ record {
       sheet = problem (2 ∷ 2 ∷ []) steps;
-      claims = Follows (SnakeSubstitution 0 0 1 ∷ []) true
+      claims = Follows (SnakeSubstitution 0 0 1 ∷ []) true ∷ FollowedBefore (SnakeSubstitution 0 0 1 ∷ []) true
           ∷ Undone (SnakeSubstitution 0 0 1 ∷ []) (1 ∷ 1 ∷ []) (1 ∷ 1 ∷ []) ∷ [];
+    }
+    -- a slide in a run, which by the rule of before took no step; and another, after which a setting is bare
+    ∷ record {
+      sheet = problem (3 ∷ 2 ∷ 2 ∷ []) (words (1 ∷ 2 ∷ 1 ∷ []) (2 ∷ 1 ∷ 1 ∷ []) (2 ∷ 3 ∷ []));
+      claims = Runs (SnakeSubstitution 0 2 0 ∷ Triangle 1 0 ∷ Snake 0 0 ∷ Snake 2 0 ∷ []) Solved ∷ RanBefore [] ∷ [];
+    }
+    ∷ record {
+      sheet = problem (3 ∷ 3 ∷ 2 ∷ []) (words (6 ∷ 1 ∷ 4 ∷ []) (1 ∷ 1 ∷ 3 ∷ []) (1 ∷ 3 ∷ 2 ∷ []));
+      claims =
+          Runs (SnakeSubstitution 0 1 0 ∷ Unsupported 1 0 0 ∷ []) Rest ∷ RanBefore []
+          ∷ Left (SnakeSubstitution 0 1 0 ∷ Unsupported 1 0 0 ∷ []) ((0 ∷ 2 ∷ []) ∷ (1 ∷ 2 ∷ []) ∷ (0 ∷ 1 ∷ []) ∷ [])
+          ∷ [];
     }
     -- the lowest of several fitting choices
     ∷ record {
