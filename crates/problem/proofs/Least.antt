@@ -10,7 +10,7 @@ use native.Mathlib.Omega.{arith}
 use lib.Dec.{T}
 use Rattle.bounded.proofs.Truth.{T-true, lt-dec}
 use Rattle.problem.specs.Problem.{Problem, State, noneEmpty, slideSpares, liveCount}
-use Rattle.problem.specs.Reduce.{kindOf, holds, lawful, afterTrace, stepIf, first, nextUnsupported, nextSnake, nextTriangle, nextNeighbourhood, nextSnakeSubstitution, kindBound, nextOfKind, next, runFrom, run}
+use Rattle.problem.specs.Reduce.{kindOf, holdsBy, holds, lawful, afterTrace, stepIf, first, nextUnsupported, nextSnake, nextTriangle, nextNeighbourhood, nextSnakeSubstitutionBy, kindBound, nextOfKindBy, nextOfKind, next, runFrom, runBy, run}
 use Rattle.problem.specs.declared.Record.{Record}
 use Rattle.problem.specs.declared.Record.the-variants.{Unsupported, Snake, Triangle, Neighbourhood, SnakeSubstitution}
 use Rattle.problem.specs.declared.Next.{Next}
@@ -206,7 +206,7 @@ module _ {P : Problem} {s : State} (F : Fits P s) where
 
   -- a record that holds has its fields within these bounds
   within : (x : Record) → T (holds P s x) → (itemOf x < P .n) × (thirdOf x < thirdBound (kindOf x) (itemOf x)) × (fourthOf x < fourthBound (kindOf x) (itemOf x))
-  unfolding holds thirdBound fourthBound
+  unfolding holdsBy thirdBound fourthBound
   within (Unsupported i b k) t = let x = unsupported-iff F i b k .0 t in (live-item i b (x .0), F .live-lt i b (x .0), F .active-lt k (x .1))
   within (Snake i v) t = let x = snake-iff F i v .0 t in (live-item i v (x .0), F .live-lt i v (x .0), omega arith)
   within (Triangle i j) t = let x = triangle-iff F i j .0 t in (F .active-lt i (x .0), F .active-lt j (x .1 .0), omega arith)
@@ -260,7 +260,7 @@ module _ {P : Problem} {s : State} (F : Fits P s) where
           (λ x a h. omega (arith, e .3))
 
   kind-least : (k : ℕ) → k < kindBound → Least (OfKind k) ByItem (nextOfKind P s k)
-  unfolding nextOfKind nextUnsupported nextSnake nextTriangle nextNeighbourhood nextSnakeSubstitution holds thirdBound fourthBound
+  unfolding nextOfKindBy nextUnsupported nextSnake nextTriangle nextNeighbourhood nextSnakeSubstitutionBy holdsBy thirdBound fourthBound
   kind-least zero l = (λ r e. absurd (never e), λ e x a. omega (arith, kind-within x .0, a .1))
   kind-least (suc zero) l = four-least 1 Unsupported (λ i b c. (refl, refl, refl, refl))
   kind-least (suc (suc zero)) l = three-least 2 Snake (λ i b. (refl, refl, refl, refl)) (λ i. refl)
@@ -325,5 +325,5 @@ only-from (suc f) {P} {s} F h (r ∷ t) each end =
 module _ {P : Problem} {s : State} (F : Fits P s) where
   pub run-only : (t : List Record) → ((before : List Record) (r : Record) (rest : List Record) → t ≡ before ++ (r ∷ rest) → FirstLawful P (afterTrace P s before) r)
       → ((x : Record) → T (lawful P (afterTrace P s t) x) → ⊥) → t ≡ run P s
-  unfolding run
+  unfolding runBy
   run-only = only-from (suc (liveCount P s)) F (omega arith)

@@ -8,6 +8,7 @@ pub mod Trace
 pub mod Run
 pub mod Least
 pub mod Narrow
+pub mod Wider
 pub mod Start
 pub mod OneCall
 pub mod Order

@@ -1,5 +1,5 @@
--- The format's slide keeps i among the items where e covers d. Wherever it holds a cover holds, and a cover is looked for before it:
--- a run takes no slide. Assumes nothing.
+-- The slide rule of before keeps i among the items where e covers d. Wherever it holds a cover holds, and a cover is looked for before it:
+-- by that rulebook a run takes no slide. Assumes nothing.
 use mathlib.Core.Path.{_≡_, refl, sym, subst, _∙_}
 use mathlib.Core.Bool.{Bool, true, false}
 use mathlib.Core.List.{List, _∷_, _++_}
@@ -8,8 +8,8 @@ use Prim.Native.Nat.{ℕ, zero, suc, _<_, _≤_}
 use native.Mathlib.Omega.{arith}
 use lib.Dec.{T}
 use Rattle.bounded.proofs.Truth.{lt-dec}
-use Rattle.problem.specs.Problem.{Problem, State, noneEmpty, unsupported, snake, triangle, neighbourhood, snakeSubstitution, firstBreak}
-use Rattle.problem.specs.Reduce.{holds, kindOf, nextUnsupported, nextSnake, nextTriangle, nextNeighbourhood, kindBound, nextOfKind, next, run}
+use Rattle.problem.specs.Problem.{Problem, State, noneEmpty, unsupported, snake, triangle, neighbourhood, snakeSubstitution, narrow, firstBreak}
+use Rattle.problem.specs.Reduce.{kindOf, nextUnsupported, nextSnake, nextTriangle, nextNeighbourhood, nextSnakeSubstitutionBy, kindBound, nextOfKindBy, nextBy, runBy}
 use Rattle.problem.specs.declared.Record.{Record}
 use Rattle.problem.specs.declared.Record.the-variants.{Unsupported, Snake, Triangle, Neighbourhood, SnakeSubstitution}
 use Rattle.problem.specs.declared.Break.{Break}
@@ -18,21 +18,21 @@ use Rattle.problem.specs.declared.Next.the-variants.{Step, Nothing}
 use Rattle.problem.proofs.Reflect.{Allowed, Fits, neighbourhood-iff, snakeSubstitution-iff}
 use Rattle.problem.proofs.Spoiler.{BreakSays, break-iff}
 use Rattle.problem.proofs.Trace.{trace-fits}
-use Rattle.problem.proofs.Run.{never, first-found, first-where, stepIf-found, next-open, next-shut, kind-found, neighbourhood-complete, run-next}
+use Rattle.problem.proofs.Run.{never, first-found, first-where, stepIf-found, neighbourhood-complete, next-by-open, next-by-shut, run-by-next}
 
 -- ---- where the slide holds, a cover holds
 
 module _ (P : Problem) {s : State} (F : Fits P s) where
   -- the cover is the slide's own, or its e covers its d, where its own breaks
-  pub slide-covered : (i b a : ℕ) → T (snakeSubstitution P s false i b a) → (k : ℕ) × (d : ℕ) × (e : ℕ) × T (neighbourhood P s k d e)
+  pub slide-covered : (i b a : ℕ) → T (snakeSubstitution P s narrow i b a) → (k : ℕ) × (d : ℕ) × (e : ℕ) × T (neighbourhood P s k d e)
   slide-covered i b a h = go (firstBreak P s i b a) (break-iff F i b a (firstBreak P s i b a) .0 refl)
     where
       go : (x : Break) → BreakSays P s i b a x → (k : ℕ) × (d : ℕ) × (e : ℕ) × T (neighbourhood P s k d e)
-      go Nowhere c = let x = snakeSubstitution-iff F false i b a .0 h in (i, b, a, neighbourhood-iff F i b a .1 (x .0, (x .1 .0, (x .1 .1 .0, c))))
+      go Nowhere c = let x = snakeSubstitution-iff F narrow i b a .0 h in (i, b, a, neighbourhood-iff F i b a .1 (x .0, (x .1 .0, (x .1 .1 .0, c))))
       go (At k d) y =
           let l = y .0 .0 in
           let c = y .1 .0 in
-          let z = snakeSubstitution-iff F false i b a .0 h .1 .1 .1 k (l .0) (l .1 .0) d (c .0) (c .1 .0) in
+          let z = snakeSubstitution-iff F narrow i b a .0 h .1 .1 .1 k (l .0) (l .1 .0) d (c .0) (c .1 .0) in
           (k, d, z .0, neighbourhood-iff F k d (z .0) .1 (c .0, (z .1, ((λ q. c .1 .1 (subst (λ (e : ℕ). Allowed P i a k e) q (z .2 .0))), λ l o q. z .2 .1 l o q (λ w. w .0)))))
 
 -- ---- so the search comes to a step of a lower kind
@@ -42,8 +42,8 @@ abbrev Low : Record → Type 0
 Low r = kindOf r < 5
 
 module _ (P : Problem) (s : State) where
-  kind-low : (k : ℕ) → k < 5 → (r : Record) → nextOfKind P s k ≡ Step r → Low r
-  unfolding nextOfKind nextUnsupported nextSnake nextTriangle nextNeighbourhood
+  kind-low : (k : ℕ) → k < 5 → (r : Record) → nextOfKindBy narrow P s k ≡ Step r → Low r
+  unfolding nextOfKindBy nextUnsupported nextSnake nextTriangle nextNeighbourhood
   kind-low zero l r e = absurd (never e)
   kind-low (suc zero) l r e = first-found Low _ _ (λ i. first-found Low _ _ (λ b. first-found Low _ _ (λ k. stepIf-found Low (unsupported P s i b k) (Unsupported i b k) (λ t. omega arith)))) r e
   kind-low (suc (suc zero)) l r e = first-found Low _ _ (λ i. first-found Low _ _ (λ v. stepIf-found Low (snake P s i v) (Snake i v) (λ t. omega arith))) r e
@@ -51,29 +51,42 @@ module _ (P : Problem) (s : State) where
   kind-low (suc (suc (suc (suc zero)))) l r e = first-found Low _ _ (λ i. first-found Low _ _ (λ b. first-found Low _ _ (λ a. stepIf-found Low (neighbourhood P s i b a) (Neighbourhood i b a) (λ t. omega arith)))) r e
   kind-low (suc (suc (suc (suc (suc k))))) l r e = absurd (omega arith)
 
+module _ (P : Problem) {s : State} (F : Fits P s) where
+  -- where no cover is found no slide is
+  slide-never : nextNeighbourhood P s ≡ Nothing → (r : Record) → nextSnakeSubstitutionBy narrow P s ≡ Step r → ⊥
+  unfolding nextSnakeSubstitutionBy
+  slide-never n = first-found Never _ _ (λ i. first-found Never _ _ (λ b. first-found Never _ _ (λ a. stepIf-found Never (snakeSubstitution P s narrow i b a) (SnakeSubstitution i b a) (λ h. none i b a h))))
+    where
+      Never : Record → Type 0
+      Never r = ⊥
+
+      none : (i b a : ℕ) → T (snakeSubstitution P s narrow i b a) → ⊥
+      none i b a h = let x = slide-covered P F i b a h in neighbourhood-complete P s F n (x .0) (x .1) (x .2) (x .3)
+
+  -- the next step is found at one of the kinds before the slide
+  pub next-early : (r : Record) → nextBy narrow P s ≡ Step r
+      → (noneEmpty P s ≡ true) × ((k : ℕ) × (k < 5) × (nextOfKindBy narrow P s k ≡ Step r) × ((j : ℕ) → j < k → nextOfKindBy narrow P s j ≡ Nothing))
+  unfolding nextOfKindBy
+  next-early r e = by-empty (noneEmpty P s) refl
+    where
+      at : (k : ℕ) → k < kindBound → nextOfKindBy narrow P s k ≡ Step r → ((j : ℕ) → j < k → nextOfKindBy narrow P s j ≡ Nothing) → k < 5
+      at zero l f h = omega arith
+      at (suc zero) l f h = omega arith
+      at (suc (suc zero)) l f h = omega arith
+      at (suc (suc (suc zero))) l f h = omega arith
+      at (suc (suc (suc (suc zero)))) l f h = omega arith
+      at (suc (suc (suc (suc (suc k))))) l f h = absurd (slide-never (h 4 (omega arith)) r f)
+
+      by-empty : (b : Bool) → noneEmpty P s ≡ b → (noneEmpty P s ≡ true) × ((k : ℕ) × (k < 5) × (nextOfKindBy narrow P s k ≡ Step r) × ((j : ℕ) → j < k → nextOfKindBy narrow P s j ≡ Nothing))
+      by-empty true p = let x = first-where kindBound (nextOfKindBy narrow P s) r (sym (next-by-open narrow P s p) ∙ e) in (p, (x .0, at (x .0) (x .1) (x .2) (x .3), x .2, x .3))
+      by-empty false p = absurd (never (sym (next-by-shut narrow P s p) ∙ e))
+
 -- ---- the run
 
 module _ (P : Problem) where
-  -- the search comes to a slide only where it has found no cover, and then no slide holds
-  next-low : {s : State} → Fits P s → (r : Record) → next P s ≡ Step r → Low r
-  unfolding nextOfKind holds
-  next-low {s} F r e = by-empty (noneEmpty P s) refl
-    where
-      late : (nextNeighbourhood P s ≡ Nothing) → (r : Record) → T (holds P s r) → Low r
-      late n (Unsupported i b k) h = omega arith
-      late n (Snake i v) h = omega arith
-      late n (Triangle i j) h = omega arith
-      late n (Neighbourhood i b a) h = omega arith
-      late n (SnakeSubstitution i b a) h = let x = slide-covered P F i b a h in absurd (neighbourhood-complete P s F n (x .0) (x .1) (x .2) (x .3))
-
-      at : (k : ℕ) → nextOfKind P s k ≡ Step r → ((j : ℕ) → j < k → nextOfKind P s j ≡ Nothing) → (k < 5) ⊎ (5 ≤ k) → Low r
-      at k f h (inl l) = kind-low P s k l r f
-      at k f h (inr l) = late (h 4 (omega arith)) r (kind-found P s k r f)
-
-      by-empty : (b : Bool) → noneEmpty P s ≡ b → Low r
-      by-empty true p = let x = first-where kindBound (nextOfKind P s) r (sym (next-open P s p) ∙ e) in at (x .0) (x .2) (x .3) (lt-dec (x .0) 5)
-      by-empty false p = absurd (never (sym (next-shut P s p) ∙ e))
-
-  -- no record of a run is a slide, whatever state that fits it starts from
-  pub run-no-slide : {s : State} → Fits P s → (t u : List Record) (i b a : ℕ) → run P s ≡ t ++ (SnakeSubstitution i b a ∷ u) → ⊥
-  run-no-slide {s} F t u i b a e = let l = next-low (trace-fits P F t) (SnakeSubstitution i b a) (run-next P s t (SnakeSubstitution i b a) u e) in omega arith
+  -- by the rulebook of before no record of a run is a slide, whatever state that fits it starts from
+  pub run-no-slide : {s : State} → Fits P s → (t u : List Record) (i b a : ℕ) → runBy narrow P s ≡ t ++ (SnakeSubstitution i b a ∷ u) → ⊥
+  run-no-slide {s} F t u i b a e =
+      let x = next-early P (trace-fits P F t) (SnakeSubstitution i b a) (run-by-next narrow P s t (SnakeSubstitution i b a) u e) .1 in
+      let l = kind-low P _ (x .0) (x .1) (SnakeSubstitution i b a) (x .2) in
+      omega arith

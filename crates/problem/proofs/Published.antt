@@ -5,12 +5,11 @@ use mathlib.Core.Path.{_≡_, refl, subst, fun-ext}
 use mathlib.Core.Bool.{Bool, true, false}
 use mathlib.Core.List.{List, _∷_, _++_}
 use mathlib.Core.Logic.{_⊎_, inl, inr, _≢_, _↔_}
-use Prim.Native.Nat.{ℕ, _<_}
-use native.Mathlib.Omega.{arith}
+use Prim.Native.Nat.{ℕ}
 use lib.Dec.{T}
 use Rattle.bounded.proofs.Truth.{T-ext, eq-dec}
 use Rattle.problem.specs.Problem.{Problem, State, unsupported, snake, triangle, neighbourhood, snakeSubstitution, slideSpares, remove, eliminate}
-use Rattle.problem.specs.Reduce.{kindOf, holds, lawful, after, lawfulTrace, afterTrace, run}
+use Rattle.problem.specs.Reduce.{holds, holdsBy, lawful, after, lawfulTrace, afterTrace, run}
 use Rattle.problem.specs.declared.Record.{Record}
 use Rattle.problem.specs.declared.Record.the-variants.{Unsupported, Snake, Triangle, Neighbourhood, SnakeSubstitution}
 use Rattle.problem.proofs.Reflect.{Active, Live, Allowed, Fits, turn, NoneEmpty, noneEmpty-iff, unsupported-iff, snake-iff, triangle-iff, neighbourhood-iff, snakeSubstitution-iff, remove-live, eliminate-active, eliminate-live}
@@ -106,7 +105,7 @@ double-negation true f = tt
 double-negation false f = f (λ t. t)
 
 module _ {P : Problem} {s : State} (F : Fits P s) where
-  -- kinds 1 to 4: the test holds exactly where the record is published
+  -- each kind: the test holds exactly where the record is published
 
   pub unsupported-published : (i b k : ℕ) → T (unsupported P s i b k) ↔ Published P s (Unsupported i b k)
   unsupported-published i b k = (
@@ -144,20 +143,15 @@ module _ {P : Problem} {s : State} (F : Fits P s) where
     λ x. neighbourhood-iff F i b a .1 (x .1 .0, (x .1 .1, (x .1 .2, x .2))),
   )
 
-  -- kind 5: a slide is published, whether i is spared (the paper) or not (the format, which is narrower)
-  pub slide-published : (spare : Bool) (i b a : ℕ) → T (snakeSubstitution P s spare i b a) → Published P s (SnakeSubstitution i b a)
-  slide-published spare i b a t =
-      let x = snakeSubstitution-iff F spare i b a .0 t in (
-        F .live-active i b (x .0),
-        (x .0, x .1 .0, x .1 .1 .0),
-        λ k hk d e oe q. let y = x .1 .1 .1 k hk d e oe q in (y .0, y .1, y .2 .0, λ l hl dl dk. y .2 .1 l hl dk (λ z. dl (z .1))),
-      )
-
-  -- and with i spared the test holds exactly where the record is published
-  pub slide-wide-published : (i b a : ℕ) → T (snakeSubstitution P s true i b a) ↔ Published P s (SnakeSubstitution i b a)
-  slide-wide-published i b a = (
-    slide-published true i b a,
-    λ x. snakeSubstitution-iff F true i b a .1 (
+  -- with i spared, as the paper has it
+  pub slide-published : (i b a : ℕ) → T (snakeSubstitution P s slideSpares i b a) ↔ Published P s (SnakeSubstitution i b a)
+  slide-published i b a = (
+    λ t. let x = snakeSubstitution-iff F slideSpares i b a .0 t in (
+      F .live-active i b (x .0),
+      (x .0, x .1 .0, x .1 .1 .0),
+      λ k hk d e oe q. let y = x .1 .1 .1 k hk d e oe q in (y .0, y .1, y .2 .0, λ l hl dl dk. y .2 .1 l hl dk (λ z. dl (z .1))),
+    ),
+    λ x. snakeSubstitution-iff F slideSpares i b a .1 (
       x .1 .0,
       (x .1 .1, (x .1 .2, λ k hk d e oe q. let y = x .2 k hk d e oe q in (y .0, y .1, (y .2, λ l hl dk n. y .3 l hl (λ z. n (tt, z)) dk)))),
     ),
@@ -165,33 +159,23 @@ module _ {P : Problem} {s : State} (F : Fits P s) where
 
   -- ---- every record
 
-  holds-published : (r : Record) → T (holds P s r) → Published P s r
-  unfolding holds
-  holds-published (Unsupported i b k) t = unsupported-published i b k .0 t
-  holds-published (Snake i v) t = snake-published i v .0 t
-  holds-published (Triangle i j) t = triangle-published i j .0 t
-  holds-published (Neighbourhood i b a) t = neighbourhood-published i b a .0 t
-  holds-published (SnakeSubstitution i b a) t = slide-published slideSpares i b a t
+  pub holds-published : (r : Record) → T (holds P s r) ↔ Published P s r
+  unfolding holdsBy
+  holds-published (Unsupported i b k) = unsupported-published i b k
+  holds-published (Snake i v) = snake-published i v
+  holds-published (Triangle i j) = triangle-published i j
+  holds-published (Neighbourhood i b a) = neighbourhood-published i b a
+  holds-published (SnakeSubstitution i b a) = slide-published i b a
 
-  -- a slide excepted, which the format narrows
-  published-holds : (r : Record) → kindOf r < 5 → Published P s r → T (holds P s r)
-  unfolding holds
-  published-holds (Unsupported i b k) l x = unsupported-published i b k .1 x
-  published-holds (Snake i v) l x = snake-published i v .1 x
-  published-holds (Triangle i j) l x = triangle-published i j .1 x
-  published-holds (Neighbourhood i b a) l x = neighbourhood-published i b a .1 x
-  published-holds (SnakeSubstitution i b a) l x = absurd (omega arith)
-
-  -- a lawful record, of any kind, is published
-  pub lawful-published : (r : Record) → T (lawful P s r) → Published P s r
-  lawful-published r t = holds-published r (lawful-iff P s r .0 t .1)
-
-  -- of the kinds 1 to 4 a record is lawful exactly where it is published and no domain is empty
-  pub published-iff : (r : Record) → kindOf r < 5 → T (lawful P s r) ↔ (NoneEmpty P s × Published P s r)
-  published-iff r l = (
-    λ t. (noneEmpty-iff F .0 (lawful-iff P s r .0 t .0), lawful-published r t),
-    λ x. lawful-iff P s r .1 (noneEmpty-iff F .1 (x .0), published-holds r l (x .1)),
+  -- a record, of any kind, is lawful exactly where it is published and no domain is empty
+  pub published-iff : (r : Record) → T (lawful P s r) ↔ (NoneEmpty P s × Published P s r)
+  published-iff r = (
+    λ t. let x = lawful-iff P s r .0 t in (noneEmpty-iff F .0 (x .0), holds-published r .0 (x .1)),
+    λ x. lawful-iff P s r .1 (noneEmpty-iff F .1 (x .0), holds-published r .1 (x .1)),
   )
+
+  pub lawful-published : (r : Record) → T (lawful P s r) → Published P s r
+  lawful-published r t = published-iff r .0 t .1
 
 -- ---- the properties themselves: some v, some j
 

@@ -12,7 +12,7 @@ use Rattle.bounded.specs.Bounded.{anyBelow}
 use Rattle.bounded.proofs.Truth.{T-of, T-true, T-not}
 use Rattle.bounded.proofs.Bounded.{any-iff}
 use Rattle.problem.specs.Problem.{Problem, State, full, allActive, anyLive, noneEmpty, unsupported, snake, triangle, neighbourhood, snakeSubstitution, slideSpares, liveCount, sizeSum}
-use Rattle.problem.specs.Reduce.{holds, lawful, after, lawfulTrace, afterTrace, stepIf, first, nextUnsupported, nextSnake, nextTriangle, nextNeighbourhood, nextSnakeSubstitution, kindBound, nextOfKind, next, runFrom, run, endOf}
+use Rattle.problem.specs.Reduce.{holdsBy, lawfulBy, lawful, after, lawfulTraceBy, lawfulTrace, afterTrace, stepIf, first, nextUnsupported, nextSnake, nextTriangle, nextNeighbourhood, nextSnakeSubstitutionBy, kindBound, nextOfKindBy, nextOfKind, nextBy, next, runFromBy, runFrom, runBy, run, endOf}
 use Rattle.problem.specs.declared.Record.{Record}
 use Rattle.problem.specs.declared.Record.the-variants.{Unsupported, Snake, Triangle, Neighbourhood, SnakeSubstitution}
 use Rattle.problem.specs.declared.Next.{Next}
@@ -20,7 +20,7 @@ use Rattle.problem.specs.declared.Next.the-variants.{Step, Nothing}
 use Rattle.problem.specs.declared.End.{End}
 use Rattle.problem.specs.declared.End.the-variants.{Impossible, Solved, Rest}
 use Rattle.problem.proofs.Reflect.{Active, Live, Fits, allActive-or, anyLive-iff, noneEmpty-iff, unsupported-iff, snake-iff, triangle-iff, neighbourhood-iff, snakeSubstitution-iff}
-use Rattle.problem.proofs.Trace.{after-fits, trace-fits, step-falls, lawful-iff, trace-iff, trace-short}
+use Rattle.problem.proofs.Trace.{after-fits, trace-fits, step-by-falls, step-falls, lawful-by-iff, lawful-iff, trace-iff, trace-short}
 
 -- ---- searching
 
@@ -81,15 +81,7 @@ stepIf-none true r e t = never-step e
 stepIf-none false r e t = t
 
 module _ (P : Problem) (s : State) where
-  -- the rule of a record holds
-  abbrev Holds : Record → Type 0
-  Holds r = T (holds P s r)
-
-  -- ---- each kind: a step that is found holds; where none is found none holds, whatever its fields
-
-  unsupported-found : (r : Record) → nextUnsupported P s ≡ Step r → Holds r
-  unfolding nextUnsupported holds
-  unsupported-found = first-found Holds _ _ (λ i. first-found Holds _ _ (λ b. first-found Holds _ _ (λ k. stepIf-found Holds (unsupported P s i b k) (Unsupported i b k) (λ t. t))))
+  -- ---- kinds 1 to 4, which read no slide: where no step is found none holds, whatever its fields
 
   unsupported-complete : Fits P s → nextUnsupported P s ≡ Nothing → (i b k : ℕ) → T (unsupported P s i b k) → ⊥
   unfolding nextUnsupported
@@ -98,29 +90,17 @@ module _ (P : Problem) (s : State) where
       stepIf-none (unsupported P s i b k) (Unsupported i b k)
       (first-each _ _ (first-each _ _ (first-each _ _ e i (F .active-lt i (F .live-active i b (x .0)))) b (F .live-lt i b (x .0))) k (F .active-lt k (x .1))) h
 
-  snake-found : (r : Record) → nextSnake P s ≡ Step r → Holds r
-  unfolding nextSnake holds
-  snake-found = first-found Holds _ _ (λ i. first-found Holds _ _ (λ v. stepIf-found Holds (snake P s i v) (Snake i v) (λ t. t)))
-
   snake-complete : Fits P s → nextSnake P s ≡ Nothing → (i v : ℕ) → T (snake P s i v) → ⊥
   unfolding nextSnake
   snake-complete F e i v h =
       let x = snake-iff F i v .0 h in
       stepIf-none (snake P s i v) (Snake i v) (first-each _ _ (first-each _ _ e i (F .active-lt i (F .live-active i v (x .0)))) v (F .live-lt i v (x .0))) h
 
-  triangle-found : (r : Record) → nextTriangle P s ≡ Step r → Holds r
-  unfolding nextTriangle holds
-  triangle-found = first-found Holds _ _ (λ i. first-found Holds _ _ (λ j. stepIf-found Holds (triangle P s i j) (Triangle i j) (λ t. t)))
-
   triangle-complete : Fits P s → nextTriangle P s ≡ Nothing → (i j : ℕ) → T (triangle P s i j) → ⊥
   unfolding nextTriangle
   triangle-complete F e i j h =
       let x = triangle-iff F i j .0 h in
       stepIf-none (triangle P s i j) (Triangle i j) (first-each _ _ (first-each _ _ e i (F .active-lt i (x .0))) j (F .active-lt j (x .1 .0))) h
-
-  neighbourhood-found : (r : Record) → nextNeighbourhood P s ≡ Step r → Holds r
-  unfolding nextNeighbourhood holds
-  neighbourhood-found = first-found Holds _ _ (λ i. first-found Holds _ _ (λ b. first-found Holds _ _ (λ a. stepIf-found Holds (neighbourhood P s i b a) (Neighbourhood i b a) (λ t. t))))
 
   pub neighbourhood-complete : Fits P s → nextNeighbourhood P s ≡ Nothing → (i b a : ℕ) → T (neighbourhood P s i b a) → ⊥
   unfolding nextNeighbourhood
@@ -129,61 +109,101 @@ module _ (P : Problem) (s : State) where
       stepIf-none (neighbourhood P s i b a) (Neighbourhood i b a)
       (first-each _ _ (first-each _ _ (first-each _ _ e i (F .active-lt i (F .live-active i b (x .0)))) b (F .live-lt i b (x .0))) a (F .live-lt i a (x .1 .0))) h
 
-  slide-found : (r : Record) → nextSnakeSubstitution P s ≡ Step r → Holds r
-  unfolding nextSnakeSubstitution holds
-  slide-found = first-found Holds _ _ (λ i. first-found Holds _ _ (λ b. first-found Holds _ _ (λ a. stepIf-found Holds (snakeSubstitution P s slideSpares i b a) (SnakeSubstitution i b a) (λ t. t))))
+-- ---- by either rulebook
 
-  slide-complete : Fits P s → nextSnakeSubstitution P s ≡ Nothing → (i b a : ℕ) → T (snakeSubstitution P s slideSpares i b a) → ⊥
-  unfolding nextSnakeSubstitution
+module _ (spare : Bool) (P : Problem) (s : State) where
+  -- the rule of a record holds
+  abbrev Holds : Record → Type 0
+  Holds r = T (holdsBy spare P s r)
+
+  -- ---- each kind: a step that is found holds; and the slide as kinds 1 to 4
+
+  unsupported-found : (r : Record) → nextUnsupported P s ≡ Step r → Holds r
+  unfolding nextUnsupported holdsBy
+  unsupported-found = first-found Holds _ _ (λ i. first-found Holds _ _ (λ b. first-found Holds _ _ (λ k. stepIf-found Holds (unsupported P s i b k) (Unsupported i b k) (λ t. t))))
+
+  snake-found : (r : Record) → nextSnake P s ≡ Step r → Holds r
+  unfolding nextSnake holdsBy
+  snake-found = first-found Holds _ _ (λ i. first-found Holds _ _ (λ v. stepIf-found Holds (snake P s i v) (Snake i v) (λ t. t)))
+
+  triangle-found : (r : Record) → nextTriangle P s ≡ Step r → Holds r
+  unfolding nextTriangle holdsBy
+  triangle-found = first-found Holds _ _ (λ i. first-found Holds _ _ (λ j. stepIf-found Holds (triangle P s i j) (Triangle i j) (λ t. t)))
+
+  neighbourhood-found : (r : Record) → nextNeighbourhood P s ≡ Step r → Holds r
+  unfolding nextNeighbourhood holdsBy
+  neighbourhood-found = first-found Holds _ _ (λ i. first-found Holds _ _ (λ b. first-found Holds _ _ (λ a. stepIf-found Holds (neighbourhood P s i b a) (Neighbourhood i b a) (λ t. t))))
+
+  slide-found : (r : Record) → nextSnakeSubstitutionBy spare P s ≡ Step r → Holds r
+  unfolding nextSnakeSubstitutionBy holdsBy
+  slide-found = first-found Holds _ _ (λ i. first-found Holds _ _ (λ b. first-found Holds _ _ (λ a. stepIf-found Holds (snakeSubstitution P s spare i b a) (SnakeSubstitution i b a) (λ t. t))))
+
+  slide-complete : Fits P s → nextSnakeSubstitutionBy spare P s ≡ Nothing → (i b a : ℕ) → T (snakeSubstitution P s spare i b a) → ⊥
+  unfolding nextSnakeSubstitutionBy
   slide-complete F e i b a h =
-      let x = snakeSubstitution-iff F slideSpares i b a .0 h in
-      stepIf-none (snakeSubstitution P s slideSpares i b a) (SnakeSubstitution i b a)
+      let x = snakeSubstitution-iff F spare i b a .0 h in
+      stepIf-none (snakeSubstitution P s spare i b a) (SnakeSubstitution i b a)
       (first-each _ _ (first-each _ _ (first-each _ _ e i (F .active-lt i (F .live-active i b (x .0)))) b (F .live-lt i b (x .0))) a (F .live-lt i a (x .1 .0))) h
 
   -- ---- the kinds joined
 
-  pub kind-found : (k : ℕ) (r : Record) → nextOfKind P s k ≡ Step r → Holds r
-  unfolding nextOfKind
-  kind-found zero r e = absurd (never e)
-  kind-found (suc zero) r e = unsupported-found r e
-  kind-found (suc (suc zero)) r e = snake-found r e
-  kind-found (suc (suc (suc zero))) r e = triangle-found r e
-  kind-found (suc (suc (suc (suc zero)))) r e = neighbourhood-found r e
-  kind-found (suc (suc (suc (suc (suc k))))) r e = slide-found r e
+  pub kind-by-found : (k : ℕ) (r : Record) → nextOfKindBy spare P s k ≡ Step r → Holds r
+  unfolding nextOfKindBy
+  kind-by-found zero r e = absurd (never e)
+  kind-by-found (suc zero) r e = unsupported-found r e
+  kind-by-found (suc (suc zero)) r e = snake-found r e
+  kind-by-found (suc (suc (suc zero))) r e = triangle-found r e
+  kind-by-found (suc (suc (suc (suc zero)))) r e = neighbourhood-found r e
+  kind-by-found (suc (suc (suc (suc (suc k))))) r e = slide-found r e
 
   -- what `next` is, by whether some active variable is without a value
-  pub next-open : noneEmpty P s ≡ true → next P s ≡ first kindBound (nextOfKind P s)
-  unfolding next
-  next-open e = rw (e, next)
+  pub next-by-open : noneEmpty P s ≡ true → nextBy spare P s ≡ first kindBound (nextOfKindBy spare P s)
+  unfolding nextBy
+  next-by-open e = rw (e, nextBy)
 
-  pub next-shut : noneEmpty P s ≡ false → next P s ≡ Nothing
-  unfolding next
-  next-shut e = rw (e, next)
+  pub next-by-shut : noneEmpty P s ≡ false → nextBy spare P s ≡ Nothing
+  unfolding nextBy
+  next-by-shut e = rw (e, nextBy)
 
-  pub next-lawful : (r : Record) → next P s ≡ Step r → T (lawful P s r)
-  next-lawful r e = go (noneEmpty P s) refl
+  pub next-by-lawful : (r : Record) → nextBy spare P s ≡ Step r → T (lawfulBy spare P s r)
+  next-by-lawful r e = go (noneEmpty P s) refl
     where
-      go : (b : Bool) → noneEmpty P s ≡ b → T (lawful P s r)
-      go true p = lawful-iff P s r .1 (T-of p, first-found Holds kindBound (nextOfKind P s) kind-found r (sym (next-open p) ∙ e))
-      go false p = absurd (never (sym (next-shut p) ∙ e))
+      go : (b : Bool) → noneEmpty P s ≡ b → T (lawfulBy spare P s r)
+      go true p = lawful-by-iff spare P s r .1 (T-of p, first-found Holds kindBound (nextOfKindBy spare P s) kind-by-found r (sym (next-by-open p) ∙ e))
+      go false p = absurd (never (sym (next-by-shut p) ∙ e))
 
   -- where no step is found, no record of any kind with any fields is lawful
-  pub next-complete : Fits P s → next P s ≡ Nothing → (r : Record) → T (lawful P s r) → ⊥
-  unfolding holds nextOfKind
-  next-complete F e r t = by-kind r (x .1)
+  pub next-by-complete : Fits P s → nextBy spare P s ≡ Nothing → (r : Record) → T (lawfulBy spare P s r) → ⊥
+  unfolding holdsBy nextOfKindBy
+  next-by-complete F e r t = by-kind r (x .1)
     where
-      x : T (noneEmpty P s) × T (holds P s r)
-      x = lawful-iff P s r .0 t
+      x : T (noneEmpty P s) × T (holdsBy spare P s r)
+      x = lawful-by-iff spare P s r .0 t
 
-      none : (k : ℕ) → k < kindBound → nextOfKind P s k ≡ Nothing
-      none = first-each kindBound (nextOfKind P s) (sym (next-open (T-true (noneEmpty P s) (x .0))) ∙ e)
+      none : (k : ℕ) → k < kindBound → nextOfKindBy spare P s k ≡ Nothing
+      none = first-each kindBound (nextOfKindBy spare P s) (sym (next-by-open (T-true (noneEmpty P s) (x .0))) ∙ e)
 
-      by-kind : (r : Record) → T (holds P s r) → ⊥
-      by-kind (Unsupported i b k) h = unsupported-complete F (none 1 (omega arith)) i b k h
-      by-kind (Snake i v) h = snake-complete F (none 2 (omega arith)) i v h
-      by-kind (Triangle i j) h = triangle-complete F (none 3 (omega arith)) i j h
-      by-kind (Neighbourhood i b a) h = neighbourhood-complete F (none 4 (omega arith)) i b a h
+      by-kind : (r : Record) → T (holdsBy spare P s r) → ⊥
+      by-kind (Unsupported i b k) h = unsupported-complete P s F (none 1 (omega arith)) i b k h
+      by-kind (Snake i v) h = snake-complete P s F (none 2 (omega arith)) i v h
+      by-kind (Triangle i j) h = triangle-complete P s F (none 3 (omega arith)) i j h
+      by-kind (Neighbourhood i b a) h = neighbourhood-complete P s F (none 4 (omega arith)) i b a h
       by-kind (SnakeSubstitution i b a) h = slide-complete F (none 5 (omega arith)) i b a h
+
+-- ---- by the rulebook in force
+
+module _ (P : Problem) (s : State) where
+  pub next-open : noneEmpty P s ≡ true → next P s ≡ first kindBound (nextOfKind P s)
+  next-open = next-by-open slideSpares P s
+
+  pub next-shut : noneEmpty P s ≡ false → next P s ≡ Nothing
+  next-shut = next-by-shut slideSpares P s
+
+  pub next-lawful : (r : Record) → next P s ≡ Step r → T (lawful P s r)
+  next-lawful = next-by-lawful slideSpares P s
+
+  pub next-complete : Fits P s → next P s ≡ Nothing → (r : Record) → T (lawful P s r) → ⊥
+  next-complete = next-by-complete slideSpares P s
 
 -- ---- the run
 
@@ -192,48 +212,75 @@ not-nil : (t u : List Record) (r : Record) → [] ≡ t ++ (r ∷ u) → ⊥
 not-nil [] u r e = let z : _≡_ {A = ℕ} 0 1 = cc in omega arith
 not-nil (x ∷ t) u r e = let z : _≡_ {A = ℕ} 0 1 = cc in omega arith
 
+module _ (spare : Bool) (P : Problem) where
+  pub run-by-step : (f : ℕ) (s : State) (r : Record) → nextBy spare P s ≡ Step r → runFromBy spare (suc f) P s ≡ r ∷ runFromBy spare f P (after P s r)
+  unfolding runFromBy
+  run-by-step f s r e = rw (e, runFromBy)
+
+  pub run-by-stop : (f : ℕ) (s : State) → nextBy spare P s ≡ Nothing → runFromBy spare f P s ≡ []
+  unfolding runFromBy
+  run-by-stop zero s e = refl
+  run-by-stop (suc f) s e = rw (e, runFromBy)
+
+  run-by-ends : (f : ℕ) (s : State) → Fits P s → liveCount P s < f → nextBy spare P (afterTrace P s (runFromBy spare f P s)) ≡ Nothing
+  unfolding runFromBy afterTrace
+  run-by-ends zero s F h = absurd (not-suc-le-zero h)
+  run-by-ends (suc f) s F h = go (nextBy spare P s) refl (λ q. run-by-ends f q)
+    where
+      go : (x : Next) → nextBy spare P s ≡ x → ((q : State) → Fits P q → liveCount P q < f → nextBy spare P (afterTrace P q (runFromBy spare f P q)) ≡ Nothing) → nextBy spare P (afterTrace P s (runFromBy spare (suc f) P s)) ≡ Nothing
+      go Nothing e ih = rw (run-by-stop (suc f) s e) e
+      go (Step r) e ih = rw (run-by-step f s r e) (ih (after P s r) (after-fits P F r) (omega (arith, step-by-falls spare P F r (next-by-lawful spare P s r e))))
+
+  run-by-next-from : (f : ℕ) (s : State) (t : List Record) (r : Record) (u : List Record) → runFromBy spare f P s ≡ t ++ (r ∷ u) → nextBy spare P (afterTrace P s t) ≡ Step r
+  unfolding runFromBy afterTrace
+  run-by-next-from zero s t r u e = absurd (not-nil t u r e)
+  run-by-next-from (suc f) s t r u e = go (nextBy spare P s) refl (λ q. run-by-next-from f q) t e
+    where
+      go : (x : Next) → nextBy spare P s ≡ x → ((q : State) (t : List Record) (r : Record) (u : List Record) → runFromBy spare f P q ≡ t ++ (r ∷ u) → nextBy spare P (afterTrace P q t) ≡ Step r)
+          → (t : List Record) → runFromBy spare (suc f) P s ≡ t ++ (r ∷ u) → nextBy spare P (afterTrace P s t) ≡ Step r
+      go Nothing p ih t e = absurd (not-nil t u r (sym (run-by-stop (suc f) s p) ∙ e))
+      go (Step x) p ih [] e = let z = sym (run-by-step f s x p) ∙ e in let same : x ≡ r = cc in p ∙ ap Step same
+      go (Step x) p ih (y ∷ t) e =
+          let z = sym (run-by-step f s x p) ∙ e in
+          let same : x ≡ y = cc in
+          let rest : runFromBy spare f P (after P s x) ≡ t ++ (r ∷ u) = cc in
+          subst (λ (w : Record). nextBy spare P (afterTrace P (after P s w) t) ≡ Step r) same (ih (after P s x) t r u rest)
+
+  -- every record of the run is the next step of the state that it was taken in
+  pub run-by-next : (s : State) (before : List Record) (r : Record) (rest : List Record) → runBy spare P s ≡ before ++ (r ∷ rest) → nextBy spare P (afterTrace P s before) ≡ Step r
+  unfolding runBy
+  run-by-next s = run-by-next-from (suc (liveCount P s)) s
+
+  -- the run stops only where no record of any kind with any fields is lawful
+  pub run-by-complete : {s : State} → Fits P s → (r : Record) → T (lawfulBy spare P (afterTrace P s (runBy spare P s)) r) → ⊥
+  unfolding runBy
+  run-by-complete {s} F = next-by-complete spare P (afterTrace P s (runBy spare P s)) (trace-fits P F (runBy spare P s)) (run-by-ends (suc (liveCount P s)) s F (omega arith))
+
+-- ---- by the rulebook in force
+
 module _ (P : Problem) where
   pub run-step : (f : ℕ) (s : State) (r : Record) → next P s ≡ Step r → runFrom (suc f) P s ≡ r ∷ runFrom f P (after P s r)
-  unfolding runFrom
-  run-step f s r e = rw (e, runFrom)
+  run-step = run-by-step slideSpares P
 
   pub run-stop : (f : ℕ) (s : State) → next P s ≡ Nothing → runFrom f P s ≡ []
-  unfolding runFrom
-  run-stop zero s e = refl
-  run-stop (suc f) s e = rw (e, runFrom)
+  run-stop = run-by-stop slideSpares P
+
+  -- every record of the run is the next step of the state that it was taken in
+  pub run-next : (s : State) (before : List Record) (r : Record) (rest : List Record) → run P s ≡ before ++ (r ∷ rest) → next P (afterTrace P s before) ≡ Step r
+  run-next = run-by-next slideSpares P
+
+  -- the run stops only where no record of any kind with any fields is lawful
+  pub run-complete : {s : State} → Fits P s → (r : Record) → T (lawful P (afterTrace P s (run P s)) r) → ⊥
+  run-complete = run-by-complete slideSpares P
 
   runFrom-lawful : (f : ℕ) (s : State) → T (lawfulTrace P s (runFrom f P s))
-  unfolding runFrom lawfulTrace
+  unfolding runFromBy lawfulTraceBy
   runFrom-lawful zero s = tt
   runFrom-lawful (suc f) s = go (next P s) refl (λ q. runFrom-lawful f q)
     where
       go : (x : Next) → next P s ≡ x → ((q : State) → T (lawfulTrace P q (runFrom f P q))) → T (lawfulTrace P s (runFrom (suc f) P s))
       go Nothing e ih = rw (run-stop (suc f) s e) tt
       go (Step r) e ih = rw (run-step f s r e) (trace-iff P s r (runFrom f P (after P s r)) .1 (next-lawful P s r e, ih (after P s r)))
-
-  runFrom-ends : (f : ℕ) (s : State) → Fits P s → liveCount P s < f → next P (afterTrace P s (runFrom f P s)) ≡ Nothing
-  unfolding runFrom afterTrace
-  runFrom-ends zero s F h = absurd (not-suc-le-zero h)
-  runFrom-ends (suc f) s F h = go (next P s) refl (λ q. runFrom-ends f q)
-    where
-      go : (x : Next) → next P s ≡ x → ((q : State) → Fits P q → liveCount P q < f → next P (afterTrace P q (runFrom f P q)) ≡ Nothing) → next P (afterTrace P s (runFrom (suc f) P s)) ≡ Nothing
-      go Nothing e ih = rw (run-stop (suc f) s e) e
-      go (Step r) e ih = rw (run-step f s r e) (ih (after P s r) (after-fits P F r) (omega (arith, step-falls P F r (next-lawful P s r e))))
-
-  runFrom-next : (f : ℕ) (s : State) (t : List Record) (r : Record) (u : List Record) → runFrom f P s ≡ t ++ (r ∷ u) → next P (afterTrace P s t) ≡ Step r
-  unfolding runFrom afterTrace
-  runFrom-next zero s t r u e = absurd (not-nil t u r e)
-  runFrom-next (suc f) s t r u e = go (next P s) refl (λ q. runFrom-next f q) t e
-    where
-      go : (x : Next) → next P s ≡ x → ((q : State) (t : List Record) (r : Record) (u : List Record) → runFrom f P q ≡ t ++ (r ∷ u) → next P (afterTrace P q t) ≡ Step r)
-          → (t : List Record) → runFrom (suc f) P s ≡ t ++ (r ∷ u) → next P (afterTrace P s t) ≡ Step r
-      go Nothing p ih t e = absurd (not-nil t u r (sym (run-stop (suc f) s p) ∙ e))
-      go (Step x) p ih [] e = let z = sym (run-step f s x p) ∙ e in let same : x ≡ r = cc in p ∙ ap Step same
-      go (Step x) p ih (y ∷ t) e =
-          let z = sym (run-step f s x p) ∙ e in
-          let same : x ≡ y = cc in
-          let rest : runFrom f P (after P s x) ≡ t ++ (r ∷ u) = cc in
-          subst (λ (w : Record). next P (afterTrace P (after P s w) t) ≡ Step r) same (ih (after P s x) t r u rest)
 
   -- any number of steps that is large enough gives the same run
   pub run-enough : (f g : ℕ) (s : State) → Fits P s → liveCount P s < f → liveCount P s < g → runFrom f P s ≡ runFrom g P s
@@ -249,18 +296,8 @@ module _ (P : Problem) where
 
   -- every record of the run is lawful
   pub run-lawful : (s : State) → T (lawfulTrace P s (run P s))
-  unfolding run
+  unfolding runBy
   run-lawful s = runFrom-lawful (suc (liveCount P s)) s
-
-  -- every record of the run is the next step of the state that it was taken in
-  pub run-next : (s : State) (before : List Record) (r : Record) (rest : List Record) → run P s ≡ before ++ (r ∷ rest) → next P (afterTrace P s before) ≡ Step r
-  unfolding run
-  run-next s = runFrom-next (suc (liveCount P s)) s
-
-  -- the run stops only where no record of any kind with any fields is lawful
-  pub run-complete : {s : State} → Fits P s → (r : Record) → T (lawful P (afterTrace P s (run P s)) r) → ⊥
-  unfolding run
-  run-complete {s} F = next-complete P (afterTrace P s (run P s)) (trace-fits P F (run P s)) (runFrom-ends (suc (liveCount P s)) s F (omega arith))
 
   -- "the steps are at most the sum of the sizes"
   pub run-short : length (run P (full P)) ≤ sizeSum P

@@ -45,7 +45,7 @@ first-off zero f h = refl
 first-off (suc n) f h = first-later n f (h zero (omega arith)) ∙ first-off n (λ k. f (suc k)) (λ k l. h (suc k) (omega arith))
 
 -- nothing below k, and a step at k
-first-at : (n : ℕ) (f : ℕ → Next) (k : ℕ) (r : Record) → k < n → ((j : ℕ) → j < k → f j ≡ Nothing) → f k ≡ Step r → first n f ≡ Step r
+pub first-at : (n : ℕ) (f : ℕ → Next) (k : ℕ) (r : Record) → k < n → ((j : ℕ) → j < k → f j ≡ Nothing) → f k ≡ Step r → first n f ≡ Step r
 first-at zero f k r l h e = absurd (not-suc-le-zero l)
 first-at (suc n) f zero r l h e = first-here n f r e
 first-at (suc n) f (suc k) r l h e = first-later n f (h zero (omega arith)) ∙ first-at n (λ k. f (suc k)) k r (le-of-suc-le-suc l) (λ j m. h (suc j) (omega arith)) e

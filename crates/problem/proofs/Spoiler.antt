@@ -11,7 +11,7 @@ use Rattle.bounded.proofs.Bounded.{all-iff}
 use Rattle.bounded.proofs.Loops.{lowest-or, at-lowest-is, at-lowest-none}
 use Rattle.bounded.proofs.Causes.{cause-iff}
 use Rattle.problem.specs.Problem.{Problem, State, allLive, allOther, allThird, noneEmpty, unspoilt, breakAt, spoils, spoiler, snakeServes, triangleServes, neighbourhood, slideServes, breaks, firstBreak, coverAsked}
-use Rattle.problem.specs.Reduce.{holds, lawful, brokenCover}
+use Rattle.problem.specs.Reduce.{holdsBy, lawfulBy, lawful, brokenCover}
 use Rattle.problem.specs.declared.Record.{Record}
 use Rattle.problem.specs.declared.Record.the-variants.{Unsupported, Snake, Triangle, Neighbourhood, SnakeSubstitution}
 use Rattle.problem.specs.declared.Cover.{Cover}
@@ -184,7 +184,7 @@ module _ {P : Problem} {s : State} (F : Fits P s) where
   asked-iff i b a = simp (and-iff, not-iff, eqb-iff, noneEmpty-iff F) Iff·rfl
 
   asked-lawful : (i b a : ℕ) → CoverAsked P s i b a → ((l : ℕ) → Active s l → l ≢ i → Substitutes P s i a i b l) → T (lawful P s (Neighbourhood i b a))
-  unfolding lawful holds
+  unfolding lawfulBy holdsBy
   asked-lawful i b a C h = and-iff (noneEmpty P s) (neighbourhood P s i b a) .1 (noneEmpty-iff F .1 (C .1 .1 .1 .1), neighbourhood-iff F i b a .1 (C .1 .1 .1 .0, (C .1 .1 .0, (C .1 .0, h))))
 
   -- Of a record that is not lawful this is named, and nothing else: item and setting exactly where only the cover can be at fault, and

@@ -9,7 +9,7 @@ use lib.Dec.{T}
 use lib.ListN.{length}
 use Rattle.bounded.proofs.Truth.{and-iff}
 use Rattle.problem.specs.Problem.{Problem, State, full, noneEmpty, slideSpares, remove, eliminate, liveCount, sizeSum}
-use Rattle.problem.specs.Reduce.{holds, lawful, after, lawfulTrace, afterTrace}
+use Rattle.problem.specs.Reduce.{holdsBy, holds, lawfulBy, lawful, after, lawfulTraceBy, lawfulTrace, afterTrace}
 use Rattle.problem.specs.Extend.{undo, undoTrace}
 use Rattle.problem.specs.declared.Record.{Record}
 use Rattle.problem.specs.declared.Record.the-variants.{Unsupported, Snake, Triangle, Neighbourhood, SnakeSubstitution}
@@ -30,7 +30,7 @@ module _ (P : Problem) where
 
   -- a solution after, undone with the lowest choices, is a solution before
   pub step-undone : {s : State} → Fits P s → (r : Record) → T (holds P s r) → (p : ℕ → ℕ) → Solution P (after P s r) p → Solution P s (undo P s r p)
-  unfolding after undo holds
+  unfolding after undo holdsBy
   step-undone F (Unsupported i b k) t p A = remove-undone F i b p A
   step-undone F (Snake i v) t p A = snake-undone F i p A v (snake-iff F i v .0 t)
   step-undone F (Triangle i j) t p A = triangle-undone F i p A j (triangle-iff F i j .0 t)
@@ -39,7 +39,7 @@ module _ (P : Problem) where
 
   -- a solution before gives a solution after
   pub step-kept : {s : State} → Fits P s → (r : Record) → T (holds P s r) → Solvable P s → Solvable P (after P s r)
-  unfolding after holds
+  unfolding after holdsBy
   step-kept F (Unsupported i b k) t x = (x .0, unsupported-kept F i b k (x .0) (unsupported-iff F i b k .0 t) (x .1))
   step-kept F (Snake i v) t x = (x .0, eliminate-kept F i (x .0) (F .live-active i v (snake-iff F i v .0 t .0)) (x .1))
   step-kept F (Triangle i j) t x = (x .0, eliminate-kept F i (x .0) (triangle-iff F i j .0 t .0) (x .1))
@@ -56,36 +56,52 @@ module _ (P : Problem) where
       count-falls P s (eliminate P s i) (λ j w x. eliminate-live P s F i j w .0 x .0) i a (F .active-lt i (F .live-active i a o)) (F .live-lt i a o) o
       (λ x. eliminate-live P s F i i a .0 x .1 .0 refl)
 
-  -- "Each step uses up at least one setting that was on", where no item in is without one
-  holds-falls : {s : State} → Fits P s → NoneEmpty P s → (r : Record) → T (holds P s r) → liveCount P (after P s r) < liveCount P s
-  unfolding after holds
-  holds-falls F e (Unsupported i b k) t = remove-falls F i b (unsupported-iff F i b k .0 t .0)
-  holds-falls F e (Snake i v) t = eliminate-falls F i v (snake-iff F i v .0 t .0)
-  holds-falls F e (Triangle i j) t = let x = e i (triangle-iff F i j .0 t .0) in eliminate-falls F i (x .0) (x .1)
-  holds-falls F e (Neighbourhood i b a) t = remove-falls F i b (neighbourhood-iff F i b a .0 t .0)
-  holds-falls F e (SnakeSubstitution i b a) t = remove-falls F i b (snakeSubstitution-iff F slideSpares i b a .0 t .0)
+-- ---- by either rulebook
 
+module _ (spare : Bool) (P : Problem) where
+  -- "Each step uses up at least one setting that was on", where no item in is without one
+  holds-by-falls : {s : State} → Fits P s → NoneEmpty P s → (r : Record) → T (holdsBy spare P s r) → liveCount P (after P s r) < liveCount P s
+  unfolding after holdsBy
+  holds-by-falls F e (Unsupported i b k) t = remove-falls P F i b (unsupported-iff F i b k .0 t .0)
+  holds-by-falls F e (Snake i v) t = eliminate-falls P F i v (snake-iff F i v .0 t .0)
+  holds-by-falls F e (Triangle i j) t = let x = e i (triangle-iff F i j .0 t .0) in eliminate-falls P F i (x .0) (x .1)
+  holds-by-falls F e (Neighbourhood i b a) t = remove-falls P F i b (neighbourhood-iff F i b a .0 t .0)
+  holds-by-falls F e (SnakeSubstitution i b a) t = remove-falls P F i b (snakeSubstitution-iff F spare i b a .0 t .0)
+
+  pub lawful-by-iff : (s : State) (r : Record) → T (lawfulBy spare P s r) ↔ (T (noneEmpty P s) × T (holdsBy spare P s r))
+  unfolding lawfulBy
+  lawful-by-iff s r = and-iff (noneEmpty P s) (holdsBy spare P s r)
+
+  pub step-by-falls : {s : State} → Fits P s → (r : Record) → T (lawfulBy spare P s r) → liveCount P (after P s r) < liveCount P s
+  step-by-falls {s} F r t = let x = lawful-by-iff s r .0 t in holds-by-falls F (noneEmpty-iff F .0 (x .0)) r (x .1)
+
+  pub trace-by-iff : (s : State) (r : Record) (t : List Record)
+      → T (lawfulTraceBy spare P s (r ∷ t)) ↔ (T (lawfulBy spare P s r) × T (lawfulTraceBy spare P (after P s r) t))
+  unfolding lawfulTraceBy
+  trace-by-iff s r t = go (lawfulBy spare P s r)
+    where
+      go : (b : Bool) → T (elim b as (λ x. Bool) [ true ↦ lawfulTraceBy spare P (after P s r) t | false ↦ false ]) ↔ (T b × T (lawfulTraceBy spare P (after P s r) t))
+      go true = (λ h. (tt, h), λ h. h .1)
+      go false = (λ h. absurd h, λ h. h .0)
+
+-- ---- by the rulebook in force
+
+module _ (P : Problem) where
   pub lawful-iff : (s : State) (r : Record) → T (lawful P s r) ↔ (T (noneEmpty P s) × T (holds P s r))
-  unfolding lawful
-  lawful-iff s r = and-iff (noneEmpty P s) (holds P s r)
+  lawful-iff = lawful-by-iff slideSpares P
 
   pub step-falls : {s : State} → Fits P s → (r : Record) → T (lawful P s r) → liveCount P (after P s r) < liveCount P s
-  step-falls {s} F r t = let x = lawful-iff s r .0 t in holds-falls F (noneEmpty-iff F .0 (x .0)) r (x .1)
+  step-falls = step-by-falls slideSpares P
 
   -- ---- a trace
 
   pub trace-iff : (s : State) (r : Record) (t : List Record) → T (lawfulTrace P s (r ∷ t)) ↔ (T (lawful P s r) × T (lawfulTrace P (after P s r) t))
-  unfolding lawfulTrace
-  trace-iff s r t = go (lawful P s r)
-    where
-      go : (b : Bool) → T (elim b as (λ x. Bool) [ true ↦ lawfulTrace P (after P s r) t | false ↦ false ]) ↔ (T b × T (lawfulTrace P (after P s r) t))
-      go true = (λ h. (tt, h), λ h. h .1)
-      go false = (λ h. absurd h, λ h. h .0)
+  trace-iff = trace-by-iff slideSpares P
 
   pub trace-fits : {s : State} → Fits P s → (t : List Record) → Fits P (afterTrace P s t)
   unfolding afterTrace
   trace-fits F [] = F
-  trace-fits F (r ∷ t) = trace-fits (after-fits F r) t
+  trace-fits F (r ∷ t) = trace-fits (after-fits P F r) t
 
   at-place : (s : State) (before : List Record) (r : Record) (rest : List Record) → T (lawfulTrace P s (before ++ (r ∷ rest))) → T (lawful P (afterTrace P s before) r)
   unfolding afterTrace
@@ -101,12 +117,12 @@ module _ (P : Problem) where
   trace-undone F [] h p A = A
   trace-undone {s} F (r ∷ t) h p A =
       let x = trace-iff s r t .0 h in
-      step-undone F r (lawful-iff s r .0 (x .0) .1) (undoTrace P (after P s r) t p) (trace-undone (after-fits F r) t (x .1) p A)
+      step-undone P F r (lawful-iff s r .0 (x .0) .1) (undoTrace P (after P s r) t p) (trace-undone (after-fits P F r) t (x .1) p A)
 
   pub trace-kept : {s : State} → Fits P s → (t : List Record) → T (lawfulTrace P s t) → Solvable P s → Solvable P (afterTrace P s t)
   unfolding afterTrace
   trace-kept F [] h x = x
-  trace-kept {s} F (r ∷ t) h x = let y = trace-iff s r t .0 h in trace-kept (after-fits F r) t (y .1) (step-kept F r (lawful-iff s r .0 (y .0) .1) x)
+  trace-kept {s} F (r ∷ t) h x = let y = trace-iff s r t .0 h in trace-kept (after-fits P F r) t (y .1) (step-kept P F r (lawful-iff s r .0 (y .0) .1) x)
 
   -- what is left has a solution exactly when the state before the trace has one
   pub trace-solvable : {s : State} → Fits P s → (t : List Record) → T (lawfulTrace P s t) → Solvable P (afterTrace P s t) ↔ Solvable P s
@@ -117,7 +133,7 @@ module _ (P : Problem) where
   trace-falls F [] h = omega arith
   trace-falls {s} F (r ∷ t) h =
       let x = trace-iff s r t .0 h in
-      omega (arith, trace-falls (after-fits F r) t (x .1), step-falls F r (x .0))
+      omega (arith, trace-falls (after-fits P F r) t (x .1), step-falls F r (x .0))
 
   -- a lawful trace of the whole problem has at most as many records as the problem lists values
   pub trace-short : (t : List Record) → T (lawfulTrace P (full P) t) → length t ≤ sizeSum P
