@@ -1,14 +1,14 @@
 -- Snake substitution over words, and the search for one. Assumes nothing.
-use mathlib.Core.Path.{_≡_, refl}
-use mathlib.Core.Bool.{Bool, true, false}
-use mathlib.Core.Logic.{_⊎_, inl, inr, _≢_, _↔_, Iff·rfl, ⊎-elim}
+use mathlib.Core.Path.{_≡_}
+use mathlib.Core.Bool.{false}
+use mathlib.Core.Logic.{_⊎_, inl, inr, _↔_, Iff·rfl, ⊎-elim}
 use mathlib.Core.List.{List}
 use Prim.Native.Nat.{ℕ, _<_}
 use lib.Dec.{T}
 use lib.Bits.{bitAnd}
 use lib.ListN.{getD}
 use Rattle.bounded.specs.Mask.{bit}
-use Rattle.bounded.proofs.Truth.{T-ext, T-dec, T-false, imp-iff}
+use Rattle.bounded.proofs.Truth.{T-ext, T-dec, imp-iff}
 use Rattle.problem.specs.Problem.{Problem, State, snakeSubstitution, slideSpares}
 use Rattle.problem.specs.Held.{rowWord, held}
 use Rattle.problem.specs.Masks.{stateOf}
@@ -16,46 +16,36 @@ use Rattle.problem.specs.declared.Masks.{Masks}
 use Rattle.problem.proofs.Reflect.{Live, Allowed, Fits, allLive-iff, anyLive-iff, Substitutes, SlideServes, slideServes-iff, snakeSubstitution-iff}
 use Rattle.problem.proofs.HeldTable.{held-few, held-narrow}
 use Rattle.held.specs.Ready.{Ready}
-use Rattle.cover.specs.Words.{allServedIn}
-use Rattle.snake_substitution.specs.Parts.{slideAt, slideSet, substitutionValue, substitutionVariable}
-use Rattle.problem.specs.Reduce.{stepIf, first, nextSnakeSubstitution}
+use Rattle.cover.specs.Words.{allServedIn, thirds}
+use Rattle.snake_substitution.specs.Parts.{slideAt, substitutionValue, substitutionVariable}
+use Rattle.problem.specs.Reduce.{stepIf, first, nextSnakeSubstitutionBy, nextSnakeSubstitution}
 use Rattle.problem.specs.declared.Record.the-variants.{SnakeSubstitution}
 use Rattle.problem.specs.declared.Next.the-variants.{Nothing}
 use Rattle.held.proofs.Laws.{live-value, active-32, word-iff}
-use Rattle.cover.proofs.Laws.{allServedIn-iff, others-iff, thirds-iff}
+use Rattle.cover.proofs.Laws.{allServedIn-iff, thirds-iff}
 use Rattle.problem.proofs.Search.{first-off, wide-three, outside}
 use Rattle.held.proofs.Bounds.{no-value, not-live, no-domain}
 
 module _ {P : Problem} {s : State} (F : Fits P s) where
-  slideAt-iff : (spare : Bool) (i b a k : ℕ) → T (slideAt P s spare i b a k) ↔ ((d : ℕ) → Live s k d → Allowed P i b k d → (e : ℕ) × Live s k e × SlideServes P s spare i a k d e)
+  slideAt-iff : (i b a k : ℕ) → T (slideAt P s i b a k) ↔ ((d : ℕ) → Live s k d → Allowed P i b k d → (e : ℕ) × Live s k e × SlideServes P s slideSpares i a k d e)
   unfolding slideAt
-  slideAt-iff spare i b a k = simp (allLive-iff F, anyLive-iff F, imp-iff, slideServes-iff F) Iff·rfl
-
-pub slideSet-iff : (spare : Bool) (x i j l : ℕ) → i < 32 → j < 32 → l < 32 → T (bit (slideSet spare x i j) l) ↔ (T (bit x l) × ((l ≢ j) × ((T spare × (l ≡ i)) → ⊥)))
-unfolding slideSet
-slideSet-iff true x i j l p q k =
-    (λ h. let y = thirds-iff x i j l p q k .0 h in (y .0 .0, (y .1, λ z. y .0 .1 (z .1))), λ h. thirds-iff x i j l p q k .1 ((h .0, λ e. h .1 .1 (tt, e)), h .1 .0))
-slideSet-iff false x i j l p q k =
-    (λ h. let y = others-iff x j l q k .0 h in (y .0, (y .1, λ z. z .0)), λ h. others-iff x j l q k .1 (h .0, h .1 .0))
-
-pub slideSet-out : (spare : Bool) (x i j : ℕ) → i < 32 → j < 32 → bit (slideSet spare x i j) j ≡ false
-slideSet-out spare x i j p q = T-false _ (λ h. slideSet-iff spare x i j j p q q .0 h .1 .0 refl)
+  slideAt-iff i b a k = simp (allLive-iff F, anyLive-iff F, imp-iff, slideServes-iff F) Iff·rfl
 
 module _ {t : List ℕ} {m : Masks} (R : Ready t m) where
   -- slide: the values of k that are allowed with b are each served by one allowed with a; one allowed with both serves for itself
-  pub slide-word : (spare : Bool) (i b a k : ℕ) → i < 32 → k < 32 → allServedIn (held t) (stateOf m) (slideSet spare (m .active) i k) (bitAnd (getD (m .domains) k 0) (rowWord (held t) i k a)) (bitAnd (getD (m .domains) k 0) (rowWord (held t) i k b)) k ≡ slideAt (held t) (stateOf m) spare i b a k
+  pub slide-word : (i b a k : ℕ) → i < 32 → k < 32 → allServedIn (held t) (stateOf m) (thirds (m .active) i k) (bitAnd (getD (m .domains) k 0) (rowWord (held t) i k a)) (bitAnd (getD (m .domains) k 0) (rowWord (held t) i k b)) k ≡ slideAt (held t) (stateOf m) i b a k
   unfolding stateOf
-  slide-word spare i b a k p q =
+  slide-word i b a k p q =
       T-ext (
-        λ h. slideAt-iff (R .fits) spare i b a k .1 (λ d o al. to d o al (T-dec (bit good d)) (allServedIn-iff (R .fits) set good bad k .0 h d (live-value R k d o .value))),
+        λ h. slideAt-iff (R .fits) i b a k .1 (λ d o al. to d o al (T-dec (bit good d)) (allServedIn-iff (R .fits) set good bad k .0 h d (live-value R k d o .value))),
         λ h. allServedIn-iff (R .fits) set good bad k .1
             (λ d lt x. let z = isBad d .0 (x .0) in
-            let y = slideAt-iff (R .fits) spare i b a k .0 h d (z .0) (z .1) in
-            (y .0, live-value R k (y .0) (y .1) .value, (isGood (y .0) .1 (y .1, y .2 .0), λ l ll u. let w = slideSet-iff spare (m .active) i k l p q ll .0 u in y .2 .1 l (w .0) (w .1 .0) (w .1 .1)))),
+            let y = slideAt-iff (R .fits) i b a k .0 h d (z .0) (z .1) in
+            (y .0, live-value R k (y .0) (y .1) .value, (isGood (y .0) .1 (y .1, y .2 .0), λ l ll u. let w = thirds-iff (m .active) i k l p q ll .0 u in y .2 .1 l (w .0 .0) (w .1) (λ n. w .0 .1 (n .1))))),
       )
     where
       set : ℕ
-      set = slideSet spare (m .active) i k
+      set = thirds (m .active) i k
 
       good : ℕ
       good = bitAnd (getD (m .domains) k 0) (rowWord (held t) i k a)
@@ -69,12 +59,12 @@ module _ {t : List ℕ} {m : Masks} (R : Ready t m) where
       isBad : (c : ℕ) → T (bit bad c) ↔ (Live (stateOf m) k c × Allowed (held t) i b k c)
       isBad c = word-iff R i b k c
 
-      to : (d : ℕ) → Live (stateOf m) k d → Allowed (held t) i b k d → T (bit good d) ⊎ (T (bit good d) → ⊥) → ((T (bit bad d) × (T (bit good d) → ⊥)) → ((u : ℕ) × (u < 16) × (T (bit good u) × ((l : ℕ) → l < 32 → T (bit set l) → Substitutes (held t) (stateOf m) k u k d l)))) → (e : ℕ) × Live (stateOf m) k e × SlideServes (held t) (stateOf m) spare i a k d e
+      to : (d : ℕ) → Live (stateOf m) k d → Allowed (held t) i b k d → T (bit good d) ⊎ (T (bit good d) → ⊥) → ((T (bit bad d) × (T (bit good d) → ⊥)) → ((u : ℕ) × (u < 16) × (T (bit good u) × ((l : ℕ) → l < 32 → T (bit set l) → Substitutes (held t) (stateOf m) k u k d l)))) → (e : ℕ) × Live (stateOf m) k e × SlideServes (held t) (stateOf m) slideSpares i a k d e
       to d o al (inl g) f = (d, o, (isGood d .0 g .1, λ l act ne sp c oc ac. ac))
       to d o al (inr g) f =
           let x = f (isBad d .1 (o, al), g) in
           let y = isGood (x .0) .0 (x .2 .0) in
-          (x .0, y .0, (y .1, λ l act ne sp. x .2 .1 l (active-32 R l act) (slideSet-iff spare (m .active) i k l p q (active-32 R l act) .1 (act, (ne, sp)))))
+          (x .0, y .0, (y .1, λ l act ne sp. x .2 .1 l (active-32 R l act) (thirds-iff (m .active) i k l p q (active-32 R l act) .1 ((act, λ e. sp (tt, e)), ne))))
 
 module _ {t : List ℕ} {m : Masks} (R : Ready t m) where
   abbrev P : Problem
@@ -95,7 +85,7 @@ module _ {t : List ℕ} {m : Masks} (R : Ready t m) where
   substitution-variable-off i e = first-off 16 _ (λ b l. first-off 16 _ (λ a l. substitution-none i b a (λ x y. no-domain R i b e x)))
 
   pub substitution-first : first 32 (substitutionVariable P s) ≡ nextSnakeSubstitution P s
-  unfolding substitutionVariable substitutionValue nextSnakeSubstitution
+  unfolding substitutionVariable substitutionValue nextSnakeSubstitutionBy
   substitution-first =
       wide-three (λ i b a. stepIf (snakeSubstitution P s slideSpares i b a) (SnakeSubstitution i b a)) (P .n) (P .size) (P .size) 32 16 16 (held-few t) (held-narrow (R .table)) (held-narrow (R .table))
       (λ i b a o. substitution-none i b a (λ x y. ⊎-elim (λ l. no-value R i b (inl l) x) (λ q. ⊎-elim (λ l. no-value R i b (inr l) x) (λ l. no-value R i a (inr l) y) q) o))

@@ -10,7 +10,7 @@ ghost use Rattle.problem.specs.Masks.{stateOf, sets};
 ghost use Rattle.problem.specs.Reduce.{nextSnakeSubstitution};
 ghost use Rattle.held.specs.Ready.{Ready, Value};
 ghost use Rattle.cover.specs.Words.{others};
-ghost use Rattle.snake_substitution.specs.Parts.{slideAt, slideSet, substitutionValue, substitutionVariable};
+ghost use Rattle.snake_substitution.specs.Parts.{slideAt, substitutionValue, substitutionVariable};
 use bounded::has16;
 use bounded::has32;
 use bounded::without32;
@@ -20,15 +20,7 @@ use problem::Next;
 use problem::Record;
 use problem::is_step;
 
-// The variables at which a value of k must cover another in the slide rule. The format keeps i among them.
-fn slide_set(active: u32, i: usize, k: usize) -> u32
-    requires { ⌜ (i < 32) × (k < 32) ⌝ }
-    ensures { λ r. ⌜ r ≡ slideSet slideSpares active i k ⌝ }
-{
-    without32(active, k)
-}
-
-// What the slide rule asks of k, where k is one of `rest`: the active variables other than i.
+// What the slide rule asks of k, where k is one of `rest`: the active variables other than i. Covering is asked for at these but k.
 fn slide_at(
     t: &[u16],
     active: u32,
@@ -40,13 +32,13 @@ fn slide_at(
     k: usize,
 ) -> bool
     requires { ⌜ Ready (now t) (sets active (now on)) × Value (now t) i b × Value (now t) i a × (rest ≡ others active i) × (k < 32) ⌝ }
-    ensures { λ r. ⌜ r ≡ imp (bit rest k) (slideAt (held (now (t .entry))) (stateOf (sets active (now (on .entry)))) slideSpares i b a k) ⌝ }
+    ensures { λ r. ⌜ r ≡ imp (bit rest k) (slideAt (held (now (t .entry))) (stateOf (sets active (now (on .entry)))) i b a k) ⌝ }
 {
     if has32(rest, k) {
         let domain = on[k];
         let good = domain & row(t, i, k, a);
         let bad = domain & row(t, i, k, b);
-        all_served(t, active, on, slide_set(active, i, k), good, bad, k)
+        all_served(t, active, on, without32(rest, k), good, bad, k)
     } else {
         true
     }
@@ -54,7 +46,7 @@ fn slide_at(
 
 fn slide_others(t: &[u16], active: u32, on: &[u16; 32], i: usize, b: usize, a: usize) -> bool
     requires { ⌜ Ready (now t) (sets active (now on)) × Value (now t) i b × Value (now t) i a ⌝ }
-    ensures { λ r. ⌜ r ≡ allOther (held (now (t .entry))) (stateOf (sets active (now (on .entry)))) i (slideAt (held (now (t .entry))) (stateOf (sets active (now (on .entry)))) slideSpares i b a) ⌝ }
+    ensures { λ r. ⌜ r ≡ allOther (held (now (t .entry))) (stateOf (sets active (now (on .entry)))) i (slideAt (held (now (t .entry))) (stateOf (sets active (now (on .entry)))) i b a) ⌝ }
 {
     let rest = without32(active, i);
     let mut k: usize = 0;

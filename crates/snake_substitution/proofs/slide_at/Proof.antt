@@ -1,8 +1,7 @@
 -- `snake_substitution::slide_at`. Assumes nothing.
 use mathlib.Core.Path.{sym, _∙_}
-use Rattle.problem.specs.Problem.{slideSpares}
-use Rattle.cover.proofs.Laws.{other-apart}
-use Rattle.snake_substitution.proofs.Laws.{slideSet-out, slide-word}
+use Rattle.cover.proofs.Laws.{other-apart, others-out}
+use Rattle.snake_substitution.proofs.Laws.{slide-word}
 use Rattle.held.proofs.Laws.{word-among}
 use borrow.Author.Needs.{needs}
 use Rattle.snake_substitution.proofs.slide_at.Statement.{statement}
@@ -31,8 +30,8 @@ row-requires-2 c κs =
     let d = other-apart (a .rest) (a .active) _ _ (p .3) (p .1 .variable) (sym (c .before .before .before .has32 .ensures) ∙ c .before .before .if1 .taken) in
     search needs
 
-slide-set-requires : tie.Need-slide-set-requires
-slide-set-requires c κs = search needs
+without32-requires : tie.Need-without32-requires
+without32-requires c κs = search needs
 
 all-served-requires : tie.Need-all-served-requires
 all-served-requires c κs =
@@ -42,7 +41,7 @@ all-served-requires c κs =
       p .0,
       rw (c .before .before .row .ensures) (word-among (p .0) _ _ _),
       rw (c .before .row2 .ensures) (word-among (p .0) _ _ _),
-      rw (c .slide-set .ensures) (slideSet-out slideSpares _ _ _ (p .1 .variable) (p .4)),
+      rw (c .without32 .ensures) (others-out (a .rest) _ (p .4)),
     )
 
 returns : tie.Need-returns
@@ -51,7 +50,7 @@ returns c =
     let a = c .before .before .before .before .before .before .before .before .args in
     let e = sym (c .before .before .before .before .before .before .has32 .ensures) ∙ c .before .before .before .before .before .if1 .taken in
     let d = other-apart (a .rest) (a .active) _ _ (p .3) (p .1 .variable) e in
-    rw e (c .all-served .ensures ∙ (rw (c .before .slide-set .ensures, c .before .before .row2 .ensures, c .before .before .before .row .ensures) (slide-word (p .0) slideSpares _ _ _ _ (p .1 .variable) (p .4))))
+    rw e (c .all-served .ensures ∙ (rw (c .before .without32 .ensures, p .3, c .before .before .row2 .ensures, c .before .before .before .row .ensures) (slide-word (p .0) _ _ _ _ (p .1 .variable) (p .4))))
 
 returns-2 : tie.Need-returns-2
 returns-2 c = rw (sym (c .before .has32 .ensures) ∙ c .if1 .left)
@@ -65,7 +64,7 @@ slide-at-spec =
     element-copy-out-domain
     row-requires
     row-requires-2
-    slide-set-requires
+    without32-requires
     all-served-requires
     returns
     returns-2)

@@ -8,7 +8,6 @@ use borrow.Author.Tests.{not-true, not-false}
 use Rattle.bounded.specs.Bounded.{imp, allBelow}
 use Rattle.bounded.specs.Mask.{bit}
 use Rattle.bounded.proofs.Loops.{all-none, all-more, all-fail, all-end}
-use Rattle.problem.specs.Problem.{slideSpares}
 use Rattle.problem.specs.Held.{held}
 use Rattle.problem.specs.Masks.{stateOf, sets}
 use Rattle.snake_substitution.specs.Parts.{slideAt}
@@ -17,7 +16,7 @@ use Rattle.snake_substitution.proofs.slide_others.Statement.{statement}
 use Rattle.snake_substitution.proofs.slide_others.Tie as tie
 
 abbrev Inv-loop : tie.InvT-loop
-Inv-loop t active on i b a rest k₀ k = (k ≤ 32) × (allBelow k (λ k. imp (bit rest k) (slideAt (held t) (stateOf (sets active on)) slideSpares i b a k)) ≡ true)
+Inv-loop t active on i b a rest k₀ k = (k ≤ 32) × (allBelow k (λ k. imp (bit rest k) (slideAt (held t) (stateOf (sets active on)) i b a k)) ≡ true)
 
 abbrev μ-loop : tie.MeasureT-loop
 μ-loop t active on i b a rest k₀ k = 32 - k
