@@ -87,11 +87,11 @@ rows =
     -- the cover of setting 0 of item 1 by setting 1 breaks at item 2, where setting 1 spoils it; record 1, whose cover breaks at item 1
     ∷ record { numbers = 17 ∷ 0 ∷ 2 ∷ 1 ∷ []; call = Back sheetCut (1 ∷ 4 ∷ 4 ∷ 1 ∷ 0 ∷ 1 ∷ []) (9 ∷ 9 ∷ 9 ∷ []) 3 }
     ∷ record { numbers = 17 ∷ 1 ∷ 1 ∷ 1 ∷ []; call = Back sheetCut (1 ∷ 4 ∷ 1 ∷ 1 ∷ 0 ∷ 0 ∷ 4 ∷ 4 ∷ 2 ∷ 0 ∷ 1 ∷ []) (9 ∷ 9 ∷ 9 ∷ []) 3 }
-    -- the first of these with a = b, with b off, with item 0 emptied, and as a slide
+    -- the first of these with a = b, with b off, and with item 0 emptied; and a slide that does not hold
     ∷ record { numbers = 17 ∷ 0 ∷ 255 ∷ 255 ∷ []; call = Back sheetCut (1 ∷ 4 ∷ 4 ∷ 1 ∷ 0 ∷ 0 ∷ []) (9 ∷ 9 ∷ 9 ∷ []) 3 }
     ∷ record { numbers = 17 ∷ 1 ∷ 255 ∷ 255 ∷ []; call = Back sheetCut (1 ∷ 4 ∷ 1 ∷ 1 ∷ 0 ∷ 0 ∷ 4 ∷ 4 ∷ 1 ∷ 0 ∷ 1 ∷ []) (9 ∷ 9 ∷ 9 ∷ []) 3 }
     ∷ record { numbers = 17 ∷ 1 ∷ 255 ∷ 255 ∷ []; call = Back sheetCut (1 ∷ 4 ∷ 1 ∷ 0 ∷ 0 ∷ 1 ∷ 4 ∷ 4 ∷ 1 ∷ 0 ∷ 1 ∷ []) (9 ∷ 9 ∷ 9 ∷ []) 3 }
-    ∷ record { numbers = 17 ∷ 0 ∷ 255 ∷ 255 ∷ []; call = Back sheetCut (1 ∷ 4 ∷ 5 ∷ 1 ∷ 0 ∷ 1 ∷ []) (9 ∷ 9 ∷ 9 ∷ []) 3 }
+    ∷ record { numbers = 17 ∷ 0 ∷ 255 ∷ 255 ∷ []; call = Back sheetC (1 ∷ 4 ∷ 5 ∷ 1 ∷ 0 ∷ 1 ∷ []) (9 ∷ 9 ∷ 9 ∷ []) 3 }
     -- item 0 is out and not 255; setting 2 is not on; the pair is barred
     ∷ record { numbers = 19 ∷ []; call = Back sheetA (1 ∷ 3 ∷ 2 ∷ 0 ∷ 0 ∷ []) (0 ∷ []) 1 }
     ∷ record { numbers = 19 ∷ []; call = Back sheetA (1 ∷ []) (2 ∷ []) 1 }

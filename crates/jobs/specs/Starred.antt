@@ -5,7 +5,7 @@ use mathlib.Core.Bool.{Bool, true, false}
 use mathlib.Core.List.{List, [], _∷_, _++_}
 use Prim.Native.Nat.{ℕ, _-_}
 use lib.ListN.{length, replicate}
-use Rattle.problem.specs.Problem.{Problem, State, full, snake}
+use Rattle.problem.specs.Problem.{Problem, State, full, snake, narrow}
 use Rattle.problem.specs.Reduce.{afterTrace}
 use Rattle.problem.specs.Manual.{start}
 use Rattle.problem.specs.Solutions.{solutionCount, solvable}
@@ -17,9 +17,9 @@ use Rattle.problem.specs.declared.End.the-variants.{Impossible, Solved, Rest}
 use Rattle.sheet.specs.Sheet.{layout}
 use Rattle.sheet.specs.Relation.{problemOf}
 use Rattle.jobs.specs.Numbers.{runNumber, callNumber, putBackNumber}
-use Rattle.jobs.specs.Run.{runJob}
+use Rattle.jobs.specs.Run.{runJobBy, runJob}
 use Rattle.jobs.specs.Hand.{handOf, callJob}
-use Rattle.jobs.specs.PutBack.{putBackJob}
+use Rattle.jobs.specs.PutBack.{putBackJobBy, putBackJob}
 use Rattle.jobs.specs.declared.ReduceOutcome.the-variants as reduced
 use Rattle.jobs.specs.declared.CallOutcome.the-variants as called
 use Rattle.jobs.specs.declared.Extended.the-variants as extended
@@ -37,6 +37,8 @@ masks a d = record { active = a; domains = d ++ replicate (32 - length d) 0 }
 pub data Claim : Type 0 where
   -- a run with a buffer of so many bytes: the trace, the end, the steps and the last state, with the old bytes after the trace
   Runs : (buffer : ℕ) (trace : List ℕ) (end : End) (steps : ℕ) (last : Masks) → Claim
+  -- the trace of a run with a buffer of so many bytes by the rulebook of before
+  RanBefore : (buffer : ℕ) (trace : List ℕ) → Claim
   -- a run with a buffer of so many bytes is refused, and the buffer is as it was
   NotRun : (buffer number : ℕ) → Claim
   -- whether the full sheet has a plan
@@ -53,8 +55,9 @@ pub data Claim : Type 0 where
   PutBack : (trace plan result : List ℕ) → Claim
   -- putting back that is refused, the result buffer being as it was
   NotPutBack : (trace plan : List ℕ) (number : ℕ) → Claim
-  -- the same by 17, which names this record, and this item and setting or 255 for both
+  -- the same by 17, which names this record, and this item and setting or 255 for both; and the same by the rulebook of before
   NotLawful : (trace plan : List ℕ) (k l c : ℕ) → Claim
+  NotLawfulBefore : (trace plan : List ℕ) (k l c : ℕ) → Claim
 
 abbrev pub from : Bool → Problem → State
 from true P = start P
@@ -67,6 +70,7 @@ Meets s (Runs b t e k m) =
       answer = record { outcome = reduced.Done e k (length t); state = m };
       buffer = t ++ lent (b - length t);
     }
+Meets s (RanBefore b t) = (runJobBy narrow s (lent b)) .buffer ≡ t ++ lent (b - length t)
 Meets s (NotRun b k) = (runNumber ((runJob s (lent b)) .answer .outcome) ≡ k) × ((runJob s (lent b)) .buffer ≡ lent b)
 Meets s (HasPlan b) = solvable (problemOf layout s) (full (problemOf layout s)) ≡ b
 Meets s (Plans t k) = solutionCount (problemOf layout s) (afterTrace (problemOf layout s) (full (problemOf layout s)) t) ≡ k
@@ -80,6 +84,7 @@ Meets s (NotPutBack t p k) = (putBackNumber ((putBackJob s t p (lent (length p))
 Meets s (NotLawful t p k l c) =
     (putBackNumber ((putBackJob s t p (lent (length p))) .answer) ≡ 17)
     × (putBackJob s t p (lent (length p)) ≡ record { answer = extended.Refused (refusal.Unlawful k l c); result = lent (length p) })
+Meets s (NotLawfulBefore t p k l c) = putBackJobBy narrow s t p (lent (length p)) ≡ record { answer = extended.Refused (refusal.Unlawful k l c); result = lent (length p) }
 
 abbrev pub AllMeet : List ℕ → List Claim → Type 0
 AllMeet s [] = Unit {0}
@@ -147,6 +152,24 @@ sheetH =
 abbrev pub sheetSlide : List ℕ
 sheetSlide = 1 ∷ 0 ∷ 0 ∷ 0 ∷ 16 ∷ 2 ∷ 0 ∷ 1 ∷ 2 ∷ 2 ∷ 0 ∷ 1 ∷ 0 ∷ 3 ∷ 0 ∷ 2 ∷ []
 
+-- a slide in a run: items of 3, 2 and 2; by the rulebook of before the run took no step
+abbrev pub sheetSlideTaken : List ℕ
+sheetSlideTaken =
+    1 ∷ 0 ∷ 0 ∷ 0 ∷ 33 ∷ 3 ∷ 0 ∷ 3 ∷ 3 ∷ 2 ∷ 2
+    ∷ 0 ∷ 1 ∷ 0 ∷ 1 ∷ 0 ∷ 2 ∷ 0 ∷ 1
+    ∷ 0 ∷ 2 ∷ 0 ∷ 2 ∷ 0 ∷ 1 ∷ 0 ∷ 1
+    ∷ 1 ∷ 2 ∷ 0 ∷ 2 ∷ 0 ∷ 3
+    ∷ []
+
+-- a bare step after a slide: items of 3, 3 and 2
+abbrev pub sheetSlideBare : List ℕ
+sheetSlideBare =
+    1 ∷ 0 ∷ 0 ∷ 0 ∷ 35 ∷ 3 ∷ 0 ∷ 3 ∷ 3 ∷ 3 ∷ 2
+    ∷ 0 ∷ 1 ∷ 0 ∷ 6 ∷ 0 ∷ 1 ∷ 0 ∷ 4
+    ∷ 0 ∷ 2 ∷ 0 ∷ 1 ∷ 0 ∷ 1 ∷ 0 ∷ 3
+    ∷ 1 ∷ 2 ∷ 0 ∷ 1 ∷ 0 ∷ 3 ∷ 0 ∷ 2
+    ∷ []
+
 -- several fitting choices: two items of 3, unequal
 abbrev pub sheetChoice : List ℕ
 sheetChoice = 1 ∷ 0 ∷ 0 ∷ 0 ∷ 18 ∷ 2 ∷ 0 ∷ 1 ∷ 3 ∷ 3 ∷ 0 ∷ 1 ∷ 0 ∷ 6 ∷ 0 ∷ 5 ∷ 0 ∷ 3 ∷ []
@@ -171,7 +194,9 @@ rows =
           ∷ NotRun 20 10
           ∷ HasPlan true
           ∷ PutBack (1 ∷ 3 ∷ 2 ∷ 0 ∷ 0 ∷ 3 ∷ 2 ∷ 1 ∷ 0 ∷ []) (255 ∷ 255 ∷ []) (0 ∷ 1 ∷ [])
-          ∷ NotLawful (1 ∷ 4 ∷ 5 ∷ 0 ∷ 0 ∷ 1 ∷ []) (1 ∷ 1 ∷ []) 0 255 255
+          ∷ PutBack (1 ∷ 4 ∷ 5 ∷ 0 ∷ 0 ∷ 1 ∷ []) (1 ∷ 0 ∷ []) (1 ∷ 0 ∷ [])
+          ∷ NotPutBack (1 ∷ 4 ∷ 5 ∷ 0 ∷ 0 ∷ 1 ∷ []) (1 ∷ 1 ∷ []) 19
+          ∷ NotLawfulBefore (1 ∷ 4 ∷ 5 ∷ 0 ∷ 0 ∷ 1 ∷ []) (1 ∷ 0 ∷ []) 0 255 255
           ∷ [];
     }
     -- C, and I and J, which are jobs on C
@@ -183,6 +208,7 @@ rows =
           ∷ NotTaken true 0 14
           ∷ NotTaken true 3 12
           ∷ NotPutBack (1 ∷ []) (0 ∷ 1 ∷ 0 ∷ []) 19
+          ∷ NotLawful (1 ∷ 4 ∷ 5 ∷ 0 ∷ 0 ∷ 1 ∷ []) (1 ∷ 1 ∷ 1 ∷ []) 0 255 255
           ∷ [];
     }
     ∷ record {
@@ -208,6 +234,20 @@ rows =
     ∷ record { sheet = sheetG; claims = Runs 41 (1 ∷ 3 ∷ 3 ∷ 3 ∷ 0 ∷ []) Rest 1 (masks 7 (3 ∷ 3 ∷ 3 ∷ [])) ∷ HasPlan false ∷ [] }
     ∷ record { sheet = sheetH; claims = Runs 36 (1 ∷ 4 ∷ 4 ∷ 0 ∷ 0 ∷ 2 ∷ []) Rest 1 (masks 7 (6 ∷ 3 ∷ 3 ∷ [])) ∷ HasPlan false ∷ [] }
     ∷ record { sheet = sheetSlide; claims = PutBack (1 ∷ 4 ∷ 5 ∷ 0 ∷ 0 ∷ 1 ∷ []) (1 ∷ 1 ∷ []) (1 ∷ 1 ∷ []) ∷ [] }
+    ∷ record {
+      sheet = sheetSlideTaken;
+      claims =
+          Runs 36 (1 ∷ 4 ∷ 5 ∷ 0 ∷ 2 ∷ 0 ∷ 3 ∷ 3 ∷ 1 ∷ 0 ∷ 3 ∷ 2 ∷ 0 ∷ 0 ∷ 3 ∷ 2 ∷ 2 ∷ 0 ∷ []) Solved 4 (masks 0 [])
+          ∷ RanBefore 36 (1 ∷ [])
+          ∷ [];
+    }
+    ∷ record {
+      sheet = sheetSlideBare;
+      claims =
+          Runs 41 (1 ∷ 4 ∷ 5 ∷ 0 ∷ 1 ∷ 0 ∷ 4 ∷ 1 ∷ 1 ∷ 0 ∷ 0 ∷ []) Rest 2 (masks 7 (5 ∷ 6 ∷ 3 ∷ []))
+          ∷ RanBefore 41 (1 ∷ [])
+          ∷ [];
+    }
     ∷ record {
       sheet = sheetChoice;
       claims =

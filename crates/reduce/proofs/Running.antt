@@ -7,7 +7,7 @@ use lib.Dec.{T}
 use lib.ListN.{length, set, length-append, length-set}
 use lib.Seq.{drop-set-lt}
 use Rattle.problem.specs.Problem.{Problem, State, full, liveCount, sizeSum}
-use Rattle.problem.specs.Reduce.{lawful, after, lawfulTrace, afterTrace, next, run, endOf}
+use Rattle.problem.specs.Reduce.{lawful, after, lawfulTraceBy, lawfulTrace, afterTrace, next, runBy, run, endOf}
 use Rattle.problem.specs.Held.{held, RowTable}
 use Rattle.problem.specs.Masks.{stateOf, masksOf}
 use Rattle.problem.specs.declared.Masks.{Masks}
@@ -20,7 +20,7 @@ use Rattle.problem.proofs.Count.{full-count}
 use Rattle.problem.proofs.Run.{next-lawful, run-step, run-stop, run-enough}
 use Rattle.problem.proofs.Bridge.{masks-back}
 use Rattle.jobs.specs.Trace.{recordBytes, recordsBytes, traceBytes, fronted}
-use Rattle.jobs.specs.Run.{runDone}
+use Rattle.jobs.specs.Run.{runDoneBy, runDone}
 use Rattle.jobs.specs.declared.ReduceOutcome.the-variants.{Done}
 use Rattle.jobs.proofs.Worked.{trace-length}
 use Rattle.trace.specs.Written.{written, Small}
@@ -35,13 +35,13 @@ use Rattle.steps.proofs.States.{after-state, after-ready, holds-within}
 
 module _ (P : Problem) where
   pub run-more : {s : State} → Fits P s → (r : Record) → next P s ≡ Step r → run P s ≡ r ∷ run P (after P s r)
-  unfolding run
+  unfolding runBy
   run-more {s} F r e =
       run-step P (liveCount P s) s r e
       ∙ ap (λ (t : List Record). r ∷ t) (run-enough P (liveCount P s) (suc (liveCount P (after P s r))) (after P s r) (after-fits P F r) (step-falls P F r (next-lawful P s r e)) (omega arith))
 
   pub run-ended : (s : State) → next P s ≡ Nothing → run P s ≡ []
-  unfolding run
+  unfolding runBy
   run-ended s e = run-stop P (suc (liveCount P s)) s e
 
   -- a trace one record longer
@@ -51,7 +51,7 @@ module _ (P : Problem) where
   after-more s (x ∷ t) r = after-more (after P s x) t r
 
   pub lawful-more : (s : State) (t : List Record) (r : Record) → T (lawfulTrace P s t) → T (lawful P (afterTrace P s t) r) → T (lawfulTrace P s (t ++ (r ∷ [])))
-  unfolding afterTrace lawfulTrace
+  unfolding afterTrace lawfulTraceBy
   lawful-more s [] r h l = trace-iff P s r [] .1 (l, tt)
   lawful-more s (x ∷ t) r h l = let y = trace-iff P s x t .0 h in trace-iff P s x (t ++ (r ∷ [])) .1 (y .0, lawful-more (after P s x) t r (y .1) l)
 
@@ -82,7 +82,7 @@ unfolding traceBytes
 fronted-first l d = ap (λ (x : List ℕ). (1 ∷ recordsBytes l) ++ x) (drop-set-lt (length (1 ∷ recordsBytes l)) d 0 1 (omega arith))
 
 pub running-start : (t d : List ℕ) → RowTable t → 1 + 5 * sizeSum (held t) ≤ length d → Running t (set d 0 1) (set d 0 1) (masksOf (full (held t))) 1 0
-unfolding afterTrace lawfulTrace traceBytes recordsBytes
+unfolding afterTrace lawfulTraceBy traceBytes recordsBytes
 running-start t d R l =
     record {
       done = [];
@@ -172,11 +172,11 @@ module _ (t d : List ℕ) where
 
       -- d₀ was in the buffer before the trace's first byte
       pub done-buffer : (d₀ : List ℕ) → d ≡ set d₀ 0 1 → b ≡ (runDone (held t) d₀) .buffer
-      unfolding runDone
+      unfolding runDoneBy
       done-buffer d₀ q = W .bytes ∙ (λ i. fronted (traceBytes (sym all-done i)) (q i)) ∙ fronted-first (run (held t) (full (held t))) d₀
 
       pub done-answer : (d₀ : List ℕ) → record { outcome = Done (endOf (held t) (stateOf m)) steps at; state = m } ≡ (runDone (held t) d₀) .answer
-      unfolding runDone
+      unfolding runDoneBy
       done-answer d₀ = λ i. record { outcome = Done (done-end i) (done-count i) (done-place i); state = done-state i }
 
 -- fields below 32 fit a byte

@@ -8,7 +8,7 @@ use lib.Dec.{ltb}
 use borrow.Author.Tests.{ltb-true}
 use Rattle.bounded.proofs.Truth.{T-of, T-not, T-false, both, and-iff, ltb-iff}
 use Rattle.problem.specs.Problem.{Problem, State, noneEmpty, unsupported, snake, triangle, neighbourhood, snakeSubstitution, slideSpares, coverAsked}
-use Rattle.problem.specs.Reduce.{holds, lawful, after}
+use Rattle.problem.specs.Reduce.{holdsBy, holds, lawfulBy, lawful, after}
 use Rattle.problem.specs.Held.{held}
 use Rattle.problem.specs.Masks.{stateOf, masksOf}
 use Rattle.problem.specs.declared.Masks.{Masks}
@@ -38,23 +38,23 @@ module _ {t : List ℕ} {m : Masks} (R : Ready t m) where
   -- ---- out of range no rule holds
 
   pub unsupported-out : (i b k : ℕ) → (ltb i 32 && (ltb b 16 && ltb k 32)) ≡ false → unsupported (held t) (stateOf m) i b k ≡ false
-  unfolding holds
+  unfolding holdsBy
   unsupported-out i b k e = T-false _ (λ h. out3 i 32 b 16 k 32 e (holds-within R (Unsupported i b k) h))
 
   pub snake-out : (i v : ℕ) → (ltb i 32 && ltb v 16) ≡ false → snake (held t) (stateOf m) i v ≡ false
-  unfolding holds
+  unfolding holdsBy
   snake-out i v e = T-false _ (λ h. out2 i 32 v 16 e (holds-within R (Snake i v) h))
 
   pub triangle-out : (i j : ℕ) → (ltb i 32 && ltb j 32) ≡ false → triangle (held t) (stateOf m) i j ≡ false
-  unfolding holds
+  unfolding holdsBy
   triangle-out i j e = T-false _ (λ h. out2 i 32 j 32 e (holds-within R (Triangle i j) h))
 
   pub neighbourhood-out : (i b a : ℕ) → (ltb i 32 && (ltb b 16 && ltb a 16)) ≡ false → neighbourhood (held t) (stateOf m) i b a ≡ false
-  unfolding holds
+  unfolding holdsBy
   neighbourhood-out i b a e = T-false _ (λ h. out3 i 32 b 16 a 16 e (holds-within R (Neighbourhood i b a) h))
 
   pub slide-out : (i b a : ℕ) → (ltb i 32 && (ltb b 16 && ltb a 16)) ≡ false → snakeSubstitution (held t) (stateOf m) slideSpares i b a ≡ false
-  unfolding holds
+  unfolding holdsBy
   slide-out i b a e = T-false _ (λ h. out3 i 32 b 16 a 16 e (holds-within R (SnakeSubstitution i b a) h))
 
   -- ---- what is named of a record
@@ -77,9 +77,9 @@ module _ {t : List ℕ} {m : Masks} (R : Ready t m) where
 
 module _ (P : Problem) (s : State) (r : Record) where
   pub lawful-on : noneEmpty P s ≡ true → holds P s r ≡ lawful P s r
-  unfolding lawful
+  unfolding lawfulBy
   lawful-on e = ap (λ (b : Bool). b && holds P s r) (sym e)
 
   pub lawful-off : noneEmpty P s ≡ false → false ≡ lawful P s r
-  unfolding lawful
+  unfolding lawfulBy
   lawful-off e = ap (λ (b : Bool). b && holds P s r) (sym e)

@@ -4,7 +4,7 @@ use mathlib.Core.List.{List}
 use Prim.Native.Nat.{ℕ, _-_, _<_}
 use lib.Dec.{T}
 use Rattle.problem.specs.Problem.{slideSpares}
-use Rattle.problem.specs.Reduce.{holds, after}
+use Rattle.problem.specs.Reduce.{holdsBy, holds, after}
 use Rattle.problem.specs.Held.{held}
 use Rattle.problem.specs.Masks.{stateOf, masksOf}
 use Rattle.problem.specs.declared.Masks.{Masks}
@@ -29,7 +29,7 @@ module _ {t : List ℕ} {m : Masks} (R : Ready t m) where
 
   -- a record whose rule holds names variables and values of the table
   pub holds-within : (r : Record) → T (holds (held t) (stateOf m) r) → Within r
-  unfolding holds
+  unfolding holdsBy
   holds-within (Unsupported i b k) h = let x = unsupported-iff (R .fits) i b k .0 h in let y = live-within i b (x .0) in (y .0, (y .1, active-32 R k (x .1)))
   holds-within (Snake i v) h = live-within i v (snake-iff (R .fits) i v .0 h .0)
   holds-within (Triangle i j) h = let x = triangle-iff (R .fits) i j .0 h in (active-32 R i (x .0), active-32 R j (x .1 .0))

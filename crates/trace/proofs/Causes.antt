@@ -12,7 +12,7 @@ use borrow.Author.Tests.{lt-ltb, le-ltb, ne-eqb}
 use Rattle.bounded.proofs.Truth.{T-true, T-false, T-dec, lt-dec, eq-dec, and-iff, eqb-iff}
 use Rattle.bounded.proofs.Causes.{cause-iff}
 use Rattle.problem.specs.Problem.{Problem, State, full}
-use Rattle.problem.specs.Reduce.{lawful, brokenCover, after, lawfulTrace, afterTrace}
+use Rattle.problem.specs.Reduce.{lawful, brokenCover, after, lawfulTraceBy, lawfulTrace, afterTrace}
 use Rattle.problem.specs.declared.Record.{Record}
 use Rattle.problem.specs.declared.Break.{Break}
 use Rattle.problem.specs.declared.Break.the-variants.{At, Nowhere}
@@ -21,7 +21,7 @@ use Rattle.problem.proofs.Trace.{trace-iff, trace-fits}
 use Rattle.problem.proofs.Spoiler.{CoverAlone, BreaksAt, names-iff}
 use Rattle.sheet.specs.Bytes.{byteAt}
 use Rattle.jobs.specs.Trace.{recordBytes, recordsBytes, traceBytes, recordAt}
-use Rattle.jobs.specs.PutBack.{Checked, Lawful, Fault, unnamed, unlawfulRecord, withRecord, checkFrom, checkTrace}
+use Rattle.jobs.specs.PutBack.{Checked, Lawful, Fault, unnamed, unlawfulRecord, withRecord, checkFrom, checkTraceBy, checkTrace}
 use Rattle.jobs.specs.declared.RecordRead.{RecordRead}
 use Rattle.jobs.specs.declared.RecordRead.the-variants.{Read, End, Malformed}
 use Rattle.jobs.specs.declared.ExtendRefusal.{ExtendRefusal}
@@ -125,15 +125,15 @@ module _ (P : Problem) where
 
   -- at the first record
   cause-end : (s : State) (k : ℕ) (d : List ℕ) → d ≡ [] → RecordsCause s k d (Lawful [])
-  unfolding recordsBytes lawfulTrace
+  unfolding recordsBytes lawfulTraceBy
   cause-end s k d e = (e, tt)
 
   cause-malformed : (s : State) (k : ℕ) (d : List ℕ) → NoRecord d → RecordsCause s k d (Fault refusal.Malformed)
-  unfolding recordsBytes lawfulTrace
+  unfolding recordsBytes lawfulTraceBy
   cause-malformed s k d n = ([], d, refl, tt, n)
 
   cause-unlawful : (s : State) (k : ℕ) (d : List ℕ) (r : Record) (more : List ℕ) → d ≡ recordBytes r ++ more → (T (lawful P s r) → ⊥) → RecordsCause s k d (Fault (unlawfulRecord k (brokenCover P s r)))
-  unfolding recordsBytes lawfulTrace afterTrace
+  unfolding recordsBytes lawfulTraceBy afterTrace
   cause-unlawful s k d r more e l = go (brokenCover P s r) refl
     where
       go : (x : Break) → brokenCover P s r ≡ x → RecordsCause s k d (Fault (unlawfulRecord k x))
@@ -275,8 +275,8 @@ module _ (P : Problem) (t : List ℕ) where
 
   -- where byte 0 is 1 the records follow
   begun : (d : List ℕ) → t ≡ 1 ∷ d → checkTrace P t ≡ checkFrom (suc (length t)) P t (full P) 0 1
-  unfolding checkTrace
-  begun d e = rw (front, checkTrace)
+  unfolding checkTraceBy
+  begun d e = rw (front, checkTraceBy)
     where
       front : (ltb 0 (length t) && eqb (byteAt t 0) 1) ≡ true
       front = subst (λ (w : List ℕ). (ltb 0 (length w) && eqb (byteAt w 0) 1) ≡ true) (sym e) (simp (lt-ltb 0 (length (1 ∷ d)) (omega arith)))
@@ -290,8 +290,8 @@ module _ (P : Problem) (t : List ℕ) where
       )
 
   wrong-front : (ltb 0 (length t) && eqb (byteAt t 0) 1) ≡ false → checkTrace P t ≡ Fault refusal.TraceFront
-  unfolding checkTrace
-  wrong-front e = rw (e, checkTrace)
+  unfolding checkTraceBy
+  wrong-front e = rw (e, checkTraceBy)
 
   -- the causes of the records, of the whole trace
   of-records : (d : List ℕ) → t ≡ 1 ∷ d → (c : Checked) → RecordsCause P (full P) 0 d c → TraceCause c

@@ -14,7 +14,7 @@ use Rattle.bounded.specs.Table.{tab, filled}
 use Rattle.bounded.proofs.Truth.{T-of, clash, both, eq-dec, not-iff, eqb-iff}
 use Rattle.bounded.proofs.Table.{length-tab, getD-tab}
 use Rattle.problem.specs.Problem.{Problem, State, lowestLive, snakeServes, triangleServes}
-use Rattle.problem.specs.Reduce.{holds, after, afterTrace, lawfulTrace}
+use Rattle.problem.specs.Reduce.{holdsBy, holds, after, afterTrace, lawfulTrace}
 use Rattle.problem.specs.Extend.{put, repair, undo, undoTrace}
 use Rattle.problem.specs.declared.Record.{Record}
 use Rattle.problem.specs.declared.Record.the-variants.{Unsupported, Snake, Triangle, Neighbourhood, SnakeSubstitution}
@@ -111,7 +111,7 @@ module _ {P : Problem} {s : State} (F : Fits P s) (p q : ℕ → ℕ) (same : (k
       }
 
   pub undo-ext : (r : Record) → T (holds P s r) → (k : ℕ) → k < P .n → undo P s r p k ≡ undo P s r q k
-  unfolding undo put repair holds
+  unfolding undo put repair holdsBy
   undo-ext (Unsupported i b a) t k l = same k l
   undo-ext (Snake i v) t k l =
       ap (λ (x : ℕ). elim (eqb k i) as (λ y. ℕ) [ true ↦ v | false ↦ elim (s .active k && (not (eqb k i) && not (P .allowed i v k x))) as (λ y. ℕ) [ true ↦ lowestLive P s k (λ w'. snakeServes P s i v k x w') | false ↦ x ] ]) (same k l)
@@ -129,13 +129,13 @@ module _ {P : Problem} {s : State} (F : Fits P s) where
   snake-left i v p A j h d = eliminate-live P s F i j (p j) .0 (A .live j (eliminate-active P s i j .1 (h, d))) .0
 
   pub triangle-left : (i j : ℕ) (p : ℕ → ℕ) → T (holds P s (Triangle i j)) → Solution P (after P s (Triangle i j)) p → Live s j (p j) × (Active s i × Active s j)
-  unfolding after holds
+  unfolding after holdsBy
   triangle-left i j p t A =
       let x = triangle-iff F i j .0 t in
       (eliminate-live P s F i j (p j) .0 (A .live j (eliminate-active P s i j .1 (x .1 .0, x .1 .1 .0))) .0, (x .0, x .1 .0))
 
   pub snake-live : (i v : ℕ) → T (holds P s (Snake i v)) → Live s i v
-  unfolding holds
+  unfolding holdsBy
   snake-live i v t = snake-iff F i v .0 t .0
 
   -- ---- the trace

@@ -2,7 +2,7 @@
 use mathlib.Core.Path.{_≡_}
 use native.Mathlib.Omega.{arith}
 use borrow.Author.Needs.{needs}
-use Rattle.problem.specs.Reduce.{nextOfKind}
+use Rattle.problem.specs.Reduce.{nextOfKindBy}
 use Rattle.search.proofs.next_of_kind.Statement.{statement}
 use Rattle.search.proofs.next_of_kind.Tie as tie
 
@@ -22,23 +22,23 @@ next-substitution-requires : tie.Need-next-substitution-requires
 next-substitution-requires c κs = search needs
 
 returns : tie.Need-returns
-unfolding nextOfKind
+unfolding nextOfKindBy
 returns c = rw (c .before .match .keys1) (c .next-unsupported .ensures)
 
 returns-2 : tie.Need-returns-2
-unfolding nextOfKind
+unfolding nextOfKindBy
 returns-2 c = rw (c .before .match .keys2) (c .next-snake .ensures)
 
 returns-3 : tie.Need-returns-3
-unfolding nextOfKind
+unfolding nextOfKindBy
 returns-3 c = rw (c .before .match .keys3) (c .next-triangle .ensures)
 
 returns-4 : tie.Need-returns-4
-unfolding nextOfKind
+unfolding nextOfKindBy
 returns-4 c = rw (c .before .match .keys4) (c .next-neighbourhood .ensures)
 
 returns-5 : tie.Need-returns-5
-unfolding nextOfKind
+unfolding nextOfKindBy
 returns-5 c = let e : c .before .before .before .args .kind ≡ 5 = omega arith in rw e (c .next-substitution .ensures)
 
 pub next-of-kind-spec : {M : Type 1} → statement M
