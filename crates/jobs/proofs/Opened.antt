@@ -60,6 +60,15 @@ module _ {A : Type 0} (s : List ℕ) (refused : SheetRefusal → A) (over : Prob
   pub sheet-each : (Q : A → Type 0) → ((r : SheetRefusal) → readSheet layout s ≡ read.Refused r → Q (refused r)) → (Keeps layout s → Q (over (problemOf layout s))) → Q (withSheet s refused over)
   sheet-each Q x y = elim (sheet-or s) [ inl (r, e) ↦ subst Q (sym (sheet-refused r e)) (x r e) | inr K ↦ subst Q (sym (sheet-kept K)) (y K) ]
 
+-- the same sheet for two jobs that are refused alike: what holds of both answers, where it is refused and where it is not
+pub sheet-both : {A : Type 0} (s : List ℕ) (refused : SheetRefusal → A) (over other : Problem → A) (Q : A → A → Type 0) → ((r : SheetRefusal) → Q (refused r) (refused r))
+    → (Keeps layout s → Q (over (problemOf layout s)) (other (problemOf layout s))) → Q (withSheet s refused over) (withSheet s refused other)
+sheet-both s refused over other Q x y =
+    elim (sheet-or s) [
+      | inl (r, e) ↦ rw (sheet-refused s refused over r e, sheet-refused s refused other r e) (x r)
+      | inr K ↦ rw (sheet-kept s refused over K, sheet-kept s refused other K) (y K)
+    ]
+
 -- ---- the run
 
 module _ (P : Problem) (b : List ℕ) where

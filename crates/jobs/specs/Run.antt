@@ -8,6 +8,7 @@ use lib.ListN.{length}
 use Rattle.problem.specs.Problem.{Problem, full, sizeSum, slideSpares}
 use Rattle.problem.specs.Reduce.{runBy, afterTrace, endOf}
 use Rattle.problem.specs.Masks.{masksOf, emptyMasks}
+use Rattle.problem.specs.declared.Record.{Record}
 use Rattle.jobs.specs.Trace.{traceBytes, fronted}
 use Rattle.jobs.specs.WithSheet.{withSheet}
 use Rattle.jobs.specs.declared.Reduced.{Reduced}
@@ -25,16 +26,16 @@ abbrev pub runRefused : ReduceRefusal → List ℕ → RunResult
 runRefused r b = record { answer = record { outcome = Refused r; state = emptyMasks }; buffer = b }
 
 -- "The run answers with the end, the number of steps, the bytes written and the last state; the trace buffer holds the trace at its front
--- and its old bytes after that."
-unfoldable pub runDoneBy : (spare : Bool) → Problem → List ℕ → RunResult
-runDoneBy spare P b =
+-- and its old bytes after that." t are its records.
+abbrev pub ranThrough : Problem → (t : List Record) → List ℕ → RunResult
+ranThrough P t b =
     record {
-      answer = record {
-        outcome = Done (endOf P (afterTrace P (full P) (runBy spare P (full P)))) (length (runBy spare P (full P))) (length (traceBytes (runBy spare P (full P))));
-        state = masksOf (afterTrace P (full P) (runBy spare P (full P)));
-      };
-      buffer = fronted (traceBytes (runBy spare P (full P))) b;
+      answer = record { outcome = Done (endOf P (afterTrace P (full P) t)) (length t) (length (traceBytes t)); state = masksOf (afterTrace P (full P) t) };
+      buffer = fronted (traceBytes t) b;
     }
+
+unfoldable pub runDoneBy : (spare : Bool) → Problem → List ℕ → RunResult
+runDoneBy spare P b = ranThrough P (runBy spare P (full P)) b
 
 -- 10: "shorter than 1 + 5 × the sum of the sizes"
 abbrev pub bufferShort : Problem → List ℕ → Bool

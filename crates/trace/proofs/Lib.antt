@@ -6,3 +6,4 @@ pub mod Causes
 pub mod Place
 pub mod Steps
 pub mod Moves
+pub mod Wider
