@@ -14,7 +14,7 @@ use Rattle.problem.specs.Extend.{undoTrace}
 use Rattle.problem.specs.declared.Record.{Record}
 use Rattle.problem.specs.declared.Record.the-variants.{Unsupported, Snake, Triangle, Neighbourhood, SnakeSubstitution}
 use Rattle.problem.proofs.Reflect.{full-fits}
-use Rattle.problem.proofs.Published.{Published, run-published}
+use Rattle.problem.proofs.Published.{Published, holds-published, run-published}
 use Rattle.problem.proofs.Least.{FirstLawful, run-least}
 use Rattle.problem.proofs.Sound.{Solution, Solvable}
 use Rattle.problem.proofs.Trace.{trace-fits, trace-undone, trace-solvable, lawful-iff}
@@ -67,6 +67,8 @@ pub record Worked (P : Problem) (t : List Record) (last : State) (b : List ℕ) 
   -- the end is what the format says of it, and "at the end no rule holds or some item has no setting left"
   pub end : EndSays last (endOf P last)
   pub rest : T (noneEmpty P last) → (r : Record) → T (holds P last r) → ⊥
+  -- no rule of the papers holds there
+  pub settled : T (noneEmpty P last) → (r : Record) → Published P last r → ⊥
   -- "The sheet left has a plan exactly when the full sheet has one"
   pub plan : Solvable P last ↔ Solvable P (full P)
   -- "each plan of what is left is put back into a plan of the full sheet"
@@ -79,6 +81,8 @@ run-worked-over P b l =
     let t = run P (full P) in
     let e = run-accepted-over P b l in
     let h = run-lawful P (full P) in
+    let over : T (noneEmpty P (afterTrace P (full P) t)) → (r : Record) → T (holds P (afterTrace P (full P) t) r) → ⊥
+    = λ n r x. run-complete P (full-fits P) r (lawful-iff P (afterTrace P (full P) t) r .1 (n, x)) in
     record {
       answer = ap (λ (x : RunResult). x .answer) e;
       buffer = ap (λ (x : RunResult). x .buffer) e;
@@ -89,7 +93,8 @@ run-worked-over P b l =
       published = run-published (full-fits P);
       least = run-least (full-fits P);
       end = end-says P (trace-fits P (full-fits P) t);
-      rest = λ n r x. run-complete P (full-fits P) r (lawful-iff P (afterTrace P (full P) t) r .1 (n, x));
+      rest = over;
+      settled = λ n r x. over n r (holds-published (trace-fits P (full-fits P) t) r .1 x);
       plan = trace-solvable P (full-fits P) t h;
       back = λ p A. trace-undone P (full-fits P) t h p A;
     }

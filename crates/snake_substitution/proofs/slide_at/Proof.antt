@@ -1,5 +1,7 @@
 -- `snake_substitution::slide_at`. Assumes nothing.
-use mathlib.Core.Path.{sym, _∙_}
+use mathlib.Core.Path.{sym, ap, _∙_}
+use Prim.Native.Nat.{ℕ}
+use Rattle.cover.specs.Words.{others}
 use Rattle.cover.proofs.Laws.{other-apart, others-out}
 use Rattle.snake_substitution.proofs.Laws.{slide-word}
 use Rattle.held.proofs.Laws.{word-among}
@@ -50,7 +52,8 @@ returns c =
     let a = c .before .before .before .before .before .before .before .before .args in
     let e = sym (c .before .before .before .before .before .before .has32 .ensures) ∙ c .before .before .before .before .before .if1 .taken in
     let d = other-apart (a .rest) (a .active) _ _ (p .3) (p .1 .variable) e in
-    rw e (c .all-served .ensures ∙ (rw (c .before .without32 .ensures, p .3, c .before .before .row2 .ensures, c .before .before .before .row .ensures) (slide-word (p .0) _ _ _ _ (p .1 .variable) (p .4))))
+    let spared = c .before .without32 .ensures ∙ ap (λ (x : ℕ). others x (a .k)) (p .3) in
+    rw e (c .all-served .ensures ∙ (rw (spared, c .before .before .row2 .ensures, c .before .before .before .row .ensures) (slide-word (p .0) _ _ _ _ (p .1 .variable) (p .4))))
 
 returns-2 : tie.Need-returns-2
 returns-2 c = rw (sym (c .before .has32 .ensures) ∙ c .if1 .left)
