@@ -39,7 +39,7 @@ starred = (
                 (
                   (refl, tt),
                   (
-                    (refl, (refl, tt)),
+                    (refl, (refl, (refl, tt))),
                     (
                       (refl, (refl, tt)),
                       (

@@ -152,18 +152,18 @@ sheetH =
 abbrev pub sheetSlide : List ℕ
 sheetSlide = 1 ∷ 0 ∷ 0 ∷ 0 ∷ 16 ∷ 2 ∷ 0 ∷ 1 ∷ 2 ∷ 2 ∷ 0 ∷ 1 ∷ 0 ∷ 3 ∷ 0 ∷ 2 ∷ []
 
--- a slide in a run: items of 3, 2 and 2; by the rulebook of before the run took no step
-abbrev pub sheetSlideTaken : List ℕ
-sheetSlideTaken =
+-- K: items of 3, 2 and 2; the run takes a slide, and by the rulebook of before it took no step
+abbrev pub sheetK : List ℕ
+sheetK =
     1 ∷ 0 ∷ 0 ∷ 0 ∷ 33 ∷ 3 ∷ 0 ∷ 3 ∷ 3 ∷ 2 ∷ 2
     ∷ 0 ∷ 1 ∷ 0 ∷ 1 ∷ 0 ∷ 2 ∷ 0 ∷ 1
     ∷ 0 ∷ 2 ∷ 0 ∷ 2 ∷ 0 ∷ 1 ∷ 0 ∷ 1
     ∷ 1 ∷ 2 ∷ 0 ∷ 2 ∷ 0 ∷ 3
     ∷ []
 
--- a bare step after a slide: items of 3, 3 and 2
-abbrev pub sheetSlideBare : List ℕ
-sheetSlideBare =
+-- L: items of 3, 3 and 2; a bare step follows a slide
+abbrev pub sheetL : List ℕ
+sheetL =
     1 ∷ 0 ∷ 0 ∷ 0 ∷ 35 ∷ 3 ∷ 0 ∷ 3 ∷ 3 ∷ 3 ∷ 2
     ∷ 0 ∷ 1 ∷ 0 ∷ 6 ∷ 0 ∷ 1 ∷ 0 ∷ 4
     ∷ 0 ∷ 2 ∷ 0 ∷ 1 ∷ 0 ∷ 1 ∷ 0 ∷ 3
@@ -235,14 +235,15 @@ rows =
     ∷ record { sheet = sheetH; claims = Runs 36 (1 ∷ 4 ∷ 4 ∷ 0 ∷ 0 ∷ 2 ∷ []) Rest 1 (masks 7 (6 ∷ 3 ∷ 3 ∷ [])) ∷ HasPlan false ∷ [] }
     ∷ record { sheet = sheetSlide; claims = PutBack (1 ∷ 4 ∷ 5 ∷ 0 ∷ 0 ∷ 1 ∷ []) (1 ∷ 1 ∷ []) (1 ∷ 1 ∷ []) ∷ [] }
     ∷ record {
-      sheet = sheetSlideTaken;
+      sheet = sheetK;
       claims =
           Runs 36 (1 ∷ 4 ∷ 5 ∷ 0 ∷ 2 ∷ 0 ∷ 3 ∷ 3 ∷ 1 ∷ 0 ∷ 3 ∷ 2 ∷ 0 ∷ 0 ∷ 3 ∷ 2 ∷ 2 ∷ 0 ∷ []) Solved 4 (masks 0 [])
           ∷ RanBefore 36 (1 ∷ [])
+          ∷ PutBack (1 ∷ 4 ∷ 5 ∷ 0 ∷ 2 ∷ 0 ∷ 3 ∷ 3 ∷ 1 ∷ 0 ∷ 3 ∷ 2 ∷ 0 ∷ 0 ∷ 3 ∷ 2 ∷ 2 ∷ 0 ∷ []) (255 ∷ 255 ∷ 255 ∷ []) (0 ∷ 0 ∷ 1 ∷ [])
           ∷ [];
     }
     ∷ record {
-      sheet = sheetSlideBare;
+      sheet = sheetL;
       claims =
           Runs 41 (1 ∷ 4 ∷ 5 ∷ 0 ∷ 1 ∷ 0 ∷ 4 ∷ 1 ∷ 1 ∷ 0 ∷ 0 ∷ []) Rest 2 (masks 7 (5 ∷ 6 ∷ 3 ∷ []))
           ∷ RanBefore 41 (1 ∷ [])

@@ -30,7 +30,7 @@ samples = (
                 (
                   (refl, (refl, (refl, tt))),
                   (
-                    ((refl, refl), (refl, tt)),
+                    ((refl, refl), (refl, (refl, tt))),
                     (
                       ((refl, refl), (refl, (refl, tt))),
                       (

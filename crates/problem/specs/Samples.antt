@@ -191,11 +191,15 @@ rows =
       claims = Follows (SnakeSubstitution 0 0 1 ∷ []) true ∷ FollowedBefore (SnakeSubstitution 0 0 1 ∷ []) true
           ∷ Undone (SnakeSubstitution 0 0 1 ∷ []) (1 ∷ 1 ∷ []) (1 ∷ 1 ∷ []) ∷ [];
     }
-    -- a slide in a run, which by the rule of before took no step; and another, after which a setting is bare
+    -- K: a slide in a run, which by the rule of before took no step
     ∷ record {
       sheet = problem (3 ∷ 2 ∷ 2 ∷ []) (words (1 ∷ 2 ∷ 1 ∷ []) (2 ∷ 1 ∷ 1 ∷ []) (2 ∷ 3 ∷ []));
-      claims = Runs (SnakeSubstitution 0 2 0 ∷ Triangle 1 0 ∷ Snake 0 0 ∷ Snake 2 0 ∷ []) Solved ∷ RanBefore [] ∷ [];
+      claims =
+          Runs (SnakeSubstitution 0 2 0 ∷ Triangle 1 0 ∷ Snake 0 0 ∷ Snake 2 0 ∷ []) Solved ∷ RanBefore []
+          ∷ Undone (SnakeSubstitution 0 2 0 ∷ Triangle 1 0 ∷ Snake 0 0 ∷ Snake 2 0 ∷ []) (255 ∷ 255 ∷ 255 ∷ []) (0 ∷ 0 ∷ 1 ∷ [])
+          ∷ [];
     }
+    -- L: a bare step after a slide
     ∷ record {
       sheet = problem (3 ∷ 3 ∷ 2 ∷ []) (words (6 ∷ 1 ∷ 4 ∷ []) (1 ∷ 1 ∷ 3 ∷ []) (1 ∷ 3 ∷ 2 ∷ []));
       claims =
