@@ -20,7 +20,7 @@ use Rattle.problem.specs.declared.Next.the-variants.{Step, Nothing}
 use Rattle.problem.specs.declared.End.{End}
 use Rattle.problem.specs.declared.End.the-variants.{Impossible, Solved, Rest}
 use Rattle.problem.proofs.Reflect.{Active, Live, Fits, allActive-or, anyLive-iff, noneEmpty-iff, unsupported-iff, snake-iff, triangle-iff, neighbourhood-iff, snakeSubstitution-iff}
-use Rattle.problem.proofs.Trace.{after-fits, trace-fits, step-by-falls, step-falls, lawful-by-iff, lawful-iff, trace-iff, trace-short}
+use Rattle.problem.proofs.Trace.{after-fits, trace-fits, step-by-falls, step-falls, lawful-by-iff, trace-iff, trace-short}
 
 -- ---- searching
 
