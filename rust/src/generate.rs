@@ -233,6 +233,13 @@ pub fn small_draft(random: &mut Random) -> Draft {
     fill(random, sizes, network)
 }
 
+/// A sheet whose run often takes a slide: 4 to 6 items of 4 settings, every two items linked, and 20 to 40 of 100 pairs of settings barred.
+pub fn sliding_draft(random: &mut Random) -> Draft {
+    let n = random.between(4, 6);
+    let barred = random.between(20, 40);
+    Draft::new(vec![4; n], |_, _, _, _| !random.chance(barred))
+}
+
 /// Bytes that may not be a sheet at all, or are a sheet with faults.
 pub fn damaged_sheet(random: &mut Random) -> Vec<u8> {
     match random.below(20) {
