@@ -235,9 +235,13 @@ pub fn small_draft(random: &mut Random) -> Draft {
 
 /// A sheet whose run often takes a slide: 4 to 6 items of 4 settings, every two items linked, and 20 to 40 of 100 pairs of settings barred.
 pub fn sliding_draft(random: &mut Random) -> Draft {
-    let n = random.between(4, 6);
-    let barred = random.between(20, 40);
-    Draft::new(vec![4; n], |_, _, _, _| !random.chance(barred))
+    let (n, barred) = (random.between(4, 6), random.between(20, 40));
+    linked_draft(random, n, 4, barred)
+}
+
+/// A sheet of n items of one size, every two of them linked, and so many of 100 pairs of settings barred.
+pub fn linked_draft(random: &mut Random, n: usize, size: u8, barred: usize) -> Draft {
+    Draft::new(vec![size; n], |_, _, _, _| !random.chance(barred))
 }
 
 /// Bytes that may not be a sheet at all, or are a sheet with faults.

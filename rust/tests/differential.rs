@@ -683,7 +683,10 @@ fn accepted_sheet(comparison: &mut Comparison, random: &mut Random, sheet: &[u8]
         comparison.counts.long_runs += u64::from(steps.len() > 255);
         steps.iter().for_each(|(_, step)| comparison.counts.run_steps[step.kind()] += 1);
         comparison.count_slides(sheet, problem);
-        comparison.compare_before(problem, &steps);
+        // The reference takes long for the largest sheets: every fourth of them.
+        if sheet.len() < MAX_SHEET / 4 || comparison.case % 4 == 0 {
+            comparison.compare_before(problem, &steps);
+        }
     }
     if random.chance(50) {
         comparison.run(sheet, exact + random.between(1, 40), STATE_LENGTH);
