@@ -4,6 +4,8 @@
 //! Two facts save most of the work, and neither changes the trace. A state only ever shrinks, so a value that covers another at an item
 //! covers it there for good: for each two values one mark, the lowest item at which the one may fail to cover the other, only moves up
 //! (`Reduction::gap`). And a rule that failed rests on a few items only: it is not tested again before one of them changes (`Failed`).
+//! Slides are looked for last, and all those of one item together, as words (`Reduction::slides_from`): a run that comes to rest has to
+//! test every one.
 
 use zomuwedli::{Accepted, End, Refusal, Taken, Unlawful, Written};
 use zomuwedli::{HAND_STATE_LENGTH, MAX_FILE, MAX_ITEMS, MAX_SETTINGS, NOT_NAMED, OUT, STATE_LENGTH};
@@ -379,7 +381,7 @@ struct Reduction {
     snakes: Failed<MAX_SETTINGS>,
     triangles: Failed<MAX_ITEMS>,
     neighbourhoods: Failed<MAX_SETTINGS>,
-    /// By variable alone.
+    /// By variable alone: all slides of an item fail together.
     slides: Failed<1>,
 }
 
@@ -547,6 +549,8 @@ impl Reduction {
         None
     }
 
+    /// Asked only where `next_neighbourhood` has just found nothing, which `slides_from` relies on. Not inlined, so that the search for the
+    /// other kinds is compiled as without it.
     #[inline(never)]
     fn next_slide(&mut self, table: &Table) -> Option<Step> {
         self.slides.wake(self.state.items);
@@ -563,8 +567,11 @@ impl Reduction {
         None
     }
 
-    /// For each value b of i the values a that it can slide to, and the items that it rests on that there are no more. Each value d of another
-    /// item is looked at once, for all b and a.
+    /// For each value b of i the values a that it can slide to, and the items that it rests on that there are no more. Each value d of
+    /// another item is looked at once, for all b and a.
+    ///
+    /// No cover holds, so each mark is the lowest item at which the one value fails to cover the other, and what it rests on that none covers
+    /// d has been noted. An e that covers d at every item but i and k fails at i alone: its mark is i. Most d have no such e.
     fn slides_from(&self, table: &Table, i: usize) -> ([u16; MAX_SETTINGS], u32) {
         let live = self.state.settings[i];
         let mut slides = BITS.map(|b| if live & b == 0 { 0 } else { live & !b });
@@ -572,13 +579,12 @@ impl Reduction {
         for k in members(self.state.items & table.neighbours[i]) {
             for d in values(self.state.settings[k]) {
                 let with_d = table.rows[k][d][i];
-                // What d asks of a slide of b: nothing where d is barred with b, and else a goal. Where a is allowed with d, d serves itself.
+                // What d asks of a slide of b: nothing where d is barred with b, else one of these goals. Where a is allowed with d, d serves.
                 let asks = |goals: u16| BITS.map(|b| if with_d & b == 0 { u16::MAX } else { goals });
                 let served = asks(with_d);
                 if slides.iter().zip(served).fold(0, |lost, (set, served)| lost | set & !served) == 0 {
                     continue;
                 }
-                // An e that covers d at every item but i and k fails at i first: its mark is i.
                 let may_move = self.marks[k][d].iter().fold(false, |any, &mark| any | (usize::from(mark) == i));
                 let (goals, fails_at) =
                     if may_move { self.slide_goals(table, i, k, d) } else { (with_d, self.neighbourhoods.rests_on[k][d] | 1 << k) };
@@ -592,8 +598,9 @@ impl Reduction {
         (slides, rests_on)
     }
 
-    /// The values of i that are allowed with d, or with a value e of k that covers d at every item other than i and k; and the items that it
-    /// rests on that there are no more. All e are looked at together: those that cover d at l are allowed with each value there that d is.
+    /// The values of i that are allowed with d, or with a value e of k that covers d at every item other than i and k; and the items that
+    /// it rests on that there are no more. All e are looked at together: those that cover d at l are allowed with each value there that d is
+    /// allowed with.
     fn slide_goals(&self, table: &Table, i: usize, k: usize, d: usize) -> (u16, u32) {
         let mut serving = self.state.settings[k];
         let mut rests_on = 1 << k;
