@@ -239,6 +239,16 @@ pub fn sliding_draft(random: &mut Random) -> Draft {
     linked_draft(random, n, 4, barred)
 }
 
+/// A sheet whose run mostly takes slides, often several: 3 items of 6 to 16 settings, or 2 to 8 groups of 4 of 4, up to 32 items.
+pub fn large_sliding_draft(random: &mut Random) -> Draft {
+    if random.chance(90) {
+        let (size, barred) = (random.between(6, MAX_SETTINGS) as u8, random.between(30, 80));
+        return linked_draft(random, 3, size, barred);
+    }
+    let n = 4 * random.between(2, 8);
+    Draft::new(vec![4; n], |i, _, j, _| i / 4 != j / 4 || !random.chance(35))
+}
+
 /// A sheet of n items of one size, every two of them linked, and so many of 100 pairs of settings barred.
 pub fn linked_draft(random: &mut Random, n: usize, size: u8, barred: usize) -> Draft {
     Draft::new(vec![size; n], |_, _, _, _| !random.chance(barred))

@@ -20,6 +20,7 @@ const SEED: u64 = 20_260_917;
 /// How many cases each part has; a case of sheets compares about six calls, one of the others about as many.
 const SHEETS: u64 = 104_000;
 const SLIDING_SHEETS: u64 = 15_000;
+const LARGE_SLIDING_SHEETS: u64 = 1_000;
 const LARGE_SHEETS: u64 = 200;
 const HAND_LISTS: u64 = 14_000;
 const TRACES: u64 = 12_000;
@@ -83,6 +84,7 @@ fn main() {
     comparison.part("unlawful records far on", LONG_TRACES / divisor, far_unlawful_case);
     comparison.part("sheets", SHEETS / divisor, sheet_case);
     comparison.part("sheets whose runs slide", SLIDING_SHEETS / divisor, sliding_case);
+    comparison.part("larger ones", LARGE_SLIDING_SHEETS / divisor, large_sliding_case);
     comparison.part("large sheets", LARGE_SHEETS / divisor, large_case);
     comparison.part("large sheets put back", LARGE_SHEETS / 4 / divisor, large_trace_case);
     comparison.part("colouring files", FILES / divisor, colouring_case);
@@ -118,8 +120,9 @@ struct Counts {
     run_steps: [u64; 6],
     /// Runs whose number of steps is more than a byte holds.
     long_runs: u64,
-    /// Runs with a slide, and those in which a bare step follows one, by the trace that the fast implementation wrote.
+    /// Runs with a slide, with several, and those in which a bare step follows one, by the trace that the fast implementation wrote.
     sliding_runs: u64,
+    sliding_on: u64,
     bare_after_slide: u64,
     /// Runs that were compared with those by the slide rule of before, and those that go on where these end.
     runs_of_before: u64,
@@ -199,7 +202,10 @@ impl Counts {
         let ends = [End::Impossible, End::Solved, End::Rest].map(|end| format!("{end:?} {}", self.ends.get(&(end as u8)).unwrap_or(&0)));
         println!("ends of runs: {}", ends.join(", "));
         println!("steps of runs: {}; runs of more than 255: {}", by_kind(&self.run_steps), self.long_runs);
-        println!("runs with a slide: {}; in which a bare step follows one: {}", self.sliding_runs, self.bare_after_slide);
+        println!(
+            "runs with a slide: {}; with several: {}; in which a bare step follows one: {}",
+            self.sliding_runs, self.sliding_on, self.bare_after_slide
+        );
         println!(
             "runs that begin as by the slide rule of before: {}, {} of these going on, with a slide that it does not allow",
             self.runs_of_before, self.longer_than_before
@@ -248,6 +254,7 @@ impl Counts {
             ("sheets".to_string(), self.sheets, LEAST_SHEETS),
             ("runs of more than 255 steps".to_string(), self.long_runs, LEAST_LONG),
             ("runs with a slide".to_string(), self.sliding_runs, LEAST_SLIDING),
+            ("runs with several slides".to_string(), self.sliding_on, LEAST_OF_EACH_CAUSE),
             ("runs in which a bare step follows a slide".to_string(), self.bare_after_slide, LEAST_BARE_AFTER),
             ("runs compared with those of before".to_string(), self.runs_of_before, LEAST_SHEETS / 2),
             ("runs that are longer than before".to_string(), self.longer_than_before, LEAST_SLIDING),
@@ -493,9 +500,12 @@ impl Comparison {
         self.counts.bars_everything += u64::from(blocks > 0 && sheet[8] == 1);
     }
 
-    /// Counts why a record was refused with 17; only a cover that breaks may name something, and it must.
+    /// Counts why a record was refused with 17; only a cover that breaks may name something, and it must. The slide rule of before allows
+    /// none that is refused.
     fn count_unlawful(&mut self, problem: &Problem, trace: &[u8], unlawful: Unlawful) {
         let (state, step) = state_at(problem, trace, unlawful.record);
+        let was_lawful = step.kind() == 5 && !state.emptied() && problem.of_before().lawful(&state, step);
+        assert!(!was_lawful, "a slide that was lawful before is refused");
         let cause = cause_of(problem, &state, step, usize::from(unlawful.item));
         let named = NAMES.contains(&cause);
         assert_eq!(unlawful.spoiler().is_some(), named, "{unlawful:?} for: {cause}");
@@ -512,7 +522,9 @@ impl Comparison {
         let Done { written, .. } = self.fast.run(sheet, &mut trace, &mut state).expect("the sheet was accepted");
         let steps = reference::steps_of(&trace[..written]).expect("a run's trace has whole records");
         let kinds: Vec<usize> = steps.iter().map(|step| step.kind()).collect();
-        self.counts.sliding_runs += u64::from(kinds.contains(&5));
+        let slides = kinds.iter().filter(|&&kind| kind == 5).count();
+        self.counts.sliding_runs += u64::from(slides > 0);
+        self.counts.sliding_on += u64::from(slides > 1);
         self.counts.bare_after_slide += u64::from(kinds.windows(2).any(|two| two == [5, 1]));
     }
 
@@ -644,9 +656,18 @@ fn sheet_case(comparison: &mut Comparison, random: &mut Random) {
 /// The same on a sheet whose run often takes a slide. Every fourth time its run's own trace and others are put back.
 fn sliding_case(comparison: &mut Comparison, random: &mut Random) {
     let sheet = generate::sliding_draft(random).bytes();
-    every_job(comparison, random, &sheet);
+    sliding_calls(comparison, random, &sheet);
+}
+
+fn large_sliding_case(comparison: &mut Comparison, random: &mut Random) {
+    let sheet = generate::large_sliding_draft(random).bytes();
+    sliding_calls(comparison, random, &sheet);
+}
+
+fn sliding_calls(comparison: &mut Comparison, random: &mut Random, sheet: &[u8]) {
+    every_job(comparison, random, sheet);
     if random.chance(25) {
-        put_back_calls(comparison, random, &sheet);
+        put_back_calls(comparison, random, sheet);
     }
 }
 

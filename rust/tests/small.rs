@@ -102,6 +102,9 @@ struct Counts {
     sliding_solvable: u64,
     sliding_unsolvable: u64,
     sliding_plans: u64,
+    /// Slides that are lawful in some state of a run, and by the rule of before.
+    lawful_slides: u64,
+    lawful_slides_before: u64,
     lent_traces: u64,
     searched_sheets: u64,
     all_traces: u64,
@@ -132,6 +135,10 @@ impl Counts {
         println!(
             "sheets left by these: {} with a plan, {} without; plans put back: {}",
             self.sliding_solvable, self.sliding_unsolvable, self.sliding_plans
+        );
+        println!(
+            "slides that are lawful in a state of some run: {}, {} of them by the rule of before, and then a cover is lawful too",
+            self.lawful_slides, self.lawful_slides_before
         );
         println!(
             "other lawful traces: {} random, and {} that are all there are of {} sheets of two items up to 2 settings",
@@ -167,6 +174,8 @@ impl Counts {
             ("sheets left after a slide with a plan", self.sliding_solvable, 390),
             ("sheets left after a slide without", self.sliding_unsolvable, 15),
             ("plans put back after a slide", self.sliding_plans, 1_000),
+            ("lawful slides", self.lawful_slides, 46_000),
+            ("lawful slides by the rule of before", self.lawful_slides_before, 37_000),
             ("random traces", self.lent_traces, SHEETS * LAWFUL_TRACES as u64),
             ("sheets of which all traces were gone through", self.searched_sheets, SMALLEST_SHEETS as u64),
             ("all traces of a sheet", self.all_traces, 2_500),
@@ -196,6 +205,8 @@ impl Counts {
 struct Case<'a> {
     sheet: &'a [u8],
     problem: Problem,
+    /// The same by the slide rule of before.
+    before: Problem,
     plans: Vec<Vec<u8>>,
 }
 
@@ -228,7 +239,7 @@ impl Case<'_> {
         let (problem, _) = reference::read_sheet(sheet).expect("the sheet keeps the layout");
         let mut plans = assignments(&problem, &State::full(&problem));
         plans.retain(|plan| allowed(&problem, plan));
-        Case { sheet, problem, plans }
+        Case { sheet, before: problem.of_before(), problem, plans }
     }
 
     fn fault(&self, what: &str, trace: &[u8]) -> ! {
@@ -269,6 +280,8 @@ impl Case<'_> {
         self.demand(last.emptied() == (end == End::Impossible), "the end impossible is wrong", trace);
         self.demand(last.active().is_empty() == (end == End::Solved), "the end solved is wrong", trace);
         self.demand(last.emptied() || self.no_rule_holds(&last), "a rule still holds", trace);
+        let states = replayed.iter().map(|(before, _)| before).chain([&last]);
+        states.for_each(|state| self.slides_of_before(state, trace, counts));
         counts.runs += 1;
         counts.steps += steps as u64;
         let left_before = (counts.solvable, counts.unsolvable, counts.plans_put_back);
@@ -283,6 +296,17 @@ impl Case<'_> {
             counts.sliding_unsolvable += counts.unsolvable - left_before.1;
             counts.sliding_plans += counts.plans_put_back - left_before.2;
         }
+    }
+
+    /// Where the slide rule of before holds, that of now holds, and somewhere a cover.
+    fn slides_of_before(&self, state: &State, trace: &[u8], counts: &mut Counts) {
+        let lawful = |problem: &Problem, kind: usize| problem.candidates(state, kind).filter(|&step| problem.lawful(state, step)).collect();
+        let [slides, covers]: [Vec<Step>; 2] = [5, 4].map(|kind| lawful(&self.problem, kind));
+        let slides_before: Vec<Step> = lawful(&self.before, 5);
+        self.demand(slides_before.iter().all(|slide| slides.contains(slide)), "a slide that was lawful before is not", trace);
+        self.demand(slides_before.is_empty() || !covers.is_empty(), "a slide was lawful before and no cover is", trace);
+        counts.lawful_slides += slides.len() as u64;
+        counts.lawful_slides_before += slides_before.len() as u64;
     }
 
     fn no_rule_holds(&self, state: &State) -> bool {
