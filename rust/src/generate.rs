@@ -239,14 +239,25 @@ pub fn sliding_draft(random: &mut Random) -> Draft {
     linked_draft(random, n, 4, barred)
 }
 
-/// A sheet whose run mostly takes slides, often several: 3 items of 6 to 16 settings, or 2 to 8 groups of 4 of 4, up to 32 items.
+/// A larger sheet whose run often takes slides, mostly several: 3 items of 6 to 16 settings; 9 to 16 items of 5 to 8, a few of the pairs
+/// linked; or 2 to 8 groups of 4 items of 4.
 pub fn large_sliding_draft(random: &mut Random) -> Draft {
-    if random.chance(90) {
-        let (size, barred) = (random.between(6, MAX_SETTINGS) as u8, random.between(30, 80));
-        return linked_draft(random, 3, size, barred);
+    match random.below(10) {
+        0..=3 => {
+            let (size, barred) = (random.between(6, MAX_SETTINGS) as u8, random.between(30, 80));
+            linked_draft(random, 3, size, barred)
+        }
+        4..=8 => {
+            let (n, size) = (random.between(9, 16), random.between(5, 8) as u8);
+            let (percent, barred) = (random.between(20, 35), random.between(20, 45));
+            let linked: Vec<bool> = (0..n * n).map(|_| random.chance(percent)).collect();
+            Draft::new(vec![size; n], |i, _, j, _| !linked[i * n + j] || !random.chance(barred))
+        }
+        _ => {
+            let n = 4 * random.between(2, 8);
+            Draft::new(vec![4; n], |i, _, j, _| i / 4 != j / 4 || !random.chance(35))
+        }
     }
-    let n = 4 * random.between(2, 8);
-    Draft::new(vec![4; n], |i, _, j, _| i / 4 != j / 4 || !random.chance(35))
 }
 
 /// A sheet of n items of one size, every two of them linked, and so many of 100 pairs of settings barred.

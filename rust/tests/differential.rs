@@ -20,7 +20,7 @@ const SEED: u64 = 20_260_917;
 /// How many cases each part has; a case of sheets compares about six calls, one of the others about as many.
 const SHEETS: u64 = 104_000;
 const SLIDING_SHEETS: u64 = 15_000;
-const LARGE_SLIDING_SHEETS: u64 = 1_000;
+const LARGE_SLIDING_SHEETS: u64 = 2_000;
 const LARGE_SHEETS: u64 = 200;
 const HAND_LISTS: u64 = 14_000;
 const TRACES: u64 = 12_000;
