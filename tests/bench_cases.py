@@ -87,6 +87,8 @@ bench = {
     "F": sheet([3] * 3, [(0, 1, [6, 5, 3]), (0, 2, [6, 5, 3]), (1, 2, [1, 3, 7])]),
     "G": sheet([2] * 4, [(0, 1, NE2), (0, 2, NE2), (0, 3, [1, 2]), (1, 2, NE2)]),
     "H": sheet([3, 2, 2], [(0, 1, [2, 1, 2]), (0, 2, [2, 1, 2]), (1, 2, NE2)]),
+    "K": sheet([3, 2, 2], [(0, 1, [1, 2, 1]), (0, 2, [2, 1, 1]), (1, 2, [2, 3])]),
+    "L": sheet([3, 3, 2], [(0, 1, [6, 1, 4]), (0, 2, [1, 1, 3]), (1, 2, [1, 3, 2])]),
 }
 for name, s in bench.items():
     reading(f"sheet {name}", s, (s[5], int.from_bytes(s[6:8], "big")))
@@ -247,7 +249,8 @@ def inside(P, st, i, *values):
     return i in st[0] and all(v in st[1][i] for v in values)
 
 
-def holds(P, st, r):
+def holds(P, st, r, spares=True):
+    """Whether the rule of the record holds. The slide rule spares i; that of before, which no job has, does not."""
     kind, i = r[0], r[1]
     if kind == 1:
         b, k = r[2], r[3]
@@ -263,7 +266,7 @@ def holds(P, st, r):
         return False
     if kind == 4:
         return breach(P, st, i, a, i, b, i) is None
-    return all(any(P.ok(i, a, k, e) and breach(P, st, k, e, k, d, k) is None for e in st[1][k])
+    return all(any(P.ok(i, a, k, e) and breach(P, st, k, e, k, d, i if spares else k, k) is None for e in st[1][k])
                for k in others(st, i) for d in st[1][k] if P.ok(i, b, k, d))
 
 
@@ -298,10 +301,10 @@ def candidates(P):
     yield from ((5, i, b, a) for i in n for b in range(z[i]) for a in range(z[i]))
 
 
-def run(P):
+def run(P, spares=True):
     st, trace = P.full(), []
     while not empty(st):
-        r = next((r for r in candidates(P) if holds(P, st, r)), None)
+        r = next((r for r in candidates(P) if holds(P, st, r, spares)), None)
         if r is None:
             break
         trace.append(r)
@@ -418,6 +421,7 @@ def put_back_job(s, trace, plan, out):
 RUNS = {  # the traces that docs/FORMAT.md gives under "Bench sheets", byte for byte
     "A": "0103020000", "B": "010302000003020100", "C": "01", "D": "010401000001",
     "F": "0103020001" "03020100" "03020200", "G": "0103030300", "H": "010404000002",
+    "K": "010405000200" "03030100" "03020000" "03020200", "L": "010405000100" "0401010000",
 }
 
 
@@ -437,6 +441,10 @@ running("run with no buffer", B, 0)
 running("run of a refused sheet with no buffer", B[:7], 0)
 running("run of a refused sheet", sheet([2, 2], [(0, 1, [4, 1])]), 40)
 
+# by the slide rule of before K and L have no step
+for name in "KL":
+    assert run(Problem(bench[name]), spares=False)[0] == [], name
+
 rng = random.Random(20260917)
 
 
@@ -454,6 +462,34 @@ def random_sheet(n, z, share, bar):
 for k in range(40):
     s = random_sheet(rng.randint(2, 5), 4, 0.8, rng.choice([0.2, 0.4, 0.6]))
     running(f"random run {k}", s, 1 + 5 * sum(s[8:8 + s[5]]) + rng.randint(0, 3))
+
+
+def linked_sheet(rng, n, bar):
+    """A sheet of n items of 4 settings with a block for each pair, but where nothing is barred."""
+    blocks = [(i, j, [sum(1 << c for c in range(4) if rng.random() >= bar) for _ in range(4)]) for i in range(n) for j in range(i + 1, n)]
+    return sheet([4] * n, [b for b in blocks if b[2] != [15] * 4])
+
+
+# Runs with slides: 16 of them, and 8 in which a bare step follows one. Each begins as by the slide rule of before, which took no slide, and
+# goes on with one that this rule does not allow.
+slide_rng = random.Random(20261204)
+sliding = []
+wanted = {False: 16, True: 8}
+while any(wanted.values()):
+    s = linked_sheet(slide_rng, *slide_rng.choice([(3, 0.5), (4, 0.4)]))
+    P = Problem(s)
+    trace = run(P)[0]
+    kinds = [r[0] for r in trace]
+    bare_after = (5, 1) in zip(kinds, kinds[1:])
+    if 5 not in kinds or not wanted[bare_after]:
+        continue
+    wanted[bare_after] -= 1
+    trace_before, reached, _ = run(P, spares=False)
+    first = trace[len(trace_before)]
+    assert trace[:len(trace_before)] == trace_before and 5 not in [r[0] for r in trace_before]
+    assert first[0] == 5 and holds(P, reached, first) and not holds(P, reached, first, spares=False)
+    running(f"a run with slides {len(sliding)}" + ", a bare step after one" * bare_after, s, 1 + 5 * sum(P.sizes))
+    sliding.append(s)
 
 
 # ---- taking out by hand
@@ -548,8 +584,15 @@ back("J", C, b"\1", X("000100"), expected="refused 19")
 back("a removal elsewhere", lone, X("0103020000"), X("ff01"), expected="refused 19")
 back("a setting that stayed", lone, X("0103020000"), X("ff00"), expected="done 0000")
 slide = sheet([2, 2], [(0, 1, [3, 2])])
-back("a lawful slide", slide, X("010405000001"), X("0101"), expected="done 0101")
-back("an unlawful slide", B, X("010405000001"), X("0101"), expected="refused 17")
+assert holds(Problem(slide), Problem(slide).full(), (5, 0, 0, 1), spares=False)
+back("a slide that the rule of before allows too", slide, X("010405000001"), X("0101"), expected="done 0101")
+back("a slide that it does not allow", B, X("010405000001"), X("0100"), expected="done 0100")
+back("a slide that it does not allow, and a barred pair", B, X("010405000001"), X("0101"), expected="refused 19")
+back("a slide that it does not allow, and the setting that went off", B, X("010405000001"), X("0001"), expected="refused 19")
+back("a slide that neither allows", C, X("010405000001"), X("010101"), expected="refused 17 0 255 255")
+back("K", bench["K"], own(bench["K"]), X("ffffff"), expected="done 000001")
+back("L", bench["L"], own(bench["L"]), X("000100"), expected="done 000100")
+back("L, with the setting that was bare after the slide", bench["L"], own(bench["L"]), X("000000"), expected="refused 19")
 choice = sheet([3, 3], [(0, 1, [6, 5, 3])])
 back("the lowest w'", choice, X("0103020000"), X("ff00"), expected="done 0001")
 back("the lowest u", choice, X("0103030001"), X("ff00"), expected="done 0100")
@@ -685,6 +728,13 @@ for k in range(60):
     for p in rng.sample(plans, min(2, len(plans))):
         back(f"random {k}, a plan of what is left", s, trace_bytes(trace), bytes(p), expected="done")
     back(f"random {k}, any bytes", s, trace_bytes(trace), bytes(rng.randint(0, 3) for _ in range(P.n)))
+for k, s in enumerate(sliding):
+    P = Problem(s)
+    trace, st, _ = run(P)
+    choices = itertools.product(*(sorted(st[1][i]) if i in st[0] else [255] for i in range(P.n)))
+    left = next((x for x in choices if all(P.ok(i, x[i], j, x[j]) for i in st[0] for j in st[0] if i < j)), None)
+    assert left is not None
+    back(f"the run with slides {k}, a plan of what is left", s, trace_bytes(trace), bytes(left), expected="done")
 rng = random.Random(20261117)
 for k in range(120):
     s = random_sheet(rng.randint(3, 6), 4, 0.8, rng.choice([0.2, 0.4]))

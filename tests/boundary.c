@@ -51,6 +51,10 @@ static const uint8_t sheet_c[] = {1, 0, 0, 0, 29, 3, 0, 3, 2, 2, 2, 0, 1, 0, 2, 
 /* D: two items of 1, the pair barred. */
 static const uint8_t sheet_d[] = {1, 0, 0, 0, 14, 2, 0, 1, 1, 1, 0, 1, 0, 0};
 
+/* K: three items of 3, 2 and 2, whose run begins with a slide; and the trace of that. */
+static const uint8_t sheet_k[] = {1, 0, 0, 0, 33, 3, 0, 3, 3, 2, 2, 0, 1, 0, 1, 0, 2, 0, 1, 0, 2, 0, 2, 0, 1, 0, 1, 1, 2, 0, 2, 0, 3};
+static const uint8_t trace_k[] = {1, 4, 5, 0, 2, 0, 3, 3, 1, 0, 3, 2, 0, 0, 3, 2, 2, 0};
+
 static const uint8_t trace_b[] = {1, 3, 2, 0, 0, 3, 2, 1, 0};
 
 /* The read check of sheet B with one byte changed. */
@@ -161,6 +165,32 @@ static void put_back(void)
     free(result);
 }
 
+/* A run that takes a slide, and what is put back; slides that others wrote, with a plan, and with a pair that is barred. */
+static void slides(void)
+{
+    const uint8_t slide[] = {1, 4, ZOMUWEDLI_SLIDE, 0, 0, 1}, out[] = {ZOMUWEDLI_OUT, ZOMUWEDLI_OUT, ZOMUWEDLI_OUT};
+    const uint8_t plan[] = {1, 0}, barred[] = {1, 1};
+    uint8_t *trace = lent(36), *state = lent(ZOMUWEDLI_STATE_LENGTH), *result = lent(3), *pair = lent(2);
+    struct zomuwedli_record record;
+    size_t at = ZOMUWEDLI_TRACE_FIRST;
+    uint64_t answer = zomuwedli_run(sheet_k, sizeof sheet_k, trace, 36, state, ZOMUWEDLI_STATE_LENGTH);
+    EXPECT(zomuwedli_number(answer) == ZOMUWEDLI_DONE && zomuwedli_end(answer) == ZOMUWEDLI_SOLVED);
+    EXPECT(zomuwedli_steps(answer) == 4 && zomuwedli_written(answer) == sizeof trace_k);
+    EXPECT(memcmp(trace, trace_k, sizeof trace_k) == 0);
+    EXPECT(zomuwedli_next_record(trace, zomuwedli_written(answer), &at, &record) == 1);
+    EXPECT(record.kind == ZOMUWEDLI_SLIDE && record.item == 0 && record.third == 2 && record.fourth == 0);
+    EXPECT(zomuwedli_put_back(sheet_k, sizeof sheet_k, trace_k, sizeof trace_k, out, 3, result, 3) == 0);
+    EXPECT(result[0] == 0 && result[1] == 0 && result[2] == 1);
+    EXPECT(zomuwedli_put_back(sheet_b, sizeof sheet_b, slide, sizeof slide, barred, 2, pair, 2) == ZOMUWEDLI_REFUSED_PLAN_UNFIT);
+    EXPECT(as_lent(pair, 2));
+    EXPECT(zomuwedli_put_back(sheet_b, sizeof sheet_b, slide, sizeof slide, plan, 2, pair, 2) == 0);
+    EXPECT(pair[0] == 1 && pair[1] == 0);
+    free(trace);
+    free(state);
+    free(result);
+    free(pair);
+}
+
 /* Putting back with 17 and these three numbers, and nothing beside them; no byte of the result is changed. The trace is a copy of exactly so
  * many bytes on the heap, so that memcheck sees a byte beyond it. */
 static void unlawful(const uint8_t *sheet, size_t sheet_length, const uint8_t *bytes, size_t length, unsigned record, unsigned item,
@@ -195,7 +225,7 @@ static void unlawful_records(void)
     unlawful(sheet_cover, sizeof sheet_cover, exchanged, sizeof exchanged, 0, 1, 1);
     unlawful(sheet_cover, sizeof sheet_cover, itself, sizeof itself, 1, ZOMUWEDLI_NOT_NAMED, ZOMUWEDLI_NOT_NAMED);
     unlawful(sheet_cover, sizeof sheet_cover, out, sizeof out, 1, ZOMUWEDLI_NOT_NAMED, ZOMUWEDLI_NOT_NAMED);
-    unlawful(sheet_b, sizeof sheet_b, slide, sizeof slide, 0, ZOMUWEDLI_NOT_NAMED, ZOMUWEDLI_NOT_NAMED);
+    unlawful(sheet_c, sizeof sheet_c, slide, sizeof slide, 0, ZOMUWEDLI_NOT_NAMED, ZOMUWEDLI_NOT_NAMED);
     EXPECT(zomuwedli_put_back(sheet_cover, sizeof sheet_cover, spoiled, sizeof spoiled, plan, 3, result, 3) == UINT64_C(0x0000000302000111));
     EXPECT(zomuwedli_put_back(sheet_cover, sizeof sheet_cover, mended, sizeof mended, plan, 3, result, 3) == 0);
     EXPECT(result[0] == 1 && result[1] == 0 && result[2] == 2);
@@ -473,6 +503,7 @@ int main(void)
     hand_state_refused(ZOMUWEDLI_HAND_STATE_LENGTH - 1);
     hand_state_refused(ZOMUWEDLI_HAND_STATE_LENGTH + 1);
     put_back();
+    slides();
     unlawful_records();
     unlawful_far_on();
     longest_trace();

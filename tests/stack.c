@@ -12,7 +12,8 @@
 /* A call that used less than LEAST bytes was not made. */
 enum { STACK = 1 << 20, PATTERN = 0xa5, LEAST = 64, ITEMS = ZOMUWEDLI_MAX_ITEMS, SETTINGS = ZOMUWEDLI_MAX_SETTINGS };
 
-/* ---- The sheets: 32 items of 16 settings, without a block, or with one block for each pair by one relation. */
+/* ---- The sheets: 32 items of 16 settings, without a block, or with one block for each pair by one relation; and 32 items whose run takes
+ * slides. */
 struct sheet {
     const char *name;
     size_t length;
@@ -20,7 +21,7 @@ struct sheet {
 };
 
 static struct sheet no_block = {.name = "no block"}, unequal = {.name = "unequal"}, less = {.name = "less"},
-                    parity = {.name = "unlike parity"}, equal = {.name = "equal"};
+                    parity = {.name = "unlike parity"}, equal = {.name = "equal"}, sliding = {.name = "slides"};
 
 static unsigned is_unequal(unsigned a, unsigned b) { return a != b; }
 static unsigned is_less(unsigned a, unsigned b) { return a < b; }
@@ -51,6 +52,30 @@ static void fill_pairs(struct sheet *sheet, unsigned (*allowed)(unsigned, unsign
     for (unsigned i = 0; i < ITEMS; i++) {
         for (unsigned j = i + 1; j < ITEMS; j++) {
             at = fill_block(at, i, j, allowed);
+        }
+    }
+    sheet->length = (size_t)(at - sheet->bytes);
+}
+
+/* Sheets K and L of docs/FORMAT.md, "Bench sheets", by turns, five of each, and two items of 16 settings without a block. K's run is a slide,
+ * a fold and two snakes, L's a slide and a bare step. */
+static void fill_sliding(struct sheet *sheet)
+{
+    static const uint8_t front[8] = {1, 0, 0, 270 >> 8, 270 & 0xff, ITEMS, 0, 30}, sizes[2][3] = {{3, 2, 2}, {3, 3, 2}};
+    static const uint8_t pairs[3][2] = {{0, 1}, {0, 2}, {1, 2}};
+    static const uint8_t rows[2][3][3] = {{{1, 2, 1}, {2, 1, 1}, {2, 3}}, {{6, 1, 4}, {1, 1, 3}, {1, 3, 2}}};
+    uint8_t *at = sheet->bytes + 8 + ITEMS;
+    memcpy(sheet->bytes, front, 8);
+    memset(sheet->bytes + 8, SETTINGS, ITEMS);
+    for (unsigned group = 0; group < 10; group++) {
+        memcpy(sheet->bytes + 8 + 3 * group, sizes[group % 2], 3);
+        for (unsigned pair = 0; pair < 3; pair++) {
+            *at++ = (uint8_t)(3 * group + pairs[pair][0]);
+            *at++ = (uint8_t)(3 * group + pairs[pair][1]);
+            for (unsigned a = 0; a < sizes[group % 2][pairs[pair][0]]; a++) {
+                *at++ = 0;
+                *at++ = rows[group % 2][pair][a];
+            }
         }
     }
     sheet->length = (size_t)(at - sheet->bytes);
@@ -171,7 +196,7 @@ _Static_assert(ZOMUWEDLI_READ_STACK <= ZOMUWEDLI_STACK && ZOMUWEDLI_RUN_STACK <=
                    && ZOMUWEDLI_COLOUR_STACK <= ZOMUWEDLI_STACK,
                "ZOMUWEDLI_STACK is less than some call's own");
 
-enum { MOST_CALLS = 5 };
+enum { MOST_CALLS = 6 };
 
 struct job {
     const char *name;
@@ -186,7 +211,7 @@ struct job {
 
 static const struct job baseline = {"a thread alone", STACK, prepare_nothing, nothing, {{&no_block, 0}}};
 
-/* The runs take steps of kinds 2, none, 1, 4 and 3; kind 5 never comes up in a run. */
+/* The runs take steps of kinds 2, none, 1, 4 and 3, and the last of 5, 3, 2 and 1. */
 static const struct job jobs[] = {
     {"read", ZOMUWEDLI_READ_STACK, prepare_nothing, read_check, {{&no_block, READ_ANSWER(0)}, {&unequal, READ_ANSWER(496)}}},
     {"run",
@@ -197,7 +222,8 @@ static const struct job jobs[] = {
       {&unequal, RUN_ANSWER(ZOMUWEDLI_REST, 0, 1)},
       {&less, RUN_ANSWER(ZOMUWEDLI_IMPOSSIBLE, 241, 1 + 5 * 241)},
       {&parity, RUN_ANSWER(ZOMUWEDLI_REST, 448, 1 + 5 * 448)},
-      {&equal, RUN_ANSWER(ZOMUWEDLI_SOLVED, 32, 1 + 4 * 32)}}},
+      {&equal, RUN_ANSWER(ZOMUWEDLI_SOLVED, 32, 1 + 4 * 32)},
+      {&sliding, RUN_ANSWER(ZOMUWEDLI_REST, 2 + 5 * (4 + 2), 1 + 4 * 2 + 5 * (17 + 10))}}},
     {"start",
      ZOMUWEDLI_START_STACK,
      prepare_start,
@@ -212,7 +238,7 @@ static const struct job jobs[] = {
      ZOMUWEDLI_PUT_BACK_STACK,
      prepare_put_back,
      put_back,
-     {{&no_block, AND(0, 0)}, {&parity, AND(19, ITEMS * PATTERN)}, {&equal, AND(0, 0)}}},
+     {{&no_block, AND(0, 0)}, {&parity, AND(19, ITEMS * PATTERN)}, {&equal, AND(0, 0)}, {&sliding, AND(19, ITEMS * PATTERN)}}},
     {"colour",
      ZOMUWEDLI_COLOUR_STACK,
      prepare_colour,
@@ -295,6 +321,7 @@ int main(void)
     fill_pairs(&less, is_less);
     fill_pairs(&parity, is_of_unlike_parity);
     fill_pairs(&equal, is_equal);
+    fill_sliding(&sliding);
     struct call alone = {&baseline, &no_block, 1};
     size_t own = used(&alone, 0);
     for (unsigned k = 0; k < sizeof jobs / sizeof jobs[0]; k++) {

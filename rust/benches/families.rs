@@ -1,5 +1,5 @@
-//! Times the seven families of sheets of 32 items of 16 settings, and colouring files: the proved library, the reference and the fast
-//! implementation, side by side in one run, and for colouring files a plain reader beside them.
+//! Times eight families of sheets of 32 items, seven of 16 settings and one of 4 whose run takes slides, and colouring files: the proved
+//! library, the reference and the fast implementation, side by side in one run, and for colouring files a plain reader beside them.
 //! `families --count NAME IMPLEMENTATION REPETITIONS` does one of them only, for counting instructions: a run of a family, or the sheet of
 //! a colouring file.
 
@@ -234,6 +234,17 @@ fn print_colour(name: &str, file: &[u8], channels: u64) {
     print_row(FILE_NAMES, name, &|implementation, buffers| Timed::Colour(implementation.colour(file, channels, &mut buffers.sheet)));
 }
 
+/// The run of the family with slides has one in each of its eight groups at least.
+fn check_slides() {
+    let families = generate::families();
+    let (_, sheet) = families.iter().find(|(name, _)| *name == generate::SLIDING_FAMILY).expect("one of the families");
+    let (trace, _) = trace_and_plan(sheet);
+    let steps = reference::steps_of(&trace).expect("a run's trace has whole records");
+    let slides = steps.iter().filter(|step| step.kind() == 5).count();
+    assert!(slides >= 8, "{} has {slides} slides", generate::SLIDING_FAMILY);
+    println!("{}: {slides} slides in {} steps.", generate::SLIDING_FAMILY, steps.len());
+}
+
 /// Prints the row of one family, by its name and its sheet.
 type PrintRow = fn(&str, &[u8]);
 
@@ -241,6 +252,7 @@ fn print_tables() {
     println!("Times of one call, best of {ROUNDS} rounds in which the implementations take turns. Ratios: the other's time over the");
     println!("proved library's; below 1 is faster than the proved library. Each call reads the sheet, fills its table and does the job;");
     println!("the buffers are cleared before, outside the time. All gave the same answer and the same bytes before they were timed.");
+    check_slides();
     let tables: [(&str, PrintRow); 4] = [
         ("run", |name, sheet| print_row(NAMES, name, &run_call(sheet))),
         ("put back (the run's own trace)", print_put_back),

@@ -4,6 +4,8 @@
 //! Two facts save most of the work, and neither changes the trace. A state only ever shrinks, so a value that covers another at an item
 //! covers it there for good: for each two values one mark, the lowest item at which the one may fail to cover the other, only moves up
 //! (`Reduction::gap`). And a rule that failed rests on a few items only: it is not tested again before one of them changes (`Failed`).
+//! Slides are looked for last, and all those of one item together, as words (`Reduction::slides_from`): a run that comes to rest has to
+//! test every one.
 
 use zomuwedli::{Accepted, End, Refusal, Taken, Unlawful, Written};
 use zomuwedli::{HAND_STATE_LENGTH, MAX_FILE, MAX_ITEMS, MAX_SETTINGS, NOT_NAMED, OUT, STATE_LENGTH};
@@ -15,6 +17,9 @@ const NONE: usize = MAX_ITEMS;
 
 type Rows = [[[u16; MAX_ITEMS]; MAX_SETTINGS]; MAX_ITEMS];
 type Marks = [[[u8; MAX_SETTINGS]; MAX_SETTINGS]; MAX_ITEMS];
+
+/// The set of each value alone.
+const BITS: [u16; MAX_SETTINGS] = [1, 2, 4, 8, 16, 32, 64, 128, 256, 512, 1024, 2048, 4096, 8192, 16384, 32768];
 
 /// The members of a set, rising.
 fn members(set: u32) -> impl Iterator<Item = usize> {
@@ -76,11 +81,20 @@ struct Table {
     rows: Rows,
     /// The values that some row gives nothing: they have no support before the first step.
     unsupported: [u16; MAX_ITEMS],
+    /// The items that have a block with i.
+    neighbours: [u32; MAX_ITEMS],
 }
 
 impl Table {
     fn new() -> Table {
-        Table { sizes: [0; MAX_ITEMS], count: 0, blocks: 0, rows: [[[0; MAX_ITEMS]; MAX_SETTINGS]; MAX_ITEMS], unsupported: [0; MAX_ITEMS] }
+        Table {
+            sizes: [0; MAX_ITEMS],
+            count: 0,
+            blocks: 0,
+            rows: [[[0; MAX_ITEMS]; MAX_SETTINGS]; MAX_ITEMS],
+            unsupported: [0; MAX_ITEMS],
+            neighbours: [0; MAX_ITEMS],
+        }
     }
 
     /// Reads a sheet into the table; a refused one leaves the table without meaning.
@@ -89,6 +103,7 @@ impl Table {
         self.read_sizes(&sheet[8..])?;
         self.rows[..self.count].fill([[u16::MAX; MAX_ITEMS]; MAX_SETTINGS]);
         self.unsupported = [0; MAX_ITEMS];
+        self.neighbours = [0; MAX_ITEMS];
         let mut rest = &sheet[8 + self.count..];
         let mut before = None;
         for _ in 0..self.blocks {
@@ -161,6 +176,7 @@ impl Table {
     }
 
     fn enter(&mut self, i: usize, j: usize, block: &[u16; MAX_SETTINGS]) {
+        self.neighbours[i] |= 1 << j;
         for (a, &row) in block[..self.sizes[i]].iter().enumerate() {
             self.rows[i][a][j] = row;
             self.unsupported[i] |= u16::from(row == 0) << a;
@@ -343,6 +359,17 @@ fn all_gaps(set: u16, mut gap: impl FnMut(usize) -> usize) -> Option<u32> {
     })
 }
 
+/// The marks of one item before anything is known of it: a value covers itself at every item.
+const UNKNOWN: [[u8; MAX_SETTINGS]; MAX_SETTINGS] = {
+    let mut marks = [[0; MAX_SETTINGS]; MAX_SETTINGS];
+    let mut value = 0;
+    while value < MAX_SETTINGS {
+        marks[value][value] = NONE as u8;
+        value += 1;
+    }
+    marks
+};
+
 /// A state on its way down, with what is known of it.
 struct Reduction {
     state: State,
@@ -354,6 +381,8 @@ struct Reduction {
     snakes: Failed<MAX_SETTINGS>,
     triangles: Failed<MAX_ITEMS>,
     neighbourhoods: Failed<MAX_SETTINGS>,
+    /// By variable alone: all slides of an item fail together.
+    slides: Failed<1>,
 }
 
 impl Reduction {
@@ -362,10 +391,11 @@ impl Reduction {
             state: State { items: 0, settings: [0; MAX_ITEMS] },
             emptied: false,
             unsupported: [0; MAX_ITEMS],
-            marks: [[[0; MAX_SETTINGS]; MAX_SETTINGS]; MAX_ITEMS],
+            marks: [UNKNOWN; MAX_ITEMS],
             snakes: Failed::new(),
             triangles: Failed::new(),
             neighbourhoods: Failed::new(),
+            slides: Failed::new(),
         }
     }
 
@@ -373,16 +403,18 @@ impl Reduction {
         self.emptied = members(state.items).any(|i| state.settings[i] == 0);
         self.state = state;
         self.unsupported = table.unsupported;
-        self.marks[..table.count].fill([[0; MAX_SETTINGS]; MAX_SETTINGS]);
+        self.marks[..table.count].fill(UNKNOWN);
         self.snakes.clear();
         self.triangles.clear();
         self.neighbourhoods.clear();
+        self.slides.clear();
     }
 
     fn note_changed(&mut self, i: usize) {
         self.snakes.changed |= 1 << i;
         self.triangles.changed |= 1 << i;
         self.neighbourhoods.changed |= 1 << i;
+        self.slides.changed |= 1 << i;
     }
 
     fn others(&self, i: usize) -> u32 {
@@ -517,8 +549,76 @@ impl Reduction {
         None
     }
 
-    /// The next step of the run. A slide is never one: where no cover holds, the e that covers d at every other item can only be d, so
-    /// that every d allowed with b is allowed with a, and a covers b: a cover after all.
+    /// Asked only where `next_neighbourhood` has just found nothing, which `slides_from` relies on. Not inlined, so that the search for the
+    /// other kinds is compiled as without it.
+    #[inline(never)]
+    fn next_slide(&mut self, table: &Table) -> Option<Step> {
+        self.slides.wake(self.state.items);
+        for i in members(self.state.items) {
+            if self.slides.waits[i] != 0 {
+                continue;
+            }
+            let (slides, rests_on) = self.slides_from(table, i);
+            if let Some(b) = values(self.state.settings[i]).find(|&b| slides[b] != 0) {
+                return Some(Step::SnakeSubstitution { i, b, a: slides[b].trailing_zeros() as usize });
+            }
+            self.slides.note(i, 0, rests_on);
+        }
+        None
+    }
+
+    /// For each value b of i the values a that it can slide to, and the items that it rests on that there are no more. Each value d of
+    /// another item is looked at once, for all b and a.
+    ///
+    /// No cover holds, so each mark is the lowest item at which the one value fails to cover the other, and what it rests on that none covers
+    /// d has been noted. An e that covers d at every item but i and k fails at i alone: its mark is i. Most d have no such e.
+    fn slides_from(&self, table: &Table, i: usize) -> ([u16; MAX_SETTINGS], u32) {
+        let live = self.state.settings[i];
+        let mut slides = BITS.map(|b| if live & b == 0 { 0 } else { live & !b });
+        let mut rests_on = 0;
+        for k in members(self.state.items & table.neighbours[i]) {
+            for d in values(self.state.settings[k]) {
+                let with_d = table.rows[k][d][i];
+                // What d asks of a slide of b: nothing where d is barred with b, else one of these goals. Where a is allowed with d, d serves.
+                let asks = |goals: u16| BITS.map(|b| if with_d & b == 0 { u16::MAX } else { goals });
+                let served = asks(with_d);
+                if slides.iter().zip(served).fold(0, |lost, (set, served)| lost | set & !served) == 0 {
+                    continue;
+                }
+                let may_move = self.marks[k][d].iter().fold(false, |any, &mark| any | (usize::from(mark) == i));
+                let (goals, fails_at) =
+                    if may_move { self.slide_goals(table, i, k, d) } else { (with_d, self.neighbourhoods.rests_on[k][d] | 1 << k) };
+                slides.iter_mut().zip(asks(goals)).for_each(|(set, served)| *set &= served);
+                rests_on |= fails_at;
+            }
+            if slides == [0; MAX_SETTINGS] {
+                break;
+            }
+        }
+        (slides, rests_on)
+    }
+
+    /// The values of i that are allowed with d, or with a value e of k that covers d at every item other than i and k; and the items that
+    /// it rests on that there are no more. All e are looked at together: those that cover d at l are allowed with each value there that d is
+    /// allowed with.
+    fn slide_goals(&self, table: &Table, i: usize, k: usize, d: usize) -> (u16, u32) {
+        let mut serving = self.state.settings[k];
+        let mut rests_on = 1 << k;
+        for l in members(self.state.items & table.neighbours[k] & !(1 << i)) {
+            let before = serving;
+            for x in values(table.supports(&self.state, k, d, l)) {
+                serving &= table.rows[l][x][k];
+            }
+            rests_on |= u32::from(serving != before) << l;
+            if serving == 1 << d {
+                break;
+            }
+        }
+        (values(serving).fold(0, |goals, e| goals | table.rows[k][e][i]), rests_on)
+    }
+
+    /// The next step of the run: a slide only where no other rule holds. A slide can leave values elsewhere without support, so these are
+    /// looked for before every step.
     fn next_step(&mut self, table: &Table) -> Option<Step> {
         if self.emptied {
             return None;
@@ -529,13 +629,14 @@ impl Reduction {
         if let Some(step) = self.next_snake(table) {
             return Some(step);
         }
-        self.next_triangle(table).or_else(|| self.next_neighbourhood(table))
+        self.next_triangle(table).or_else(|| self.next_neighbourhood(table)).or_else(|| self.next_slide(table))
     }
 
-    fn slides(&mut self, table: &Table, i: usize, b: usize, a: usize) -> bool {
-        members(self.others(i)).all(|k| {
-            let goals = table.supports(&self.state, i, a, k);
-            values(table.supports(&self.state, i, b, k)).all(|d| values(goals).any(|e| self.gap(table, k, d, e) == NONE))
+    /// Whether the slide rule holds for two live values of i.
+    fn slides(&self, table: &Table, i: usize, b: usize, a: usize) -> bool {
+        members(self.state.items & table.neighbours[i]).all(|k| {
+            let moved = table.spoilers(&self.state, (i, a), (i, b), k);
+            values(moved).all(|d| has(u32::from(self.slide_goals(table, i, k, d).0), a))
         })
     }
 

@@ -4,7 +4,7 @@
 use zomuwedli::{MAX_FILE, MAX_ITEMS, MAX_SETTINGS, OUT, STATE_LENGTH};
 
 use super::fast::State as Masks;
-use super::reference::{Problem, State, Step};
+use super::reference::{self, Problem, State, Step};
 
 /// A number that the environment gives, as a seed or a part of the sizes.
 pub fn from_environment(name: &str, default: u64) -> u64 {
@@ -233,6 +233,38 @@ pub fn small_draft(random: &mut Random) -> Draft {
     fill(random, sizes, network)
 }
 
+/// A sheet whose run often takes a slide: 4 to 6 items of 4 settings, every two items linked, and 20 to 40 of 100 pairs of settings barred.
+pub fn sliding_draft(random: &mut Random) -> Draft {
+    let (n, barred) = (random.between(4, 6), random.between(20, 40));
+    linked_draft(random, n, 4, barred)
+}
+
+/// A larger sheet whose run often takes slides, mostly several: 3 items of 6 to 16 settings; 9 to 16 items of 5 to 8, a few of the pairs
+/// linked; or 2 to 8 groups of 4 items of 4.
+pub fn large_sliding_draft(random: &mut Random) -> Draft {
+    match random.below(10) {
+        0..=3 => {
+            let (size, barred) = (random.between(6, MAX_SETTINGS) as u8, random.between(30, 80));
+            linked_draft(random, 3, size, barred)
+        }
+        4..=8 => {
+            let (n, size) = (random.between(9, 16), random.between(5, 8) as u8);
+            let (percent, barred) = (random.between(20, 35), random.between(20, 45));
+            let linked: Vec<bool> = (0..n * n).map(|_| random.chance(percent)).collect();
+            Draft::new(vec![size; n], |i, _, j, _| !linked[i * n + j] || !random.chance(barred))
+        }
+        _ => {
+            let n = 4 * random.between(2, 8);
+            Draft::new(vec![4; n], |i, _, j, _| i / 4 != j / 4 || !random.chance(35))
+        }
+    }
+}
+
+/// A sheet of n items of one size, every two of them linked, and so many of 100 pairs of settings barred.
+pub fn linked_draft(random: &mut Random, n: usize, size: u8, barred: usize) -> Draft {
+    Draft::new(vec![size; n], |_, _, _, _| !random.chance(barred))
+}
+
 /// Bytes that may not be a sheet at all, or are a sheet with faults.
 pub fn damaged_sheet(random: &mut Random) -> Vec<u8> {
     match random.below(20) {
@@ -329,7 +361,10 @@ fn damage_bytes(random: &mut Random, bytes: &mut Vec<u8>) {
     }
 }
 
-/// The seven families of sheets of 32 items of 16 settings that the program is timed on.
+/// The last of the families: a sheet of 32 items of 4 settings.
+pub const SLIDING_FAMILY: &str = "eight groups of four whose runs slide";
+
+/// The eight families of sheets of 32 items that the program is timed on: seven of 16 settings, and one of 4.
 pub fn families() -> Vec<(&'static str, Vec<u8>)> {
     let mut random = Random::new(1);
     let linked: Vec<bool> = (0..MAX_ITEMS * MAX_ITEMS).map(|_| random.chance(15)).collect();
@@ -343,7 +378,19 @@ pub fn families() -> Vec<(&'static str, Vec<u8>)> {
         ("|a - b| >= 3 for every pair", sheet(&mut |_, a, _, b| a.abs_diff(b) >= 3)),
         ("eight groups of four, pairwise unequal", sheet(&mut |i, a, j, b| i / 4 != j / 4 || a != b)),
         ("random, 15% of pairs, 30% barred", sheet(&mut |i, _, j, _| !linked[i * MAX_ITEMS + j] || !random.chance(30))),
+        (SLIDING_FAMILY, sliding_family()),
     ]
+}
+
+/// Eight groups of four items of 4 settings, linked within their group only, so that each is worked as if it were alone: its run takes a
+/// slide.
+fn sliding_family() -> Vec<u8> {
+    let mut random = Random::new(1);
+    let problem = |draft: Draft| reference::read_sheet(&draft.bytes()).expect("the sheet keeps the layout").0;
+    let slides = |problem: &Problem| problem.reduce().0.iter().any(|step| step.kind() == 5);
+    let mut group = || std::iter::repeat_with(|| problem(linked_draft(&mut random, 4, 4, 35))).find(slides).expect("some are");
+    let groups: [Problem; 8] = std::array::from_fn(|_| group());
+    Draft::new(vec![4; MAX_ITEMS], |i, a, j, b| i / 4 != j / 4 || groups[i / 4].allowed(i % 4, a, j % 4, b)).bytes()
 }
 
 // ---- States -------------------------------------------------------------------------------------------------------------------------

@@ -13,17 +13,20 @@ use zomuwedli::{HAND_STATE_LENGTH, MAX_FILE, MAX_ITEMS, MAX_SETTINGS, NOT_NAMED,
 use super::{Answer, Done, Fault};
 
 /// What a sheet says: how many values each variable has, and which pairs are allowed.
+#[derive(Clone)]
 pub struct Problem {
     sizes: Vec<usize>,
     /// One entry for every variable and value with every variable and value.
     table: Vec<bool>,
+    /// Whether the slide rule spares i. Every job's does; the rule of before does not.
+    spares: bool,
 }
 
 impl Problem {
     /// "A pair with no block allows everything."
     fn without_blocks(sizes: Vec<usize>) -> Problem {
         let settings = sizes.len() * MAX_SETTINGS;
-        Problem { sizes, table: vec![true; settings * settings] }
+        Problem { sizes, table: vec![true; settings * settings], spares: true }
     }
 
     fn entry(&self, i: usize, a: usize, j: usize, b: usize) -> usize {
@@ -43,6 +46,11 @@ impl Problem {
     /// How many values each variable has.
     pub fn sizes(&self) -> &[usize] {
         &self.sizes
+    }
+
+    /// The same by the slide rule of before, which "had i among the items where e covers d". "No job has it": it is to be compared with.
+    pub fn of_before(&self) -> Problem {
+        Problem { spares: false, ..self.clone() }
     }
 }
 
@@ -258,10 +266,11 @@ impl Problem {
         two_live(state, i, b, a) && state.others(i).all(follows)
     }
 
-    /// "Some e on at k is allowed with a and covers d at every item other than k." "The slide rule here includes i among the items where e
-    /// covers d." A setting covers itself, so d is the first to be tried.
+    /// "Some e on at k is allowed with a and covers d at every item other than i and k." A setting covers itself, so d is the first to be
+    /// tried.
     fn slides(&self, state: &State, (i, a): (usize, usize), (k, d): (usize, usize)) -> bool {
-        let serves = |&e: &usize| self.allowed(i, a, k, e) && self.breach_of_two(state, k, e, d).is_none();
+        let apart = if self.spares { [i, k] } else { [k, k] };
+        let serves = |&e: &usize| self.allowed(i, a, k, e) && self.breach(state, (k, e), (k, d), apart).is_none();
         self.allowed(i, a, k, d) || state.live(k).iter().any(serves)
     }
 }
@@ -518,14 +527,18 @@ fn item_in(state: &State, item: u64) -> Option<usize> {
 
 /// Puts a plan for the items left back through a trace.
 pub fn put_back(sheet: &[u8], trace: &[u8], plan: &[u8], result: &mut [u8]) -> Answer<()> {
-    let (problem, _) = read_sheet(sheet)?;
+    put_back_over(&read_sheet(sheet)?.0, trace, plan, result)
+}
+
+/// The same once the sheet is read.
+pub fn put_back_over(problem: &Problem, trace: &[u8], plan: &[u8], result: &mut [u8]) -> Answer<()> {
     if plan.len() != problem.sizes.len() {
         return Err(Refusal::PlanLength.into());
     }
     if result.len() != problem.sizes.len() {
         return Err(Refusal::ResultLength.into());
     }
-    let (steps, last) = replay(&problem, trace)?;
+    let (steps, last) = replay(problem, trace)?;
     if !problem.is_solution(&last, plan) {
         return Err(Refusal::PlanUnfit.into());
     }

@@ -51,7 +51,8 @@ pub enum Record {
         /// Its setting a, which covers b.
         by: u8,
     },
-    /// Kind 5: the setting goes off, since a plan that has it can slide to another one of the item. In no run; others may write it.
+    /// Kind 5: the setting goes off, since a plan that has it can slide to another one of the item. A run takes it only where no other rule
+    /// holds.
     Slide {
         /// The item i.
         item: u8,
@@ -189,8 +190,8 @@ impl FusedIterator for Records<'_> {}
 /// ```
 /// use zomuwedli::{put_back, trace_of, Record, OUT};
 ///
-/// // Two items of two settings; setting 0 of item 0 is allowed with both, setting 1 with setting 1. So setting 0 can slide to no other,
-/// // and setting 1 can slide to setting 0.
+/// // Two items of two settings; setting 0 of item 0 is allowed with both, setting 1 with setting 1. A plan with setting 1 can slide to
+/// // setting 0.
 /// let sheet = [1, 0, 0, 0, 16, 2, 0, 1, 2, 2, 0, 1, 0, 3, 0, 2];
 /// let trace = trace_of([Record::Slide { item: 0, setting: 1, to: 0 }, Record::Snake { item: 1, setting: 1 }]);
 /// assert_eq!(trace, [1, 4, 5, 0, 1, 0, 3, 2, 1, 1]);

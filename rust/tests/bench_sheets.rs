@@ -52,6 +52,21 @@ const H: [u8; 33] = [
     1, 2, 0, 2, 0, 1,
 ];
 
+#[rustfmt::skip]
+const K: [u8; 33] = [
+    1, 0, 0, 0, 33, 3, 0, 3, 3, 2, 2,
+    0, 1, 0, 1, 0, 2, 0, 1,
+    0, 2, 0, 2, 0, 1, 0, 1,
+    1, 2, 0, 2, 0, 3,
+];
+#[rustfmt::skip]
+const L: [u8; 35] = [
+    1, 0, 0, 0, 35, 3, 0, 3, 3, 3, 2,
+    0, 1, 0, 6, 0, 1, 0, 4,
+    0, 2, 0, 1, 0, 1, 0, 3,
+    1, 2, 0, 1, 0, 3, 0, 2,
+];
+
 /// What the old bytes of a buffer are.
 const OLD: u8 = 0xa5;
 
@@ -138,12 +153,23 @@ fn b_two_unequal_items() {
     assert_eq!(plan, [0, 1]);
 }
 
-/// A slide that only the wider rule allows names nothing; the cover of the same settings does.
+/// A slide that the rule of before does not allow is accepted; the cover of the same settings is not.
 #[test]
 fn b_slide() {
     let mut plan = [OLD; 2];
-    assert_eq!(put_back(&B, &[1, 4, 5, 0, 0, 1], &[1, 1], &mut plan), unlawful(0, NOT_NAMED, NOT_NAMED));
-    assert_eq!(put_back(&B, &[1, 4, 4, 0, 0, 1], &[1, 1], &mut plan), unlawful(0, 1, 1));
+    assert_eq!(put_back(&B, &[1, 4, 5, 0, 0, 1], &[1, 1], &mut plan), refuses(Refusal::PlanUnfit));
+    assert_eq!(put_back(&B, &[1, 4, 5, 0, 0, 1], &[0, 1], &mut plan), refuses(Refusal::PlanUnfit));
+    assert_eq!(put_back(&B, &[1, 4, 4, 0, 0, 1], &[1, 0], &mut plan), unlawful(0, 1, 1));
+    assert!(untouched(&plan));
+    assert_eq!(put_back(&B, &[1, 4, 5, 0, 0, 1], &[1, 0], &mut plan), Ok(()));
+    assert_eq!(plan, [1, 0]);
+}
+
+/// A slide that neither rule allows names nothing.
+#[test]
+fn c_slide() {
+    let mut plan = [OLD; 3];
+    assert_eq!(put_back(&C, &[1, 4, 5, 0, 0, 1], &[1, 0, 0], &mut plan), unlawful(0, NOT_NAMED, NOT_NAMED));
     assert!(untouched(&plan));
 }
 
@@ -232,6 +258,45 @@ fn j_barred_plan() {
     let mut result = [OLD; 3];
     assert_eq!(put_back(&C, &[1], &[0, 1, 0], &mut result), refuses(Refusal::PlanUnfit));
     assert!(untouched(&result));
+}
+
+#[test]
+fn k_slide() {
+    let trace = [1, 4, 5, 0, 2, 0, 3, 3, 1, 0, 3, 2, 0, 0, 3, 2, 2, 0];
+    assert_eq!(runs(&K, 7, End::Solved, 4, &trace), state(0, &[]));
+    let mut plan = [OLD; 3];
+    assert_eq!(put_back(&K, &trace, &[255; 3], &mut plan), Ok(()));
+    assert_eq!(plan, [0, 0, 1]);
+    no_step_before(&K);
+}
+
+#[test]
+fn l_bare_after_a_slide() {
+    let trace = [1, 4, 5, 0, 1, 0, 4, 1, 1, 0, 0];
+    assert_eq!(runs(&L, 8, End::Rest, 2, &trace), state(7, &[5, 6, 3]));
+    let mut plan = [OLD; 3];
+    assert_eq!(put_back(&L, &trace, &[0, 0, 0], &mut plan), refuses(Refusal::PlanUnfit));
+    assert!(untouched(&plan));
+    assert_eq!(put_back(&L, &trace, &[0, 1, 0], &mut plan), Ok(()));
+    assert_eq!(plan, [0, 1, 0]);
+    no_step_before(&L);
+}
+
+/// By the slide rule of before the run took no step.
+fn no_step_before(sheet: &[u8]) {
+    let (problem, _) = reference::read_sheet(sheet).unwrap();
+    assert_eq!(problem.of_before().reduce().0, []);
+}
+
+/// A slide that the rule of before allows too.
+#[test]
+fn a_slide_of_before() {
+    let sheet = [1, 0, 0, 0, 16, 2, 0, 1, 2, 2, 0, 1, 0, 3, 0, 2];
+    let (trace, mut plan, mut before) = ([1, 4, 5, 0, 0, 1], [OLD; 2], [OLD; 2]);
+    assert_eq!(put_back(&sheet, &trace, &[1, 1], &mut plan), Ok(()));
+    let (problem, _) = reference::read_sheet(&sheet).unwrap();
+    assert_eq!(reference::put_back_over(&problem.of_before(), &trace, &[1, 1], &mut before), Ok(()));
+    assert_eq!((plan, before), ([1, 1], [1, 1]));
 }
 
 /// "A step list that is refused, and mended": a pond gate, a tail gate and a sluice.

@@ -19,6 +19,8 @@ const SEED: u64 = 20_260_917;
 
 /// How many cases each part has; a case of sheets compares about six calls, one of the others about as many.
 const SHEETS: u64 = 104_000;
+const SLIDING_SHEETS: u64 = 15_000;
+const LARGE_SLIDING_SHEETS: u64 = 2_000;
 const LARGE_SHEETS: u64 = 200;
 const HAND_LISTS: u64 = 14_000;
 const TRACES: u64 = 12_000;
@@ -36,6 +38,8 @@ const LEAST_LONG: u64 = 10;
 const LEAST_FILES: u64 = 50_000;
 const LEAST_OF_EACH_FILE: u64 = 500;
 const LEAST_OF_EACH_CAUSE: u64 = 500;
+const LEAST_SLIDING: u64 = 2_000;
+const LEAST_BARE_AFTER: u64 = 200;
 
 const JOBS: [&str; 6] = ["read", "run", "start", "hand call", "put back", "colour"];
 /// The job that is lent no sheet but a colouring file.
@@ -79,6 +83,8 @@ fn main() {
     comparison.part("unlawful records", UNLAWFUL_TRACES / divisor, unlawful_case);
     comparison.part("unlawful records far on", LONG_TRACES / divisor, far_unlawful_case);
     comparison.part("sheets", SHEETS / divisor, sheet_case);
+    comparison.part("sheets whose runs slide", SLIDING_SHEETS / divisor, sliding_case);
+    comparison.part("larger ones", LARGE_SLIDING_SHEETS / divisor, large_sliding_case);
     comparison.part("large sheets", LARGE_SHEETS / divisor, large_case);
     comparison.part("large sheets put back", LARGE_SHEETS / 4 / divisor, large_trace_case);
     comparison.part("colouring files", FILES / divisor, colouring_case);
@@ -114,6 +120,13 @@ struct Counts {
     run_steps: [u64; 6],
     /// Runs whose number of steps is more than a byte holds.
     long_runs: u64,
+    /// Runs with a slide, with several, and those in which a bare step follows one, by the trace that the fast implementation wrote.
+    sliding_runs: u64,
+    sliding_on: u64,
+    bare_after_slide: u64,
+    /// Runs that were compared with those by the slide rule of before, and those that go on where these end.
+    runs_of_before: u64,
+    longer_than_before: u64,
     lent_records: [u64; 6],
     /// Records refused with 17, by CAUSES; those after a lawful one, and those whose number is more than a byte holds, the latter also
     /// where they name an item and a setting; and those that name an item with one out below it.
@@ -122,7 +135,11 @@ struct Counts {
     unlawful_far_on: u64,
     named_far_on: u64,
     named_above_out: u64,
+    /// Slides of accepted lent traces: those that are no covers, and those that the rule of before does not allow.
     slides_not_covers: u64,
+    slides_added: u64,
+    /// Accepted lent traces with slides that the rule of before accepts too.
+    sliding_before: u64,
     /// Steps that took an item out and switched off settings elsewhere: in accepted lent traces, and by hand.
     lent_partners_lost: u64,
     hand_partners_lost: u64,
@@ -185,8 +202,19 @@ impl Counts {
         let ends = [End::Impossible, End::Solved, End::Rest].map(|end| format!("{end:?} {}", self.ends.get(&(end as u8)).unwrap_or(&0)));
         println!("ends of runs: {}", ends.join(", "));
         println!("steps of runs: {}; runs of more than 255: {}", by_kind(&self.run_steps), self.long_runs);
+        println!(
+            "runs with a slide: {}; with several: {}; in which a bare step follows one: {}",
+            self.sliding_runs, self.sliding_on, self.bare_after_slide
+        );
+        println!(
+            "runs that begin as by the slide rule of before: {}, {} of these going on, with a slide that it does not allow",
+            self.runs_of_before, self.longer_than_before
+        );
         println!("records of accepted lent traces: {}", by_kind(&self.lent_records));
-        println!("slides among them that are no covers: {}", self.slides_not_covers);
+        println!(
+            "slides among them that are no covers: {}, that the rule of before does not allow: {}; traces with slides that it accepts: {}",
+            self.slides_not_covers, self.slides_added, self.sliding_before
+        );
         println!("records refused with 17: {}", self.of_causes().map(|(cause, count)| format!("{cause} {count}")).join("; "));
         println!(
             "among them after a lawful record: {}; of a number over 255: {}, {} of these naming a setting; naming an item above one out: {}",
@@ -214,7 +242,7 @@ impl Counts {
         let of_answer = |(job, number): (usize, u8)| (format!("{}, answer {number}", JOBS[job]), self.of_answer(job, number), least(job));
         let answers = (0..JOBS.len()).flat_map(of_job).map(of_answer);
         let ends = [0, 1, 2].map(|end| (format!("end {end}"), *self.ends.get(&end).unwrap_or(&0), LEAST_OF_EACH));
-        let steps = [1, 2, 3, 4].map(|kind| (format!("steps of runs of kind {kind}"), self.run_steps[kind], LEAST_OF_EACH));
+        let steps = [1, 2, 3, 4, 5].map(|kind| (format!("steps of runs of kind {kind}"), self.run_steps[kind], LEAST_OF_EACH));
         let records = [1, 2, 3, 4, 5].map(|kind| (format!("lent records of kind {kind}"), self.lent_records[kind], LEAST_OF_EACH));
         let decoded = [0, 15, 16].map(|number| (format!("traces taken apart, {number}"), self.of_decoding(number), LEAST_OF_EACH));
         let causes = self.of_causes().map(|(cause, count)| (format!("17: {cause}"), count, LEAST_OF_EACH_CAUSE));
@@ -225,7 +253,14 @@ impl Counts {
             ("17 that names an item above one out".to_string(), self.named_above_out, LEAST_OF_EACH_CAUSE),
             ("sheets".to_string(), self.sheets, LEAST_SHEETS),
             ("runs of more than 255 steps".to_string(), self.long_runs, LEAST_LONG),
+            ("runs with a slide".to_string(), self.sliding_runs, LEAST_SLIDING),
+            ("runs with several slides".to_string(), self.sliding_on, LEAST_OF_EACH_CAUSE),
+            ("runs in which a bare step follows a slide".to_string(), self.bare_after_slide, LEAST_BARE_AFTER),
+            ("runs compared with those of before".to_string(), self.runs_of_before, LEAST_SHEETS / 2),
+            ("runs that are longer than before".to_string(), self.longer_than_before, LEAST_SLIDING),
             ("slides that are no covers".to_string(), self.slides_not_covers, LEAST_OF_EACH),
+            ("slides that the rule of before does not allow".to_string(), self.slides_added, LEAST_OF_EACH_CAUSE),
+            ("traces with slides that the rule of before accepts".to_string(), self.sliding_before, LEAST_OF_EACH_CAUSE),
             ("partners lost in lent traces".to_string(), self.lent_partners_lost, LEAST_OF_EACH),
             ("partners lost by hand".to_string(), self.hand_partners_lost, LEAST_OF_EACH),
             ("sheets of 32 items of 16 settings, 496 blocks".to_string(), self.fullest_sheets, LEAST_FULLEST),
@@ -241,12 +276,10 @@ impl Counts {
         scaled.filter(|(_, count, least)| count < least).map(|(name, count, least)| format!("{name}: {count}, least {least}")).collect()
     }
 
-    /// What must not come up: an answer that the job cannot give, and a slide in a run, since a cover holds wherever a slide does.
+    /// What must not come up: an answer that the job cannot give.
     fn strange(&self) -> Vec<String> {
         let answers = self.answers.iter().filter(|((job, number), _)| !can_answer(*job, *number));
-        let answers = answers.map(|((job, number), count)| format!("{}, answer {number}: {count}", JOBS[*job]));
-        let slides = (self.run_steps[5] > 0).then(|| format!("slides in runs: {}", self.run_steps[5]));
-        answers.chain(slides).collect()
+        answers.map(|((job, number), count)| format!("{}, answer {number}: {count}", JOBS[*job])).collect()
     }
 }
 
@@ -467,9 +500,12 @@ impl Comparison {
         self.counts.bars_everything += u64::from(blocks > 0 && sheet[8] == 1);
     }
 
-    /// Counts why a record was refused with 17; only a cover that breaks may name something, and it must.
+    /// Counts why a record was refused with 17; only a cover that breaks may name something, and it must. The slide rule of before allows
+    /// none that is refused.
     fn count_unlawful(&mut self, problem: &Problem, trace: &[u8], unlawful: Unlawful) {
         let (state, step) = state_at(problem, trace, unlawful.record);
+        let was_lawful = step.kind() == 5 && !state.emptied() && problem.of_before().lawful(&state, step);
+        assert!(!was_lawful, "a slide that was lawful before is refused");
         let cause = cause_of(problem, &state, step, usize::from(unlawful.item));
         let named = NAMES.contains(&cause);
         assert_eq!(unlawful.spoiler().is_some(), named, "{unlawful:?} for: {cause}");
@@ -480,16 +516,57 @@ impl Comparison {
         self.counts.named_above_out += u64::from(named && (0..usize::from(unlawful.item)).any(|i| !state.is_active(i)));
     }
 
-    /// Counts what an accepted lent trace holds.
+    /// Counts the slides of a run, by the trace that the fast implementation writes.
+    fn count_slides(&mut self, sheet: &[u8], problem: &Problem) {
+        let (mut trace, mut state) = (buffer(trace_length(problem)), buffer(STATE_LENGTH));
+        let Done { written, .. } = self.fast.run(sheet, &mut trace, &mut state).expect("the sheet was accepted");
+        let steps = reference::steps_of(&trace[..written]).expect("a run's trace has whole records");
+        let kinds: Vec<usize> = steps.iter().map(|step| step.kind()).collect();
+        let slides = kinds.iter().filter(|&&kind| kind == 5).count();
+        self.counts.sliding_runs += u64::from(slides > 0);
+        self.counts.sliding_on += u64::from(slides > 1);
+        self.counts.bare_after_slide += u64::from(kinds.windows(2).any(|two| two == [5, 1]));
+    }
+
+    /// A run begins as that by the slide rule of before, and ends with it or goes on with a slide that this rule does not allow.
+    fn compare_before(&mut self, problem: &Problem, steps: &[(State, Step)]) {
+        let before = problem.of_before();
+        let (steps_before, reached) = before.reduce();
+        let count = steps_before.len();
+        assert!(
+            steps.len() >= count && steps.iter().map(|(_, step)| *step).take(count).eq(steps_before),
+            "a run begins otherwise than before"
+        );
+        if let Some((state, step)) = steps.get(count) {
+            assert_eq!((*state == reached, step.kind()), (true, 5), "a run goes on otherwise than with a slide where that of before ends");
+            assert!(!before.lawful(state, *step), "the first slide of a run is one of the rule of before");
+            self.counts.longer_than_before += 1;
+        }
+        self.counts.runs_of_before += 1;
+    }
+
+    /// Counts what an accepted lent trace holds. One that the slide rule of before accepts is put back to the same bytes by both.
     fn count_lent(&mut self, problem: &Problem, trace: &[u8], plan: &[u8], result: &[u8]) {
         let (steps, _) = reference::replay(problem, trace).expect("the trace was accepted");
-        for (before, step) in steps {
+        let before = problem.of_before();
+        let (mut slides, mut added) = (0, 0);
+        for (state, step) in steps {
             self.counts.lent_records[step.kind()] += 1;
-            self.counts.lent_partners_lost += u64::from(partners_lost(&before, &problem.perform(&before, step)));
+            self.counts.lent_partners_lost += u64::from(partners_lost(&state, &problem.perform(&state, step)));
             if let Step::SnakeSubstitution { i, b, a } = step {
-                self.counts.slides_not_covers += u64::from(!problem.neighbourhood(&before, i, b, a));
+                self.counts.slides_not_covers += u64::from(!problem.neighbourhood(&state, i, b, a));
+                slides += 1;
+                added += u64::from(!before.lawful(&state, step));
             }
         }
+        if slides > 0 {
+            let mut full = vec![0; plan.len()];
+            let answer = reference::put_back_over(&before, trace, plan, &mut full);
+            assert_eq!(answer.is_ok(), added == 0, "the rule of before judges a trace otherwise than its slides");
+            assert!(answer.is_err() || full == result, "a trace that was lawful before is put back otherwise");
+            self.counts.sliding_before += u64::from(answer.is_ok());
+        }
+        self.counts.slides_added += added;
         let moved = plan.iter().zip(result).any(|(&left, &full)| left != OUT && left != full);
         self.counts.changed_when_undone += u64::from(moved);
     }
@@ -576,6 +653,24 @@ fn sheet_case(comparison: &mut Comparison, random: &mut Random) {
     every_job(comparison, random, &sheet);
 }
 
+/// The same on a sheet whose run often takes a slide. Every fourth time its run's own trace and others are put back.
+fn sliding_case(comparison: &mut Comparison, random: &mut Random) {
+    let sheet = generate::sliding_draft(random).bytes();
+    sliding_calls(comparison, random, &sheet);
+}
+
+fn large_sliding_case(comparison: &mut Comparison, random: &mut Random) {
+    let sheet = generate::large_sliding_draft(random).bytes();
+    sliding_calls(comparison, random, &sheet);
+}
+
+fn sliding_calls(comparison: &mut Comparison, random: &mut Random, sheet: &[u8]) {
+    every_job(comparison, random, sheet);
+    if random.chance(25) {
+        put_back_calls(comparison, random, sheet);
+    }
+}
+
 /// The same on a large sheet, one in ten with a fault, and a list of hand calls from the start.
 fn large_case(comparison: &mut Comparison, random: &mut Random) {
     let draft = generate::large_draft(random);
@@ -608,6 +703,11 @@ fn accepted_sheet(comparison: &mut Comparison, random: &mut Random, sheet: &[u8]
         *comparison.counts.decoded.entry(0).or_default() += 1;
         comparison.counts.long_runs += u64::from(steps.len() > 255);
         steps.iter().for_each(|(_, step)| comparison.counts.run_steps[step.kind()] += 1);
+        comparison.count_slides(sheet, problem);
+        // The reference takes long for the largest sheets: every fourth of them.
+        if sheet.len() < MAX_SHEET / 4 || comparison.case % 4 == 0 {
+            comparison.compare_before(problem, &steps);
+        }
     }
     if random.chance(50) {
         comparison.run(sheet, exact + random.between(1, 40), STATE_LENGTH);
@@ -686,10 +786,10 @@ fn large_trace_case(comparison: &mut Comparison, random: &mut Random) {
     put_back_calls(comparison, random, &sheet);
 }
 
-/// The run's own trace and lawful ones of random steps, each with plans of what is left.
+/// The run's own trace and lawful ones of random steps, one of them by the slide rule of before, each with plans of what is left.
 fn put_back_calls(comparison: &mut Comparison, random: &mut Random, sheet: &[u8]) {
     let (problem, _) = reference::read_sheet(sheet).expect("the sheet keeps the layout");
-    let lawful = [0; 2].map(|_| generate::lawful_steps(random, &problem));
+    let lawful = [&problem, &problem.of_before()].map(|problem| generate::lawful_steps(random, problem));
     for (steps, last) in std::iter::once(problem.reduce()).chain(lawful) {
         let plan = generate::find_plan(random, &problem, &last).unwrap_or_else(|| generate::any_plan(random, &problem, &last));
         let again = generate::find_plan(random, &problem, &last).filter(|other| *other != plan);

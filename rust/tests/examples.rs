@@ -99,12 +99,12 @@ fn prints(example: &str, sheet: &str, arguments: &str, file: &str) {
 
 #[test]
 fn run_prints_what_the_program_prints() {
-    files("sheet", 30).iter().for_each(|sheet| prints("run", sheet, "", &sheet.replace(".sheet", ".txt")));
+    files("sheet", 32).iter().for_each(|sheet| prints("run", sheet, "", &sheet.replace(".sheet", ".txt")));
 }
 
 #[test]
 fn plan_prints_a_plan_or_that_there_is_none() {
-    files("plan", 19).iter().for_each(|file| prints("plan", &sheet_of(file), "", file));
+    files("plan", 21).iter().for_each(|file| prints("plan", &sheet_of(file), "", file));
 }
 
 #[test]
@@ -114,13 +114,13 @@ fn hand_prints_each_call_and_the_state_left() {
 
 #[test]
 fn put_back_prints_the_plan() {
-    files("back", 17).iter().for_each(|file| prints("put_back", &sheet_of(file), &text(file), &format!("{file}.txt")));
+    files("back", 21).iter().for_each(|file| prints("put_back", &sheet_of(file), &text(file), &format!("{file}.txt")));
 }
 
 /// examples/NAME-CHANNELS.sheet is the sheet of examples/NAME.col, and NAME-CHANNELS.refused the line of one that is refused.
 #[test]
 fn colour_writes_the_sheet() {
-    let (sheets, refusals) = (files("sheet", 30), files("refused", 9));
+    let (sheets, refusals) = (files("sheet", 32), files("refused", 9));
     let (mut written, mut refused) = (0, 0);
     for file in files("col", 9) {
         let name = file.strip_suffix(".col").expect("the ending");

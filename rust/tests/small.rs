@@ -1,5 +1,5 @@
 //! Demands 2 and 3 by brute force on very small sheets: all plans of what a trace leaves, and all lists of hand calls from a few states;
-//! and what 17 carries, for every cover of two settings after a few traces.
+//! and what 17 carries, for every cover of two settings after a few traces. Demand 2 also on small sheets whose runs often take a slide.
 //!
 //! The proved library does the jobs, by both its layers (support/proved.rs); the reference says which rule holds; the plans are counted out here.
 //!
@@ -16,6 +16,10 @@ use zomuwedli::{End, Refusal, Unlawful, HAND_STATE_LENGTH, MAX_ITEMS, MAX_SETTIN
 
 const SEED: u64 = 4_711;
 const RANDOM_SHEETS: usize = 1_500;
+/// Among how many sheets of 4 and 5 items of 4 settings those are taken whose runs slide, and among how many of 5 with more barred, so that
+/// some have no plan. Of these the run alone is checked.
+const SLIDING_SHEETS: usize = 2_500;
+const TIGHT_SHEETS: usize = 5_000;
 const LAWFUL_TRACES: usize = 4;
 
 /// How many sheets there are, of two items of 1 to 3 settings, of two items of 1 or 2, and of three items of 2; and how many are checked.
@@ -34,11 +38,17 @@ fn main() {
     let part = generate::from_environment("ZOMUWEDLI_PART", 1).max(1);
     let share = if part == 1 { String::new() } else { format!("1/{part} of ") };
     let all = if part == 1 { "all " } else { &share };
-    println!("sheets: {all}{PAIR_SHEETS} of two items up to 3 settings, {all}{TRIPLE_SHEETS} of three of 2, {share}{RANDOM_SHEETS} random");
+    println!(
+        "sheets: {all}{PAIR_SHEETS} of two items up to 3 settings, {all}{TRIPLE_SHEETS} of three of 2, {share}{RANDOM_SHEETS} random, \
+         {share}those whose runs slide of {SLIDING_SHEETS} and {TIGHT_SHEETS} of four and five of 4"
+    );
     for sheet in pairs.iter().chain(&triples).chain(&others).step_by(part as usize) {
         Case::new(sheet).demand_two(&mut random, &mut counts);
         Case::new(sheet).demand_three(&mut random, &mut counts);
         Case::new(sheet).unlawful_records(&mut other_random, &mut counts);
+    }
+    for sheet in sliding_sheets().iter().step_by(part as usize) {
+        Case::new(sheet).run(&mut counts);
     }
     // From the last one, which bars nothing and has hundreds of traces: the first has three.
     for sheet in smallest.iter().rev().step_by(part as usize) {
@@ -69,10 +79,32 @@ fn triple_sheets() -> Vec<Vec<u8>> {
     (0..1 << 12).map(|relation| draft(relation).bytes()).collect()
 }
 
+/// Sheets of no more than five items whose runs take a slide.
+fn sliding_sheets() -> Vec<Vec<u8>> {
+    let (mut random, mut tight_random) = (Random::new(SEED + 2), Random::new(SEED + 3));
+    let sliding = std::iter::repeat_with(|| generate::sliding_draft(&mut random)).filter(|draft| draft.sizes.len() <= 5);
+    let tight = std::iter::repeat_with(|| generate::linked_draft(&mut tight_random, 5, 4, 45));
+    let slides = |sheet: &Vec<u8>| {
+        reference::read_sheet(sheet).expect("the sheet keeps the layout").0.reduce().0.iter().any(|step| step.kind() == 5)
+    };
+    sliding.take(SLIDING_SHEETS).chain(tight.take(TIGHT_SHEETS)).map(|draft| draft.bytes()).filter(slides).collect()
+}
+
 #[derive(Default)]
 struct Counts {
     runs: u64,
     steps: u64,
+    /// Runs with a slide, the slides in them, and runs in which a bare step follows one; what such runs leave: sheets with a plan and
+    /// without, and plans.
+    sliding_runs: u64,
+    slides: u64,
+    bare_after_slide: u64,
+    sliding_solvable: u64,
+    sliding_unsolvable: u64,
+    sliding_plans: u64,
+    /// Slides that are lawful in some state of a run, and by the rule of before.
+    lawful_slides: u64,
+    lawful_slides_before: u64,
     lent_traces: u64,
     searched_sheets: u64,
     all_traces: u64,
@@ -96,6 +128,18 @@ struct Counts {
 impl Counts {
     fn print(&self) {
         println!("runs: {}, steps in them: {}, all lawful", self.runs, self.steps);
+        println!(
+            "runs with a slide: {}, {} slides in them; in which a bare step follows one: {}",
+            self.sliding_runs, self.slides, self.bare_after_slide
+        );
+        println!(
+            "sheets left by these: {} with a plan, {} without; plans put back: {}",
+            self.sliding_solvable, self.sliding_unsolvable, self.sliding_plans
+        );
+        println!(
+            "slides that are lawful in a state of some run: {}, {} of them by the rule of before, and then a cover is lawful too",
+            self.lawful_slides, self.lawful_slides_before
+        );
         println!(
             "other lawful traces: {} random, and {} that are all there are of {} sheets of two items up to 2 settings",
             self.lent_traces, self.all_traces, self.searched_sheets
@@ -123,7 +167,15 @@ impl Counts {
     fn missing(&self, part: u64) -> Vec<String> {
         let least = [
             ("runs", self.runs, SHEETS),
-            ("steps of runs", self.steps, 12_000),
+            ("steps of runs", self.steps, 14_000),
+            ("runs with a slide", self.sliding_runs, 400),
+            ("slides in runs", self.slides, 500),
+            ("runs in which a bare step follows a slide", self.bare_after_slide, 50),
+            ("sheets left after a slide with a plan", self.sliding_solvable, 390),
+            ("sheets left after a slide without", self.sliding_unsolvable, 15),
+            ("plans put back after a slide", self.sliding_plans, 1_000),
+            ("lawful slides", self.lawful_slides, 46_000),
+            ("lawful slides by the rule of before", self.lawful_slides_before, 37_000),
             ("random traces", self.lent_traces, SHEETS * LAWFUL_TRACES as u64),
             ("sheets of which all traces were gone through", self.searched_sheets, SMALLEST_SHEETS as u64),
             ("all traces of a sheet", self.all_traces, 2_500),
@@ -143,7 +195,7 @@ impl Counts {
             ("covers that are taken", self.covers_taken, 14_000),
             ("other records refused with 17", self.others_refused, 23_000),
         ];
-        let scaled = least.map(|(name, count, least)| (name, count, (least / part).max(1)));
+        let scaled = least.map(|(name, count, least)| (name, count, least / part));
         let short = scaled.iter().filter(|(_, count, least)| count < least);
         short.map(|(name, count, least)| format!("{name}: {count}, least {least}")).collect()
     }
@@ -153,6 +205,8 @@ impl Counts {
 struct Case<'a> {
     sheet: &'a [u8],
     problem: Problem,
+    /// The same by the slide rule of before.
+    before: Problem,
     plans: Vec<Vec<u8>>,
 }
 
@@ -185,7 +239,7 @@ impl Case<'_> {
         let (problem, _) = reference::read_sheet(sheet).expect("the sheet keeps the layout");
         let mut plans = assignments(&problem, &State::full(&problem));
         plans.retain(|plan| allowed(&problem, plan));
-        Case { sheet, problem, plans }
+        Case { sheet, before: problem.of_before(), problem, plans }
     }
 
     fn fault(&self, what: &str, trace: &[u8]) -> ! {
@@ -226,9 +280,33 @@ impl Case<'_> {
         self.demand(last.emptied() == (end == End::Impossible), "the end impossible is wrong", trace);
         self.demand(last.active().is_empty() == (end == End::Solved), "the end solved is wrong", trace);
         self.demand(last.emptied() || self.no_rule_holds(&last), "a rule still holds", trace);
+        let states = replayed.iter().map(|(before, _)| before).chain([&last]);
+        states.for_each(|state| self.slides_of_before(state, trace, counts));
         counts.runs += 1;
         counts.steps += steps as u64;
+        let left_before = (counts.solvable, counts.unsolvable, counts.plans_put_back);
         self.undone(trace, &last, counts);
+        let kinds: Vec<usize> = replayed.iter().map(|(_, step)| step.kind()).collect();
+        let slides = kinds.iter().filter(|&&kind| kind == 5).count();
+        if slides > 0 {
+            counts.sliding_runs += 1;
+            counts.slides += slides as u64;
+            counts.bare_after_slide += u64::from(kinds.windows(2).any(|two| two == [5, 1]));
+            counts.sliding_solvable += counts.solvable - left_before.0;
+            counts.sliding_unsolvable += counts.unsolvable - left_before.1;
+            counts.sliding_plans += counts.plans_put_back - left_before.2;
+        }
+    }
+
+    /// Where the slide rule of before holds, that of now holds, and somewhere a cover.
+    fn slides_of_before(&self, state: &State, trace: &[u8], counts: &mut Counts) {
+        let lawful = |problem: &Problem, kind: usize| problem.candidates(state, kind).filter(|&step| problem.lawful(state, step)).collect();
+        let [slides, covers]: [Vec<Step>; 2] = [5, 4].map(|kind| lawful(&self.problem, kind));
+        let slides_before: Vec<Step> = lawful(&self.before, 5);
+        self.demand(slides_before.iter().all(|slide| slides.contains(slide)), "a slide that was lawful before is not", trace);
+        self.demand(slides_before.is_empty() || !covers.is_empty(), "a slide was lawful before and no cover is", trace);
+        counts.lawful_slides += slides.len() as u64;
+        counts.lawful_slides_before += slides_before.len() as u64;
     }
 
     fn no_rule_holds(&self, state: &State) -> bool {
