@@ -18,7 +18,7 @@ use zomuwedli::{Accepted, End, Record, Refusal, Unlawful, Written, HAND_STATE_LE
 const SEED: u64 = 20_260_917;
 
 /// How many cases each part has; a case of sheets compares about six calls, one of the others about as many.
-const SHEETS: u64 = 104_000;
+const SHEETS: u64 = 94_000;
 const SLIDING_SHEETS: u64 = 15_000;
 const LARGE_SLIDING_SHEETS: u64 = 2_000;
 const LARGE_SHEETS: u64 = 200;
@@ -653,7 +653,7 @@ fn sheet_case(comparison: &mut Comparison, random: &mut Random) {
     every_job(comparison, random, &sheet);
 }
 
-/// The same on a sheet whose run often takes a slide. Every fourth time its run's own trace and others are put back.
+/// Read and run on a sheet whose run often takes a slide. Every tenth time its run's own trace and others are put back.
 fn sliding_case(comparison: &mut Comparison, random: &mut Random) {
     let sheet = generate::sliding_draft(random).bytes();
     sliding_calls(comparison, random, &sheet);
@@ -665,8 +665,10 @@ fn large_sliding_case(comparison: &mut Comparison, random: &mut Random) {
 }
 
 fn sliding_calls(comparison: &mut Comparison, random: &mut Random, sheet: &[u8]) {
-    every_job(comparison, random, sheet);
-    if random.chance(25) {
+    comparison.read(sheet);
+    let (problem, _) = reference::read_sheet(sheet).expect("the sheet keeps the layout");
+    counted_run(comparison, sheet, &problem);
+    if random.chance(10) {
         put_back_calls(comparison, random, sheet);
     }
 }
@@ -692,8 +694,23 @@ fn every_job(comparison: &mut Comparison, random: &mut Random, sheet: &[u8]) {
 
 /// Trace buffers exact, longer, too short by one and empty; state buffers now and then of a wrong length, which is judged first.
 fn accepted_sheet(comparison: &mut Comparison, random: &mut Random, sheet: &[u8], problem: &Problem) {
+    counted_run(comparison, sheet, problem);
     let exact = trace_length(problem);
-    let (answer, trace, _) = comparison.run(sheet, exact, STATE_LENGTH);
+    if random.chance(50) {
+        comparison.run(sheet, exact + random.between(1, 40), STATE_LENGTH);
+    }
+    comparison.run(sheet, exact - 1, STATE_LENGTH);
+    comparison.run(sheet, 0, STATE_LENGTH);
+    comparison.start(sheet, HAND_STATE_LENGTH);
+    if random.chance(5) {
+        comparison.run(sheet, random.pick(&[0, exact - 1, exact]), wrong_length(random, STATE_LENGTH));
+        comparison.start(sheet, wrong_length(random, HAND_STATE_LENGTH));
+    }
+}
+
+/// A run with a trace buffer that is long enough, and what it took.
+fn counted_run(comparison: &mut Comparison, sheet: &[u8], problem: &Problem) {
+    let (answer, trace, _) = comparison.run(sheet, trace_length(problem), STATE_LENGTH);
     if let Some(Done { end, steps: count, written }) = answer {
         *comparison.counts.ends.entry(end as u8).or_default() += 1;
         let (steps, _) = reference::replay(problem, &trace[..written]).expect("a run's own trace is lawful");
@@ -704,20 +721,10 @@ fn accepted_sheet(comparison: &mut Comparison, random: &mut Random, sheet: &[u8]
         comparison.counts.long_runs += u64::from(steps.len() > 255);
         steps.iter().for_each(|(_, step)| comparison.counts.run_steps[step.kind()] += 1);
         comparison.count_slides(sheet, problem);
-        // The reference takes long for the largest sheets: every fourth of them.
-        if sheet.len() < MAX_SHEET / 4 || comparison.case % 4 == 0 {
+        // The reference takes long for the largest sheets: every eighth of them.
+        if sheet.len() < MAX_SHEET / 4 || comparison.case % 8 == 0 {
             comparison.compare_before(problem, &steps);
         }
-    }
-    if random.chance(50) {
-        comparison.run(sheet, exact + random.between(1, 40), STATE_LENGTH);
-    }
-    comparison.run(sheet, exact - 1, STATE_LENGTH);
-    comparison.run(sheet, 0, STATE_LENGTH);
-    comparison.start(sheet, HAND_STATE_LENGTH);
-    if random.chance(5) {
-        comparison.run(sheet, random.pick(&[0, exact - 1, exact]), wrong_length(random, STATE_LENGTH));
-        comparison.start(sheet, wrong_length(random, HAND_STATE_LENGTH));
     }
 }
 
