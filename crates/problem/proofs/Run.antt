@@ -147,7 +147,7 @@ module _ (spare : Bool) (P : Problem) (s : State) where
 
   -- ---- the kinds joined
 
-  pub kind-by-found : (k : ℕ) (r : Record) → nextOfKindBy spare P s k ≡ Step r → Holds r
+  kind-by-found : (k : ℕ) (r : Record) → nextOfKindBy spare P s k ≡ Step r → Holds r
   unfolding nextOfKindBy
   kind-by-found zero r e = absurd (never e)
   kind-by-found (suc zero) r e = unsupported-found r e

@@ -140,7 +140,7 @@ abbrev pub rows : List Row
 rows =
     -- A
     record { sheet = problem (2 ∷ []) unequal; claims = Runs (Snake 0 0 ∷ []) Solved ∷ [] }
-    -- B; undone first to last it would come back 0, 0. The slide spares item 0: settings 0 and 1 of item 1 cover each other nowhere else.
+    -- B; undone first to last it would come back 0, 0. The slide spares item 0, so that setting 0 of item 1 need cover setting 1 nowhere.
     ∷ record {
       sheet = problem (2 ∷ 2 ∷ []) unequal;
       claims =
