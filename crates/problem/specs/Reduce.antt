@@ -110,6 +110,7 @@ module _ (P : Problem) (s : State) where
   nextNeighbourhood = first (P .n) (λ i. first (P .size i) (λ b. first (P .size i) (λ a. stepIf (neighbourhood P s i b a) (Neighbourhood i b a))))
 
 module _ (spare : Bool) (P : Problem) (s : State) where
+  -- the lowest slide
   unfoldable pub nextSnakeSubstitutionBy : Next
   nextSnakeSubstitutionBy =
       first (P .n) (λ i. first (P .size i) (λ b. first (P .size i) (λ a. stepIf (snakeSubstitution P s spare i b a) (SnakeSubstitution i b a))))
