@@ -13,7 +13,7 @@ use Rattle.problem.specs.Problem.{Problem, State, full, sizeSum}
 use Rattle.problem.specs.Manual.{finished, arcConsistent}
 use Rattle.problem.specs.Masks.{stateOf, masksOf, Proper}
 use Rattle.problem.specs.Reduce.{lawfulTrace, run, afterTrace, endOf}
-use Rattle.problem.specs.Extend.{solvesWhole}
+use Rattle.problem.specs.Extend.{solvesWhole, planOf}
 use Rattle.problem.specs.declared.End.{End}
 use Rattle.problem.specs.declared.End.the-variants as end·
 use Rattle.problem.specs.declared.Masks.{Masks}
@@ -28,7 +28,7 @@ use Rattle.sheet.specs.Relation.{problemOf}
 use Rattle.jobs.specs.Numbers.{endNumber}
 use Rattle.jobs.specs.Run.{runJob}
 use Rattle.jobs.specs.Hand.{handState, handFits, startJob, callJob, callsJob}
-use Rattle.jobs.specs.PutBack.{PutBackResult, planOf, planFits, putBackJob}
+use Rattle.jobs.specs.PutBack.{PutBackResult, planFits, putBackJob}
 use Rattle.jobs.specs.Trace.{traceBytes, fronted}
 use Rattle.jobs.specs.declared.Reduced.{Reduced}
 use Rattle.jobs.specs.declared.ReduceOutcome.the-variants as run·

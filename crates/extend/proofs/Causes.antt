@@ -14,7 +14,7 @@ use Rattle.bounded.proofs.Bounded.{all-iff, all-or}
 use Rattle.bounded.proofs.Causes.{cause-iff, number-iff}
 use Rattle.problem.specs.Problem.{Problem, State, full, allOther}
 use Rattle.problem.specs.Reduce.{lawful, lawfulTrace, afterTrace}
-use Rattle.problem.specs.Extend.{solves}
+use Rattle.problem.specs.Extend.{solves, planOf}
 use Rattle.problem.specs.declared.Record.{Record}
 use Rattle.problem.proofs.Reflect.{Active, Live, Allowed, Fits, full-fits, allActive-or}
 use Rattle.problem.proofs.Sound.{Solution, solves-iff}
@@ -23,7 +23,7 @@ use Rattle.sheet.specs.Bytes.{byteAt}
 use Rattle.sheet.proofs.Refusals.{sheet-number}
 use Rattle.jobs.specs.Numbers.{putBackNumber}
 use Rattle.jobs.specs.Trace.{recordBytes, traceBytes}
-use Rattle.jobs.specs.PutBack.{PutBackResult, putBackRefused, putBackDone, Checked, Lawful, Fault, checkTrace, planOf, planFits, afterCheck, putBackOver, putBackJobBy, putBackJob}
+use Rattle.jobs.specs.PutBack.{PutBackResult, putBackRefused, putBackDone, Checked, Lawful, Fault, checkTrace, planFits, afterCheck, putBackOver, putBackJobBy, putBackJob}
 use Rattle.jobs.specs.declared.Extended.{Extended}
 use Rattle.jobs.specs.declared.Extended.the-variants.{Done, Refused}
 use Rattle.jobs.specs.declared.ExtendRefusal.the-variants as refusal

@@ -11,7 +11,7 @@ use Rattle.bounded.proofs.Truth.{T-true, and-iff}
 use Rattle.bounded.proofs.Table.{getD-tab}
 use Rattle.problem.specs.Problem.{Problem, full}
 use Rattle.problem.specs.Reduce.{lawfulTrace, afterTrace, run}
-use Rattle.problem.specs.Extend.{solves, solvesWhole, undoTrace}
+use Rattle.problem.specs.Extend.{solves, solvesWhole, undoTrace, planOf}
 use Rattle.problem.specs.declared.Record.{Record}
 use Rattle.problem.proofs.Reflect.{Active, Live, Fits, full-fits}
 use Rattle.problem.proofs.Published.{Published, trace-published}
@@ -21,7 +21,7 @@ use Rattle.problem.proofs.Run.{run-lawful}
 use Rattle.sheet.specs.Sheet.{layout, variablesOf, Keeps}
 use Rattle.sheet.specs.Relation.{problemOf}
 use Rattle.jobs.specs.Trace.{traceBytes}
-use Rattle.jobs.specs.PutBack.{PutBackResult, putBackDone, Lawful, planOf, planFits, afterCheck, putBackOver, putBackJob}
+use Rattle.jobs.specs.PutBack.{PutBackResult, putBackDone, Lawful, planFits, afterCheck, putBackOver, putBackJob}
 use Rattle.jobs.specs.declared.Extended.the-variants.{Done}
 use Rattle.jobs.proofs.Opened.{variables-of, put-back-checked-over, put-back-kept}
 use Rattle.trace.proofs.Causes.{taken-iff}

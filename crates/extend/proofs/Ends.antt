@@ -12,7 +12,7 @@ use Rattle.bounded.proofs.Truth.{and-iff, or-iff, eqb-iff}
 use Rattle.bounded.proofs.Bounded.{all-iff}
 use Rattle.problem.specs.Problem.{Problem, State, full}
 use Rattle.problem.specs.Reduce.{afterTrace, run}
-use Rattle.problem.specs.Extend.{solves, solvesWhole}
+use Rattle.problem.specs.Extend.{solves, solvesWhole, planOf}
 use Rattle.problem.specs.declared.Record.{Record}
 use Rattle.problem.specs.declared.End.{End}
 use Rattle.problem.specs.declared.End.the-variants.{Impossible, Solved}
@@ -24,7 +24,7 @@ use Rattle.sheet.specs.Sheet.{layout, variablesOf, Keeps}
 use Rattle.sheet.specs.Relation.{problemOf}
 use Rattle.jobs.specs.Run.{runOver, runJob}
 use Rattle.jobs.specs.Trace.{traceBytes}
-use Rattle.jobs.specs.PutBack.{PutBackResult, planOf, planFits, putBackOver, putBackJob}
+use Rattle.jobs.specs.PutBack.{PutBackResult, planFits, putBackOver, putBackJob}
 use Rattle.jobs.specs.declared.ReduceOutcome.the-variants as reduced
 use Rattle.jobs.specs.declared.Extended.the-variants.{Done}
 use Rattle.jobs.proofs.Opened.{run-kept, put-back-kept}

@@ -7,7 +7,7 @@ use lib.ListN.{length}
 use Rattle.bounded.specs.Table.{tab}
 use Rattle.problem.specs.Problem.{Problem, State, full}
 use Rattle.problem.specs.Reduce.{afterTrace}
-use Rattle.problem.specs.Extend.{undoTrace}
+use Rattle.problem.specs.Extend.{undoTrace, planOf}
 use Rattle.problem.specs.Held.{held, RowTable}
 use Rattle.problem.specs.Masks.{stateOf, masksOf}
 use Rattle.problem.specs.declared.Masks.{Masks}
@@ -15,7 +15,7 @@ use Rattle.problem.specs.declared.Record.{Record}
 use Rattle.problem.proofs.Reflect.{Fits, full-fits}
 use Rattle.problem.proofs.Sound.{Solution}
 use Rattle.problem.proofs.Trace.{trace-fits}
-use Rattle.jobs.specs.PutBack.{Checked, Lawful as Records, planOf, planFits, checkTrace, PutBackResult, putBackRefused, putBackDone, afterCheck}
+use Rattle.jobs.specs.PutBack.{Checked, Lawful as Records, planFits, checkTrace, PutBackResult, putBackRefused, putBackDone, afterCheck}
 use Rattle.jobs.specs.declared.Extended.the-variants.{Done}
 use Rattle.jobs.specs.declared.ExtendRefusal.the-variants.{Plan}
 use Rattle.held.specs.Ready.{Ready}

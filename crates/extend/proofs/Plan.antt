@@ -10,10 +10,10 @@ use Rattle.bounded.specs.Bounded.{allBelow}
 use Rattle.bounded.proofs.Truth.{T-ext, T-dec, and-iff, or-iff, imp-iff, not-iff, eqb-iff}
 use Rattle.bounded.proofs.Bounded.{all-iff}
 use Rattle.problem.specs.Problem.{Problem, State}
-use Rattle.problem.specs.Extend.{solves}
+use Rattle.problem.specs.Extend.{solves, planOf}
 use Rattle.problem.proofs.Reflect.{Active, Live, Allowed, Fits}
 use Rattle.problem.proofs.Sound.{Solution, solves-iff}
-use Rattle.jobs.specs.PutBack.{planOf, planFits}
+use Rattle.jobs.specs.PutBack.{planFits}
 use Rattle.extend.specs.Plan.{entryFits, pairsOf}
 
 pub entry-iff : (s : State) (i v : ℕ) → T (entryFits s i v) ↔ ((Active s i → Live s i v) × ((Active s i → ⊥) → v ≡ 255))

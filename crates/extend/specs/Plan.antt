@@ -6,9 +6,9 @@ use lib.Dec.{T, eqb}
 use lib.ListN.{length}
 use Rattle.bounded.specs.Bounded.{imp, allBelow}
 use Rattle.problem.specs.Problem.{Problem, State}
+use Rattle.problem.specs.Extend.{planOf}
 use Rattle.problem.specs.Masks.{stateOf}
 use Rattle.problem.specs.declared.Masks.{Masks}
-use Rattle.jobs.specs.PutBack.{planOf}
 
 -- an active variable has a value of its domain, and one that is not active has 255
 unfoldable pub entryFits : State → ℕ → ℕ → Bool

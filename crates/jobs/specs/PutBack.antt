@@ -4,12 +4,12 @@ use mathlib.Core.Bool.{Bool, true, false, _&&_, _||_}
 use mathlib.Core.List.{List, [], _∷_}
 use Prim.Native.Nat.{ℕ, zero, suc, _+_}
 use lib.Dec.{ltb, eqb}
-use lib.ListN.{length, getD}
+use lib.ListN.{length}
 use Rattle.bounded.specs.Bounded.{allBelow}
 use Rattle.bounded.specs.Table.{tab}
 use Rattle.problem.specs.Problem.{Problem, State, full, slideSpares}
 use Rattle.problem.specs.Reduce.{lawfulBy, brokenCover, after, afterTrace}
-use Rattle.problem.specs.Extend.{solves, undoTrace}
+use Rattle.problem.specs.Extend.{solves, planOf, undoTrace}
 use Rattle.problem.specs.declared.Record.{Record}
 use Rattle.problem.specs.declared.Break.{Break}
 use Rattle.problem.specs.declared.Break.the-variants.{At, Nowhere}
@@ -82,10 +82,6 @@ abbrev pub checkTrace : Problem → List ℕ → Checked
 checkTrace = checkTraceBy slideSpares
 
 -- ---- the plan
-
--- the setting that a plan gives an item
-abbrev pub planOf : List ℕ → ℕ → ℕ
-planOf p i = getD p i 0
 
 -- 19: "an item out not 255, a setting not on, or a barred pair among items left" does not speak against the plan
 unfoldable pub planFits : Problem → State → List ℕ → Bool

@@ -3,6 +3,7 @@ use mathlib.Core.Bool.{Bool, true, false, _&&_, not}
 use mathlib.Core.List.{List, [], _∷_}
 use Prim.Native.Nat.{ℕ}
 use lib.Dec.{eqb}
+use lib.ListN.{getD}
 use Rattle.problem.specs.Problem.{Problem, State, full, allActive, allOther, lowestLive, snakeServes, triangleServes}
 use Rattle.problem.specs.Reduce.{after}
 use Rattle.problem.specs.declared.Record.{Record}
@@ -16,6 +17,10 @@ solves P s p = allActive P s (λ i. s .live i (p i) && allOther P s i (λ j. P .
 -- a plan of the full sheet
 unfoldable pub solvesWhole : Problem → (ℕ → ℕ) → Bool
 solvesWhole P p = solves P (full P) p
+
+-- the setting that a plan's bytes give an item
+abbrev pub planOf : List ℕ → ℕ → ℕ
+planOf w i = getD w i 0
 
 -- p with v at i
 unfoldable pub put : (i v : ℕ) → (ℕ → ℕ) → ℕ → ℕ

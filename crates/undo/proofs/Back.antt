@@ -10,7 +10,7 @@ use Rattle.bounded.proofs.Truth.{T-of}
 use Rattle.bounded.proofs.Table.{length-tab}
 use Rattle.problem.specs.Problem.{Problem, State}
 use Rattle.problem.specs.Reduce.{holds, lawful, after, afterTrace}
-use Rattle.problem.specs.Extend.{undo, undoTrace}
+use Rattle.problem.specs.Extend.{undo, undoTrace, planOf}
 use Rattle.problem.specs.Held.{held}
 use Rattle.problem.specs.Masks.{stateOf, masksOf}
 use Rattle.problem.specs.declared.Masks.{Masks}
@@ -18,7 +18,7 @@ use Rattle.problem.specs.declared.Record.{Record}
 use Rattle.problem.proofs.Sound.{Solution}
 use Rattle.problem.proofs.Trace.{lawful-iff}
 use Rattle.jobs.specs.Trace.{recordAt}
-use Rattle.jobs.specs.PutBack.{Checked, Lawful as Records, planOf}
+use Rattle.jobs.specs.PutBack.{Checked, Lawful as Records}
 use Rattle.jobs.specs.declared.RecordRead.the-variants as record·
 use Rattle.held.specs.Ready.{Ready}
 use Rattle.replay.specs.Walk.{checkedFrom}

@@ -15,13 +15,12 @@ use Rattle.bounded.proofs.Truth.{T-of, clash, both, eq-dec, not-iff, eqb-iff}
 use Rattle.bounded.proofs.Table.{length-tab, getD-tab}
 use Rattle.problem.specs.Problem.{Problem, State, lowestLive, snakeServes, triangleServes}
 use Rattle.problem.specs.Reduce.{holdsBy, holds, after, afterTrace, lawfulTrace}
-use Rattle.problem.specs.Extend.{put, repair, undo, undoTrace}
+use Rattle.problem.specs.Extend.{put, repair, undo, undoTrace, planOf}
 use Rattle.problem.specs.declared.Record.{Record}
 use Rattle.problem.specs.declared.Record.the-variants.{Unsupported, Snake, Triangle, Neighbourhood, SnakeSubstitution}
 use Rattle.problem.proofs.Reflect.{Active, Live, Fits, snake-iff, triangle-iff, eliminate-active, eliminate-live}
 use Rattle.problem.proofs.Sound.{Solution, put-same, put-other}
 use Rattle.problem.proofs.Trace.{after-fits, trace-undone}
-use Rattle.jobs.specs.PutBack.{planOf}
 use Rattle.undo.specs.Undone.{mended}
 
 -- ---- lists by their entries

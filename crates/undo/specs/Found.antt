@@ -6,11 +6,10 @@ use lib.Dec.{T}
 use Rattle.bounded.specs.Table.{tab}
 use Rattle.problem.specs.Problem.{Problem, State}
 use Rattle.problem.specs.Reduce.{lawful, after}
-use Rattle.problem.specs.Extend.{undo}
+use Rattle.problem.specs.Extend.{undo, planOf}
 use Rattle.problem.specs.Held.{held}
 use Rattle.problem.specs.Masks.{stateOf, masksOf}
 use Rattle.problem.specs.declared.Masks.{Masks}
-use Rattle.jobs.specs.PutBack.{planOf}
 use Rattle.jobs.specs.declared.RecordRead.{RecordRead}
 use Rattle.jobs.specs.declared.RecordRead.the-variants as record·
 use Rattle.undo.specs.Undone.{Undoable}

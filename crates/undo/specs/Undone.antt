@@ -9,13 +9,13 @@ use lib.ListN.{length}
 use Rattle.bounded.specs.Table.{tab}
 use Rattle.problem.specs.Problem.{Problem, State, lowestLive, snakeServes}
 use Rattle.problem.specs.Reduce.{lawful, after, afterTrace}
-use Rattle.problem.specs.Extend.{undoTrace}
+use Rattle.problem.specs.Extend.{undoTrace, planOf}
 use Rattle.problem.specs.Held.{held}
 use Rattle.problem.specs.Masks.{stateOf}
 use Rattle.problem.specs.declared.Masks.{Masks}
 use Rattle.problem.specs.declared.Record.{Record}
 use Rattle.problem.proofs.Sound.{Solution}
-use Rattle.jobs.specs.PutBack.{Checked, Lawful as Records, Fault as Faulty, planOf}
+use Rattle.jobs.specs.PutBack.{Checked, Lawful as Records, Fault as Faulty}
 use Rattle.replay.specs.Walk.{checkedFrom}
 
 -- w at the variable j once i has v: the format's lowest w' where w is barred with v

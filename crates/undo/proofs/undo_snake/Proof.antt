@@ -1,8 +1,8 @@
 -- `undo::undo_snake`: the others repaired, and i set. Assumes nothing.
+use Rattle.problem.specs.Extend.{planOf}
 use Rattle.problem.specs.Held.{held}
 use Rattle.problem.specs.Masks.{stateOf, sets}
 use Rattle.problem.proofs.Trace.{lawful-iff}
-use Rattle.jobs.specs.PutBack.{planOf}
 use Rattle.held.proofs.Laws.{live-value}
 use Rattle.problem.specs.declared.Record.the-variants.{Snake}
 use Rattle.undo.proofs.Undo.{snake-live, snake-left, snake-store}

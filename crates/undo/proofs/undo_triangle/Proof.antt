@@ -1,8 +1,8 @@
 -- `undo::undo_triangle`: i gets the lowest value that serves for j's. Assumes nothing.
+use Rattle.problem.specs.Extend.{planOf}
 use Rattle.problem.specs.Held.{held}
 use Rattle.problem.specs.Masks.{stateOf, sets}
 use Rattle.problem.proofs.Trace.{lawful-iff}
-use Rattle.jobs.specs.PutBack.{planOf}
 use Rattle.held.proofs.Laws.{live-value, active-32}
 use Rattle.problem.specs.declared.Record.the-variants.{Triangle}
 use Rattle.undo.proofs.Undo.{triangle-left, triangle-store}
