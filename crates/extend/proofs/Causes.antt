@@ -233,7 +233,7 @@ module _ (s t p b : List ℕ) where
   -- Putting back answers as it does for its cause and for no other.
   pub put-back-iff : (o : Extended) → ((putBackJob s t p b) .answer ≡ o) ↔ BackCause o
   unfolding putBackJobBy
-  put-back-iff = sheet-iff s _ _ (λ (y : PutBackResult). y .answer) whoseBack told (λ r. refl) (λ P. BackCauseOver P t p b) (λ P r x. x) (λ P. put-back-iff-over P t p b)
+  put-back-iff = sheet-iff s _ _ (λ (y : PutBackResult). y .answer) whoseBack told (λ r. refl) (λ P. BackCauseOver P t p b) (λ P r x. x) (λ _. put-back-iff-over _ t p b)
 
   by-number : (o : Extended) → Single (putBackNumber o) → (putBackNumber ((putBackJob s t p b) .answer) ≡ putBackNumber o) ↔ BackCause o
   by-number = number-iff ((putBackJob s t p b) .answer) BackCause put-back-iff putBackNumber numbered Single number-back

@@ -121,7 +121,7 @@ module _ (s : List ℕ) (st : ManualState) (i : ℕ) where
     -- A hand call answers as it does for its cause and for no other.
     pub called-iff : (o : CallOutcome) → ((callJob s st i) .outcome ≡ o) ↔ Cause o
     unfolding callJob
-    called-iff = sheet-iff s _ _ (λ (y : CallAnswer). y .outcome) whoseCall told (λ r. refl) (λ P. CauseOver P st i) (λ P r x. x) (λ P. called-iff-over P st i R)
+    called-iff = sheet-iff s _ _ (λ (y : CallAnswer). y .outcome) whoseCall told (λ r. refl) (λ P. CauseOver P st i) (λ P r x. x) (λ _. called-iff-over (problemOf layout s) st i R)
 
     by-number : (o : CallOutcome) → 10 ≤ callNumber o → (callNumber ((callJob s st i) .outcome) ≡ callNumber o) ↔ Cause o
     by-number = number-iff ((callJob s st i) .outcome) Cause called-iff callNumber numbered (λ k. 10 ≤ k) number-back

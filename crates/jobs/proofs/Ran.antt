@@ -70,7 +70,7 @@ module _ (s b : List ℕ) where
   -- A run answers as it does for its cause and for no other.
   pub ran-iff : (o : ReduceOutcome) → ((runJob s b) .answer .outcome ≡ o) ↔ RunCause o
   unfolding runJobBy
-  ran-iff = sheet-iff s _ _ (λ (y : RunResult). y .answer .outcome) whoseRun told (λ r. refl) (λ P. RunCauseOver P b) (λ P r x. x) (λ P. ran-iff-over P b)
+  ran-iff = sheet-iff s _ _ (λ (y : RunResult). y .answer .outcome) whoseRun told (λ r. refl) (λ P. RunCauseOver P b) (λ P r x. x) (λ _. ran-iff-over (problemOf layout s) b)
 
   number-back : (o : ReduceOutcome) → 10 ≤ runNumber o → Refused refusal.Buffer ≡ o
   number-back (Done e k w) h = absurd (omega arith)

@@ -28,20 +28,20 @@ abbrev pub Told : {O : Type 0} → (SheetRefusal → O) → Whose → O → Type
 Told refused (Sheets r) o = o ≡ refused r
 Told refused Own o = Unit {0}
 
--- a job, with the answer `out` in what it leaves; over a problem each answer has its cause `Over`, which no refusal of a sheet has
+-- a job, with the answer `out` in what it leaves; over the sheet's problem each answer has its cause `Over`, which no refusal of a sheet has
 module _ {A O : Type 0} (s : List ℕ) (refused : SheetRefusal → A) (over : Problem → A) (out : A → O) (whose : O → Whose) where
   module _
       (told : (o : O) → Told (λ r. out (refused r)) (whose o) o)
       (sheets : (r : SheetRefusal) → whose (out (refused r)) ≡ Sheets r)
       (Over : Problem → O → Type 0)
       (none : (P : Problem) (r : SheetRefusal) → Over P (out (refused r)) → ⊥)
-      (over-iff : (P : Problem) (o : O) → (out (over P) ≡ o) ↔ Over P o) where
+      (over-iff : Keeps layout s → (o : O) → (out (over (problemOf layout s)) ≡ o) ↔ Over (problemOf layout s) o) where
     cause-answers : (o : O) → SheetCause s (whose o) (λ P. Over P o) → out (withSheet s refused over) ≡ o
     cause-answers o = go (whose o) (told o)
       where
         go : (w : Whose) → Told (λ r. out (refused r)) w o → SheetCause s w (λ P. Over P o) → out (withSheet s refused over) ≡ o
         go (Sheets r) q e = ap out (sheet-refused s refused over r e) ∙ sym q
-        go Own q (K, x) = ap out (sheet-kept s refused over K) ∙ over-iff (problemOf layout s) o .1 x
+        go Own q (K, x) = ap out (sheet-kept s refused over K) ∙ over-iff K o .1 x
 
     some-cause : (o : O) × SheetCause s (whose o) (λ P. Over P o)
     some-cause = by-sheet (sheet-or s)
@@ -52,7 +52,7 @@ module _ {A O : Type 0} (s : List ℕ) (refused : SheetRefusal → A) (over : Pr
 
         by-sheet : ((r : SheetRefusal) × (readSheet layout s ≡ read.Refused r)) ⊎ Keeps layout s → (o : O) × SheetCause s (whose o) (λ P. Over P o)
         by-sheet (inl (r, e)) = (out (refused r), subst (λ (w : Whose). SheetCause s w (λ P. Over P (out (refused r)))) (sym (sheets r)) e)
-        by-sheet (inr K) = let o = out (over (problemOf layout s)) in (o, own K o (over-iff (problemOf layout s) o .0 refl) (whose o) (told o))
+        by-sheet (inr K) = let o = out (over (problemOf layout s)) in (o, own K o (over-iff K o .0 refl) (whose o) (told o))
 
     -- each answer over a sheet has its cause and no other
     pub sheet-iff : (o : O) → (out (withSheet s refused over) ≡ o) ↔ SheetCause s (whose o) (λ P. Over P o)
