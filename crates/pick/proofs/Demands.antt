@@ -1,0 +1,137 @@
+-- What picking comes to, over the definitions that its contracts cite: the plan that is picked, what "none" says, and that the rest is the
+-- run's. Assumes nothing.
+use mathlib.Core.Path.{_≡_, refl, sym, ap, _∙_, subst}
+use mathlib.Core.Bool.{Bool, true, false, cond}
+use mathlib.Core.List.{List}
+use mathlib.Core.Logic.{_↔_}
+use Prim.Native.Nat.{ℕ, _+_, _*_, _≤_}
+use native.Mathlib.Omega.{arith}
+use lib.Dec.{T}
+use lib.ListN.{length, take, drop}
+use lib.Seq.{take-append-seam}
+use Rattle.bounded.proofs.Truth.{T-true, T-false}
+use Rattle.problem.specs.Problem.{Problem, full, sizeSum}
+use Rattle.problem.specs.Reduce.{run, afterTrace}
+use Rattle.problem.specs.Extend.{solves, solvesWhole, planOf}
+use Rattle.problem.specs.declared.End.{End}
+use Rattle.sheet.specs.Sheet.{layout, Keeps}
+use Rattle.sheet.specs.Relation.{problemOf}
+use Rattle.sheet.proofs.Accepted.{problem-bounded}
+use Rattle.jobs.specs.Trace.{traceBytes}
+use Rattle.jobs.specs.Run.{RunResult, runDoneBy, runJob}
+use Rattle.jobs.specs.PutBack.{PutBackResult, planFits, putBackOver, putBackJob}
+use Rattle.jobs.specs.declared.Extended.the-variants.{Done}
+use Rattle.jobs.specs.declared.ReduceOutcome.the-variants as reduced
+use Rattle.jobs.proofs.Opened.{run-accepted, put-back-kept}
+use Rattle.first_plan.specs.First.{NotAfter}
+use Rattle.extend.proofs.Demands.{put-back-accepted-over, put-back-plan}
+use Rattle.pick.specs.Pick.{leftBy, firstLeft, leftPlan, PickResult, outcomeOf, planLeft, pickDone, pickJob}
+use Rattle.pick.specs.declared.PickOutcome.{PickOutcome}
+use Rattle.pick.specs.declared.PickOutcome.the-variants.{Plan, None, Refused}
+use Rattle.pick.proofs.Left.{HasPlan, found-iff, left-plan, left-least, left-back}
+use Rattle.pick.proofs.Causes.{pick-accepted-over, pick-kept, pick-iff, RunsOwn}
+
+-- ---- the buffers where picking is done
+
+module _ (P : Problem) (b p : List ℕ) where
+  trace-front : (w : ℕ) → w ≡ length (traceBytes (run P (full P))) → take w ((pickDone P b p) .trace) ≡ traceBytes (run P (full P))
+  unfolding pickDone
+  trace-front w e = rw e (take-append-seam (traceBytes (run P (full P))) (drop (length (traceBytes (run P (full P)))) b))
+
+  plan-with : (firstLeft P) .ok ≡ true → (pickDone P b p) .plan ≡ (putBackOver P (traceBytes (run P (full P))) (leftPlan P) p) .result
+  unfolding pickDone planLeft
+  plan-with e = rw e
+
+  plan-without : (firstLeft P) .ok ≡ false → (pickDone P b p) .plan ≡ p
+  unfolding pickDone planLeft
+  plan-without e = rw e
+
+module _ (s b p : List ℕ) where
+  abbrev problem : Problem
+  problem = problemOf layout s
+
+  -- what picking answers and leaves
+  abbrev picked : PickResult
+  picked = pickJob s b p
+
+  -- picking is not refused where the sheet keeps the layout and both buffers have the lengths that are asked for
+  pub record Accepted : Type 0 where
+    pub keeps : Keeps layout s
+    pub room : 1 + 5 * sizeSum problem ≤ length b
+    pub sized : length p ≡ problem .n
+
+  done : Accepted → picked ≡ pickDone problem b p
+  done A = pick-kept s b p (A .keeps) ∙ pick-accepted-over problem b p (A .room) (A .sized)
+
+  -- a plan or none is answered there only, and with the run's own
+  answers : (y : Bool) (e : End) (k w : ℕ) → picked .answer .outcome ≡ outcomeOf y e k w → Accepted × RunsOwn problem b p e k w
+  answers true e k w o = let x = pick-iff s b p (Plan e k w) .0 o in (record { keeps = x .0; room = x .1 .0 .0; sized = x .1 .0 .1 }, x .1 .1 .0)
+  answers false e k w o = let x = pick-iff s b p (None e k w) .0 o in (record { keeps = x .0; room = x .1 .0 .0; sized = x .1 .0 .1 }, x .1 .1 .0)
+
+  -- ---- the run's own
+
+  -- "In either case the trace holds the run's trace, and the answer carries the run's own": y tells whether it is a plan or none
+  pub record RunsAnswer (e : End) (k w : ℕ) : Type 0 where
+    pub trace : picked .trace ≡ (runJob s b) .buffer
+    pub answer : (runJob s b) .answer ≡ record { outcome = reduced.Done e k w; state = picked .answer .state }
+
+  pub pick-run : (y : Bool) (e : End) (k w : ℕ) → picked .answer .outcome ≡ outcomeOf y e k w → RunsAnswer e k w
+  unfolding pickDone runDoneBy leftBy
+  pick-run y e k w o =
+      let x = answers y e k w o in
+      let A = x .0 in
+      let r = run-accepted s b (A .keeps) (A .room) in
+      record {
+        trace = ap (λ (z : PickResult). z .trace) (done A) ∙ sym (ap (λ (z : RunResult). z .buffer) r);
+        answer =
+          ap (λ (z : RunResult). z .answer) r
+          ∙ (λ i. record { outcome = reduced.Done (sym (x .1 .0) i) (sym (x .1 .1 .0) i) (sym (x .1 .1 .1) i); state = ap (λ (z : PickResult). z .answer .state) (sym (done A)) i });
+      }
+
+  -- ---- a plan
+
+  -- w are the bytes of the run's trace
+  pub record PlanPicked (w : ℕ) : Type 0 where
+    -- a plan of what the run left, a byte for each item and 255 at the items out; and no plan of what the run left comes before it,
+    -- "lowest item first, lowest setting first"
+    pub first : List ℕ
+    pub fits : T (planFits problem (leftBy problem) first)
+    pub least : (q : ℕ → ℕ) → T (solves problem (leftBy problem) q) → NotAfter (leftBy problem) (planOf first) q
+    -- "puts the first plan in that order back into the lent plan": by the run's own trace
+    pub back : putBackJob s (take w (picked .trace)) first p ≡ record { answer = Done; result = picked .plan }
+    -- that is a plan of the full sheet
+    pub whole : T (solvesWhole problem (planOf (picked .plan)))
+
+  pub pick-plan : (e : End) (k w : ℕ) → picked .answer .outcome ≡ Plan e k w → PlanPicked w
+  pick-plan e k w o =
+      let x = answers true e k w o in
+      let A = x .0 in
+      let B = problem-bounded s (A .keeps) in
+      let ok = T-true ((firstLeft problem) .ok) (found-iff problem B .1 (pick-iff s b p (Plan e k w) .0 o .1 .1 .1)) in
+      let t = traceBytes (run problem (full problem)) in
+      let q : picked .plan ≡ (putBackOver problem t (leftPlan problem) p) .result = ap (λ (z : PickResult). z .plan) (done A) ∙ plan-with problem b p ok in
+      let f : take w (picked .trace) ≡ t = ap (λ (z : PickResult). take w (z .trace)) (done A) ∙ trace-front problem b p w (x .1 .1 .1) in
+      let d = left-back problem B ok p (A .sized) in
+      let back : putBackOver problem t (leftPlan problem) p ≡ record { answer = Done; result = picked .plan } = d ∙ (λ i. record { answer = Done; result = (ap (λ (z : PutBackResult). z .result) (sym d) ∙ sym q) i }) in
+      record {
+        first = leftPlan problem;
+        fits = left-plan problem B ok;
+        least = left-least problem B ok;
+        back = ap (λ (z : List ℕ). putBackJob s z (leftPlan problem) p) f ∙ put-back-kept s t (leftPlan problem) p (A .keeps) ∙ back;
+        whole = subst (λ (z : List ℕ). T (solvesWhole problem (planOf z))) (sym q) (put-back-plan problem t (leftPlan problem) _ (put-back-accepted-over problem t (leftPlan problem) p (ap (λ (z : PutBackResult). z .answer) back) .2));
+      }
+
+  -- ---- none
+
+  -- "It says "none" exactly when no choice of settings at all is a plan of the full sheet, and then leaves the lent plan untouched."
+  pub none-iff : Accepted → ((e : End) × (k : ℕ) × (w : ℕ) × (picked .answer .outcome ≡ None e k w)) ↔ ((q : ℕ → ℕ) → T (solvesWhole problem q) → ⊥)
+  none-iff A = (
+    λ (e, k, w, o) q t. pick-iff s b p (None e k w) .0 o .1 .1 .1 (q, t),
+    λ h. (_, _, _, pick-iff s b p (None _ _ _) .1 (A .keeps, ((A .room, A .sized), ((refl, (refl, refl)), λ (q, t). h q t)))),
+  )
+
+  pub none-keeps : (e : End) (k w : ℕ) → picked .answer .outcome ≡ None e k w → picked .plan ≡ p
+  none-keeps e k w o =
+      let A = answers false e k w o .0 in
+      let h = pick-iff s b p (None e k w) .0 o .1 .1 .1 in
+      ap (λ (z : PickResult). z .plan) (done A) ∙ plan-without problem b p (T-false ((firstLeft problem) .ok) (λ t. h (found-iff problem (problem-bounded s (A .keeps)) .0 t)))
