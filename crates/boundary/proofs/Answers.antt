@@ -72,7 +72,7 @@ extend-listed (extend.Unlawful k l c) = (omega arith, omega arith)
 extend-listed extend.Plan = (omega arith, omega arith)
 
 -- an end's number fits its bits
-end-small : (e : End) → endNumber e < 256
+pub end-small : (e : End) → endNumber e < 256
 end-small end.Impossible = omega arith
 end-small end.Solved = omega arith
 end-small end.Rest = omega arith

@@ -84,8 +84,8 @@ module _ (s b p : List ℕ) where
       record {
         trace = ap (λ (z : PickResult). z .trace) (done A) ∙ sym (ap (λ (z : RunResult). z .buffer) r);
         answer =
-          ap (λ (z : RunResult). z .answer) r
-          ∙ (λ i. record { outcome = reduced.Done (sym (x .1 .0) i) (sym (x .1 .1 .0) i) (sym (x .1 .1 .1) i); state = ap (λ (z : PickResult). z .answer .state) (sym (done A)) i });
+            ap (λ (z : RunResult). z .answer) r
+            ∙ (λ i. record { outcome = reduced.Done (sym (x .1 .0) i) (sym (x .1 .1 .0) i) (sym (x .1 .1 .1) i); state = ap (λ (z : PickResult). z .answer .state) (sym (done A)) i });
       }
 
   -- ---- a plan
@@ -123,10 +123,14 @@ module _ (s b p : List ℕ) where
 
   -- ---- none
 
+  -- where it says "none", no choice of settings at all is a plan of the full sheet
+  pub none-says : (e : End) (k w : ℕ) → picked .answer .outcome ≡ None e k w → (q : ℕ → ℕ) → T (solvesWhole problem q) → ⊥
+  none-says e k w o q t = pick-iff s b p (None e k w) .0 o .1 .1 .1 (q, t)
+
   -- "It says "none" exactly when no choice of settings at all is a plan of the full sheet, and then leaves the lent plan untouched."
   pub none-iff : Accepted → ((e : End) × (k : ℕ) × (w : ℕ) × (picked .answer .outcome ≡ None e k w)) ↔ ((q : ℕ → ℕ) → T (solvesWhole problem q) → ⊥)
   none-iff A = (
-    λ (e, k, w, o) q t. pick-iff s b p (None e k w) .0 o .1 .1 .1 (q, t),
+    λ (e, k, w, o). none-says e k w o,
     λ h. (_, _, _, pick-iff s b p (None _ _ _) .1 (A .keeps, ((A .room, A .sized), ((refl, (refl, refl)), λ (q, t). h q t)))),
   )
 
