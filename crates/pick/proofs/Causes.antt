@@ -18,10 +18,9 @@ use Rattle.sheet.specs.Sheet.{layout, Keeps}
 use Rattle.sheet.specs.Relation.{problemOf}
 use Rattle.sheet.proofs.Accepted.{problem-bounded}
 use Rattle.sheet.proofs.Refusals.{sheet-number}
-use Rattle.jobs.specs.Trace.{traceBytes}
 use Rattle.jobs.proofs.Opened.{sheet-refused, sheet-kept}
 use Rattle.jobs.proofs.SheetCause.{Whose, Sheets, Own, SheetCause, Told, sheet-iff}
-use Rattle.pick.specs.Pick.{pickedNumber, leftBy, firstLeft, PickResult, pickRefused, outcomeOf, pickDone, pickOver, pickJob}
+use Rattle.pick.specs.Pick.{pickedNumber, leftBy, runTrace, firstLeft, PickResult, pickRefused, outcomeOf, pickDone, pickOver, pickJob}
 use Rattle.pick.specs.declared.PickRefusal.{PickRefusal}
 use Rattle.pick.specs.declared.PickRefusal.the-variants as refusal
 use Rattle.pick.specs.declared.PickOutcome.{PickOutcome}
@@ -53,7 +52,7 @@ module _ (P : Problem) (b p : List ℕ) where
 
   -- the end, the steps and the bytes are the run's
   abbrev pub RunsOwn : End → (k w : ℕ) → Type 0
-  RunsOwn e k w = (e ≡ endOf P (leftBy P)) × ((k ≡ length (run P (full P))) × (w ≡ length (traceBytes (run P (full P)))))
+  RunsOwn e k w = (e ≡ endOf P (leftBy P)) × ((k ≡ length (run P (full P))) × (w ≡ length (runTrace P)))
 
   -- Why picking over a problem answers as it does.
   abbrev pub PickCauseOver : PickOutcome → Type 0

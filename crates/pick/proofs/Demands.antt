@@ -17,7 +17,6 @@ use Rattle.problem.specs.declared.End.{End}
 use Rattle.sheet.specs.Sheet.{layout, Keeps}
 use Rattle.sheet.specs.Relation.{problemOf}
 use Rattle.sheet.proofs.Accepted.{problem-bounded}
-use Rattle.jobs.specs.Trace.{traceBytes}
 use Rattle.jobs.specs.Run.{RunResult, runDoneBy, runJob}
 use Rattle.jobs.specs.PutBack.{PutBackResult, planFits, putBackOver, putBackJob}
 use Rattle.jobs.specs.declared.Extended.the-variants.{Done}
@@ -25,7 +24,7 @@ use Rattle.jobs.specs.declared.ReduceOutcome.the-variants as reduced
 use Rattle.jobs.proofs.Opened.{run-accepted, put-back-kept}
 use Rattle.first_plan.specs.First.{NotAfter}
 use Rattle.extend.proofs.Demands.{put-back-accepted-over, put-back-plan}
-use Rattle.pick.specs.Pick.{leftBy, firstLeft, leftPlan, PickResult, outcomeOf, planLeft, pickDone, pickJob}
+use Rattle.pick.specs.Pick.{leftBy, runTrace, firstLeft, leftPlan, PickResult, outcomeOf, planLeft, pickDone, pickJob}
 use Rattle.pick.specs.declared.PickOutcome.{PickOutcome}
 use Rattle.pick.specs.declared.PickOutcome.the-variants.{Plan, None, Refused}
 use Rattle.pick.proofs.Left.{HasPlan, found-iff, left-plan, left-least, left-back}
@@ -34,11 +33,11 @@ use Rattle.pick.proofs.Causes.{pick-accepted-over, pick-kept, pick-iff,
 -- ---- the buffers where picking is done
 
 module _ (P : Problem) (b p : List ℕ) where
-  trace-front : (w : ℕ) → w ≡ length (traceBytes (run P (full P))) → take w ((pickDone P b p) .trace) ≡ traceBytes (run P (full P))
+  trace-front : (w : ℕ) → w ≡ length (runTrace P) → take w ((pickDone P b p) .trace) ≡ runTrace P
   unfolding pickDone
-  trace-front w e = rw e (take-append-seam (traceBytes (run P (full P))) (drop (length (traceBytes (run P (full P)))) b))
+  trace-front w e = rw e (take-append-seam (runTrace P) (drop (length (runTrace P)) b))
 
-  plan-with : (firstLeft P) .ok ≡ true → (pickDone P b p) .plan ≡ (putBackOver P (traceBytes (run P (full P))) (leftPlan P) p) .result
+  plan-with : (firstLeft P) .ok ≡ true → (pickDone P b p) .plan ≡ (putBackOver P (runTrace P) (leftPlan P) p) .result
   unfolding pickDone planLeft
   plan-with e = rw e
 
@@ -108,7 +107,7 @@ module _ (s b p : List ℕ) where
       let A = x .0 in
       let B = problem-bounded s (A .keeps) in
       let ok = T-true ((firstLeft problem) .ok) (found-iff problem B .1 (pick-iff s b p (Plan e k w) .0 o .1 .1 .1)) in
-      let t = traceBytes (run problem (full problem)) in
+      let t = runTrace problem in
       let q : picked .plan ≡ (putBackOver problem t (leftPlan problem) p) .result = ap (λ (z : PickResult). z .plan) (done A) ∙ plan-with problem b p ok in
       let f : take w (picked .trace) ≡ t = ap (λ (z : PickResult). take w (z .trace)) (done A) ∙ trace-front problem b p w (x .1 .1 .1) in
       let d = left-back problem B ok p (A .sized) in

@@ -19,12 +19,11 @@ use Rattle.problem.proofs.Reflect.{Active, Live, Allowed, Fits, full-fits}
 use Rattle.problem.proofs.Sound.{Solution, solves-iff, solvesWhole-iff}
 use Rattle.problem.proofs.Trace.{trace-fits, trace-solvable}
 use Rattle.problem.proofs.Run.{run-lawful}
-use Rattle.jobs.specs.Trace.{traceBytes}
 use Rattle.jobs.specs.PutBack.{planFits, putBackDone, putBackOver}
 use Rattle.first_plan.specs.First.{NotAfter}
 use Rattle.first_plan.proofs.Meaning.{first-is-plan, first-is-least, first-iff, first-keeps, first-long}
 use Rattle.extend.proofs.Demands.{run-put-back-over}
-use Rattle.pick.specs.Pick.{leftBy, blank, firstLeft, leftPlan}
+use Rattle.pick.specs.Pick.{leftBy, runTrace, blank, firstLeft, leftPlan}
 
 -- some choice of settings at all is a plan of the full sheet
 abbrev pub HasPlan : Problem → Type 0
@@ -96,6 +95,6 @@ module _ (P : Problem) (B : Bounded P) where
     left-least q t = not-after-as (leftBy P) at-active q (first-is-least (left-fits P) blank (B .few) q (solves-iff (left-fits P) q .0 t))
 
     -- putting back takes it, with the run's own trace
-    pub left-back : (p : List ℕ) → length p ≡ P .n → putBackOver P (traceBytes (run P (full P))) (leftPlan P) p ≡ putBackDone P (run P (full P)) (leftPlan P)
+    pub left-back : (p : List ℕ) → length p ≡ P .n → putBackOver P (runTrace P) (leftPlan P) p ≡ putBackDone P (run P (full P)) (leftPlan P)
     unfolding leftBy
     left-back p l = run-put-back-over P (leftPlan P) p left-long l left-plan

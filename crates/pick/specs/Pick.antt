@@ -40,6 +40,10 @@ pickedNumber (Refused r) = pickNumber r
 unfoldable pub leftBy : Problem → State
 leftBy P = afterTrace P (full P) (run P (full P))
 
+-- the bytes of the run's trace
+abbrev pub runTrace : Problem → List ℕ
+runTrace P = traceBytes (run P (full P))
+
 -- 255 for each item: none has a setting yet
 abbrev pub blank : List ℕ
 blank = replicate 32 255
@@ -71,15 +75,15 @@ outcomeOf false = None
 
 -- The first plan of what is left is put back into the lent plan p by the run's own trace; where there is none, p stays as it was.
 unfoldable pub planLeft : Problem → List ℕ → List ℕ
-planLeft P p = cond ((firstLeft P) .ok) ((putBackOver P (traceBytes (run P (full P))) (leftPlan P) p) .result) p
+planLeft P p = cond ((firstLeft P) .ok) ((putBackOver P (runTrace P) (leftPlan P) p) .result) p
 
 -- "In either case the trace holds the run's trace, and the answer carries the run's own: the end, the number of steps, the bytes written and
 -- the last state."
 unfoldable pub pickDone : Problem → (b p : List ℕ) → PickResult
 pickDone P b p =
     record {
-      answer = record { outcome = outcomeOf ((firstLeft P) .ok) (endOf P (leftBy P)) (length (run P (full P))) (length (traceBytes (run P (full P)))); state = masksOf (leftBy P) };
-      trace = fronted (traceBytes (run P (full P))) b;
+      answer = record { outcome = outcomeOf ((firstLeft P) .ok) (endOf P (leftBy P)) (length (run P (full P))) (length (runTrace P)); state = masksOf (leftBy P) };
+      trace = fronted (runTrace P) b;
       plan = planLeft P p;
     }
 

@@ -50,7 +50,7 @@ fn write_version(b: &mut [u8])
 }
 
 // The run over a filled table, its trace at the front of a buffer with room for the longest. Each step uses up a value, so it ends.
-fn run_table(t: &[u16], b: &mut [u8]) -> Reduced
+pub fn run_table(t: &[u16], b: &mut [u8]) -> Reduced
     requires { ⌜ RowTable (now t) × (1 + 5 * sizeSum (held (now t)) ≤ length (now b)) ⌝ }
     ensures { λ r. ⌜ (r ≡ (runDone (held (now (t .entry))) (now (b .entry))) .answer) × (now (b .exit) ≡ (runDone (held (now (t .entry))) (now (b .entry))) .buffer) ⌝ }
 {
