@@ -2,6 +2,7 @@ pub mod Truth
 pub mod Bounded
 pub mod Loops
 pub mod Mask
+pub mod Members
 pub mod Table
 pub mod Guard
 pub mod Causes

@@ -44,6 +44,13 @@ pub fn lowest16(x: u16) -> usize
     u16::trailing_zeros(x) as usize
 }
 
+// The lowest member of a set of 32; 32 where it has none.
+pub fn lowest32(x: u32) -> usize
+    ensures { λ r. ⌜ r ≡ lowest 32 (bit x) ⌝ }
+{
+    u32::trailing_zeros(x) as usize
+}
+
 // 2 to the power z.
 pub fn power(z: usize) -> usize
     requires { ⌜ z ≤ 32 ⌝ }

@@ -19,7 +19,7 @@ use Rattle.first_plan.specs.declared.Found.{Found}
 
 -- ---- the first of several answers
 
-or-yes : (r s : Found) → r .ok ≡ true → orElse r s ≡ r
+pub or-yes : (r s : Found) → r .ok ≡ true → orElse r s ≡ r
 unfolding orElse
 or-yes r s k = ap (λ (b : Bool). cond b r s) k
 

@@ -1,8 +1,285 @@
 // The first plan of a state, lowest variable first and lowest value first. The order fixes the answer and not the work: on its way down the
 // search keeps the values that are left, and turns back where a variable has none.
+ghost use mathlib.Core.Path.{_≡_};
+ghost use mathlib.Core.Bool.{true};
+ghost use mathlib.Core.Logic.{_≢_};
+ghost use Prim.Native.Nat.{_<_};
+ghost use Rattle.bounded.specs.Mask.{bit};
+ghost use Rattle.problem.specs.Problem.{remove as removed};
+ghost use Rattle.problem.specs.Held.{held, RowTable};
+ghost use Rattle.problem.specs.Masks.{stateOf, masksOf, sets};
+ghost use Rattle.problem.proofs.Reflect.{Live};
+ghost use Rattle.held.specs.Ready.{Ready};
+ghost use Rattle.first_plan.specs.First.{firstPlan};
+ghost use Rattle.first_plan.specs.Steps.{choose as chosen, Next, Supported, Sweeps, Opens};
+use bounded::lowest16;
+use bounded::lowest32;
+use bounded::without16;
+use bounded::without32;
+use held::row;
+use problem::Masks;
 
 // Whether there is a plan, and the plan.
 pub struct Found {
     pub ok: bool,
     pub plan: [u8; 32],
+}
+
+// A state to go on with; where it is not open it has no solution.
+struct Opened {
+    pub open: bool,
+    pub masks: Masks,
+}
+
+// A choice made, and the variables that lost values.
+struct Choice {
+    pub changed: u32,
+    pub masks: Masks,
+}
+
+// The variables that lost values, and whether one has none left.
+struct Swept {
+    pub dead: bool,
+    pub changed: u32,
+}
+
+// The set x, without j where b holds.
+fn without_if(x: u32, b: bool, j: usize) -> u32
+    requires { ⌜ j < 32 ⌝ }
+{
+    if b { without32(x, j) } else { x }
+}
+
+// ---- pairs that bar something
+
+// Some value of the set x of i bars some value of the set y of j.
+fn bars(t: &[u16], x: u16, y: u16, i: usize, j: usize) -> bool
+    requires { ⌜ RowTable (now t) × (i < 32) × (j < 32) × (j ≢ i) ⌝ }
+{
+    let mut rest = x;
+    while rest != 0 {
+        let a = lowest16(rest);
+        rest = without16(rest, a);
+        if y & row(t, i, j, a) != y {
+            return true;
+        }
+    }
+    false
+}
+
+// The active variables that bar something with i.
+fn neighbours_of(t: &[u16], active: u32, on: &[u16; 32], i: usize) -> u32
+    requires { ⌜ RowTable (now t) × (i < 32) ⌝ }
+{
+    let mut rest = without32(active, i);
+    let mut near = rest;
+    while rest != 0 {
+        let j = lowest32(rest);
+        rest = without32(rest, j);
+        near = without_if(near, !bars(t, on[i], on[j], i, j), j);
+    }
+    near
+}
+
+// The same for every variable. It says only where looking for supports is worth it, so nothing is promised of it.
+fn neighbours(t: &[u16], active: u32, on: &[u16; 32]) -> [u32; 32]
+    requires { ⌜ RowTable (now t) ⌝ }
+{
+    let mut near = [0u32; 32];
+    let mut i: usize = 0;
+    while i < 32 {
+        near[i] = neighbours_of(t, active, on, i);
+        i += 1;
+    }
+    near
+}
+
+// ---- a choice made
+
+// Variable i has v: it is active no more, and every other domain loses what is barred with v.
+fn choose(t: &[u16], m: Masks, i: usize, v: usize) -> Choice
+    requires { ⌜ Ready (now t) m × Live (stateOf m) i v ⌝ }
+    ensures { λ r. ⌜ r .masks ≡ masksOf (chosen (held (now (t .entry))) (stateOf m) i v) ⌝ }
+{
+    let active = without32(m.active, i);
+    let mut on = m.domains;
+    on[i] = 0;
+    let mut rest = active;
+    let mut changed = active;
+    while rest != 0 {
+        let j = lowest32(rest);
+        rest = without32(rest, j);
+        let was = m.domains[j];
+        let left = was & row(t, i, j, v);
+        on[j] = left;
+        changed = without_if(changed, left == was, j);
+    }
+    let masks = Masks {
+        active,
+        domains: on,
+    };
+    Choice { changed, masks }
+}
+
+// ---- values that no solution has
+
+// Of the values `was` of j, those with a support in the domain of i. It stops where all have one.
+fn supported(t: &[u16], was: u16, domain: u16, i: usize, j: usize) -> u16
+    requires { ⌜ RowTable (now t) × (i < 32) × (j < 32) × (j ≢ i) ⌝ }
+    ensures { λ r. ⌜ Supported (held (now (t .entry))) was domain i j r ⌝ }
+{
+    let mut x: u16 = 0;
+    let mut rest = domain;
+    while rest != 0 {
+        let a = lowest16(rest);
+        rest = without16(rest, a);
+        x = x | row(t, i, j, a);
+        if was & x == was {
+            return was;
+        }
+    }
+    was & x
+}
+
+// At every variable of `near`, the values without a support at i go off, until a domain is empty.
+fn spread(t: &[u16], near: u32, active: u32, on: &mut [u16; 32], i: usize) -> Swept
+    requires { ⌜ Ready (now t) (sets active (now on)) × (i < 32) × (bit active i ≡ true) ⌝ }
+    ensures { λ r. ⌜ Sweeps (now (t .entry)) active (now (on .entry)) r (now (on .exit)) ⌝ }
+{
+    let domain = on[i];
+    let mut rest = without32(near & active, i);
+    let mut changed = rest;
+    if domain == 0 {
+        return Swept {
+            dead: true,
+            changed,
+        };
+    }
+    while rest != 0 {
+        let j = lowest32(rest);
+        rest = without32(rest, j);
+        let was = on[j];
+        let left = supported(t, was, domain, i, j);
+        on[j] = left;
+        if left == 0 {
+            return Swept {
+                dead: true,
+                changed,
+            };
+        }
+        changed = without_if(changed, left == was, j);
+    }
+    Swept {
+        dead: false,
+        changed,
+    }
+}
+
+// From the variables `first` on, values without a support go off, and from those that lost any, again. Each turn but the first 32 follows
+// from a value that went off, so 1024 are enough; nothing rests on that.
+fn narrow(t: &[u16], near: &[u32; 32], m: Masks, first: u32) -> Opened
+    requires { ⌜ Ready (now t) m ⌝ }
+    ensures { λ r. ⌜ Opens (now (t .entry)) (stateOf m) r ⌝ }
+{
+    let active = m.active;
+    let mut on = m.domains;
+    let mut todo = first & active;
+    let mut turns: usize = 1024;
+    while todo != 0 {
+        let i = lowest32(todo);
+        let s = spread(t, near[i], active, &mut on, i);
+        if s.dead | (turns == 0) {
+            let masks = Masks {
+                active,
+                domains: on,
+            };
+            return Opened {
+                open: !s.dead,
+                masks,
+            };
+        }
+        todo = (without32(todo, i) | s.changed) & active;
+        turns -= 1;
+    }
+    let masks = Masks {
+        active,
+        domains: on,
+    };
+    Opened { open: true, masks }
+}
+
+// ---- the two ways at a value
+
+// Variable i has v.
+fn attempt(t: &[u16], near: &[u32; 32], m: Masks, i: usize, v: usize) -> Opened
+    requires { ⌜ Ready (now t) m × Live (stateOf m) i v ⌝ }
+    ensures { λ r. ⌜ Opens (now (t .entry)) (chosen (held (now (t .entry))) (stateOf m) i v) r ⌝ }
+{
+    let c = choose(t, m, i, v);
+    let masks = c.masks;
+    narrow(t, near, masks, c.changed)
+}
+
+// Variable i has another value than v.
+fn refute(t: &[u16], near: &[u32; 32], m: Masks, i: usize, v: usize) -> Opened
+    requires { ⌜ Ready (now t) m × (i < 32) × (v < 16) ⌝ }
+    ensures { λ r. ⌜ Opens (now (t .entry)) (removed (held (now (t .entry))) (stateOf m) i v) r ⌝ }
+{
+    narrow(t, near, steps::remove(t, m, i, v), 1u32 << i)
+}
+
+// ---- the search
+
+// The first plan: the next variable, and its values.
+fn pick(t: &[u16], near: &[u32; 32], m: Masks, plan: [u8; 32]) -> Found
+    requires { ⌜ Ready (now t) m ⌝ }
+    ensures { λ r. ⌜ r ≡ firstPlan (held (now (t .entry))) (stateOf m) plan ⌝ }
+{
+    let i = lowest32(m.active);
+    if 32 <= i {
+        return Found { ok: true, plan };
+    }
+    tries(t, near, m, plan, i)
+}
+
+// The same where the next variable is i: the lowest value left of it with the variables after i, or else the values after that one.
+fn tries(t: &[u16], near: &[u32; 32], m: Masks, plan: [u8; 32], i: usize) -> Found
+    requires { ⌜ Ready (now t) m × Next m i ⌝ }
+    ensures { λ r. ⌜ r ≡ firstPlan (held (now (t .entry))) (stateOf m) plan ⌝ }
+{
+    let domain = m.domains[i];
+    if domain == 0 {
+        return Found { ok: false, plan };
+    }
+    let v = lowest16(domain);
+    let o = attempt(t, near, m, i, v);
+    if o.open {
+        let mut next = plan;
+        next[i] = v as u8;
+        let left = o.masks;
+        let r = pick(t, near, left, next);
+        if r.ok {
+            return r;
+        }
+    }
+    let rest = refute(t, near, m, i, v);
+    if !rest.open {
+        return Found { ok: false, plan };
+    }
+    let left = rest.masks;
+    tries(t, near, left, plan, i)
+}
+
+// The first plan of a state, or none. Items out keep what `plan` says of them, and all items do where there is none.
+pub fn first_plan(t: &[u16], m: Masks, plan: [u8; 32]) -> Found
+    requires { ⌜ Ready (now t) m ⌝ }
+    ensures { λ r. ⌜ r ≡ firstPlan (held (now (t .entry))) (stateOf m) plan ⌝ }
+{
+    let near = neighbours(t, m.active, &m.domains);
+    let o = narrow(t, &near, m, m.active);
+    if !o.open {
+        return Found { ok: false, plan };
+    }
+    let left = o.masks;
+    pick(t, &near, left, plan)
 }

@@ -1,0 +1,26 @@
+-- `first_plan::first_plan`. Assumes nothing.
+use mathlib.Core.Path.{sym, _∙_}
+use borrow.Author.Needs.{needs}
+use borrow.Author.Tests.{not-true}
+use Rattle.first_plan.proofs.Branches.{opened-first, closed-first}
+use Rattle.first_plan.proofs.first_plan.Statement.{statement}
+use Rattle.first_plan.proofs.first_plan.Tie as tie
+
+neighbours-requires : tie.Need-neighbours-requires
+neighbours-requires c κs = search needs
+
+narrow-requires : tie.Need-narrow-requires
+narrow-requires c κs = search needs
+
+returns : tie.Need-returns
+returns c = closed-first (c .before .before .before .before .before .before .before .before .pre .fits) (c .before .before .narrow .ensures) (not-true _ (c .if1 .taken)) _
+
+pick-requires : tie.Need-pick-requires
+pick-requires c κs = c .before .before .before .before .narrow .ensures .narrowed .ready
+
+returns-2 : tie.Need-returns-2
+returns-2 c = c .pick .ensures ∙ sym (opened-first (c .before .before .before .before .before .before .before .before .before .before .before .pre .fits) (c .before .before .before .before .before .narrow .ensures) _)
+
+pub first-plan-spec : {M : Type 1} → statement M
+first-plan-spec =
+    tie.close (tie.spec neighbours-requires narrow-requires returns pick-requires returns-2)
