@@ -10,6 +10,7 @@ use super::generate::{self, Draft, Graph, Random};
 pub const CORPUS: usize = 200;
 
 /// One sheet of the corpus.
+#[derive(Clone)]
 pub struct Entry {
     pub name: String,
     pub family: &'static str,
