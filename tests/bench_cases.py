@@ -434,15 +434,14 @@ def plans(P, st):
 
 
 def pick_job(s, buffer, plan):
-    got = read(s)
-    if isinstance(got, int):
-        return f"refused {got} {buffer.hex()} {plan.hex()}"
+    """The run's answer, with another word, and the plan behind it."""
+    word, ran = run_job(s, buffer).split(" ", 1)
+    if word == "refused":
+        return f"{word} {ran} {plan.hex()}"
     P = Problem(s)
-    if len(buffer) < 1 + 5 * sum(P.sizes):
-        return f"refused 10 {buffer.hex()} {plan.hex()}"
     if len(plan) != P.n:
         return f"refused 20 {buffer.hex()} {plan.hex()}"
-    trace, st, end = run(P)
+    trace, st, _ = run(P)
     first = next(plans(P, st), None)
     if first is not None:
         states = [P.full()]
@@ -451,9 +450,7 @@ def pick_job(s, buffer, plan):
         plan = undone(P, list(zip(states, trace)), first)
     # "none" speaks of the full sheet
     assert (first is None) == (next(plans(P, P.full()), None) is None)
-    w = trace_bytes(trace)
-    word = "none" if first is None else "plan"
-    return f"{word} {end} {len(trace)} {len(w)} {state_bytes(st).hex()} {(w + buffer[len(w):]).hex()} {plan.hex()}"
+    return f"{'none' if first is None else 'plan'} {ran} {plan.hex()}"
 
 
 # ---- the run
