@@ -22,7 +22,7 @@ struct sheet {
 
 static struct sheet no_block = {.name = "no block"}, unequal = {.name = "unequal"}, less = {.name = "less"},
                     parity = {.name = "unlike parity"}, equal = {.name = "equal"}, sliding = {.name = "slides"},
-                    circle = {.name = "unlike parity round a circle"}, deep = {.name = "a deep search"};
+                    one = {.name = "one plan"}, circle = {.name = "unlike parity round a circle"}, deep = {.name = "a deep search"};
 
 /* Whether setting a of item i and setting b of item j, the higher one, may stand together. */
 typedef unsigned relation(unsigned i, unsigned a, unsigned j, unsigned b);
@@ -49,6 +49,13 @@ static unsigned is_equal(unsigned i, unsigned a, unsigned j, unsigned b)
 {
     (void)i, (void)j;
     return a == b;
+}
+
+/* The run switches off every setting but the last of each item by itself, and then takes the items out: no run has more steps. */
+static unsigned is_last(unsigned i, unsigned a, unsigned j, unsigned b)
+{
+    (void)i, (void)j;
+    return a == SETTINGS - 1 && b == SETTINGS - 1;
 }
 
 /* Only neighbours in the circle of all items are linked. The run switches off all settings but two of each item, and there are plans. */
@@ -261,7 +268,7 @@ _Static_assert(ZOMUWEDLI_READ_STACK <= ZOMUWEDLI_STACK && ZOMUWEDLI_RUN_STACK <=
                    && ZOMUWEDLI_COLOUR_STACK <= ZOMUWEDLI_STACK,
                "ZOMUWEDLI_STACK is less than some call's own");
 
-enum { MOST_CALLS = 7 };
+enum { MOST_CALLS = 8 };
 
 struct job {
     const char *name;
@@ -304,7 +311,7 @@ static const struct job jobs[] = {
      prepare_put_back,
      put_back,
      {{&no_block, AND(0, 0)}, {&parity, AND(19, ITEMS * PATTERN)}, {&equal, AND(0, 0)}, {&sliding, AND(19, ITEMS * PATTERN)}}},
-    /* The last but one puts back through 448 records, the last searches deepest. */
+    /* The last three put back through 512 records, as many as there can be, put back through 448 after a search, and search deepest. */
     {"pick",
      ZOMUWEDLI_PICK_STACK,
      prepare_pick,
@@ -314,6 +321,7 @@ static const struct job jobs[] = {
       {&parity, PICK_ANSWER(RUN_ANSWER(ZOMUWEDLI_REST, 448, 1 + 5 * 448), 0, 0)},
       {&equal, PICK_ANSWER(RUN_ANSWER(ZOMUWEDLI_SOLVED, 32, 1 + 4 * 32), 1, 0)},
       {&sliding, PICK_ANSWER(RUN_ANSWER(ZOMUWEDLI_REST, 2 + 5 * (4 + 2), 1 + 4 * 2 + 5 * (17 + 10)), 1, 5 * (1 + 1))},
+      {&one, PICK_ANSWER(RUN_ANSWER(ZOMUWEDLI_SOLVED, 512, LONGEST_TRACE), 1, ITEMS * 15)},
       {&circle, PICK_ANSWER(RUN_ANSWER(ZOMUWEDLI_REST, 448, 1 + 5 * 448), 1, 16 * 14 + 16 * 15)},
       {&deep, PICK_ANSWER(RUN_ANSWER(ZOMUWEDLI_REST, 2 * 14, 1 + 5 * 2 * 14), 1, 31 * 15)}}},
     {"colour",
@@ -399,6 +407,7 @@ int main(void)
     fill_pairs(&parity, is_of_unlike_parity);
     fill_pairs(&equal, is_equal);
     fill_sliding(&sliding);
+    fill_pairs(&one, is_last);
     fill_pairs(&circle, is_of_unlike_parity_round);
     fill_pairs(&deep, is_deep);
     struct call alone = {&baseline, &no_block, 1};
