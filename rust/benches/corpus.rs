@@ -266,7 +266,8 @@ fn print_bar(rows: &[Row], limit: &str) {
 fn compare(setting: &Setting, only: &str) {
     write(&setting.folder);
     println!("Milliseconds, median and worst. Library and fast: the whole call, from the sheet to the plan, best of up to {CALLS}. Gecode: posting and");
-    println!("search, measured inside its process. SAT solver: the process, its start and the reading of the clauses included; any plan.");
+    println!("search, measured inside its process. SAT solver: the process, its start and the reading of the clauses included; any plan. Both get");
+    println!("the full sheet.");
     println!("Each is ended after {} s. Where two are compared, less than {LEAST} ms counts as that.\n", setting.limit);
     let mut rows = Vec::new();
     for entry in corpus().into_iter().filter(|entry| entry.name.starts_with(only)) {

@@ -705,7 +705,7 @@ fn is_open(set: u16) -> bool {
 
 /// The highest bit of each set of a word that is not empty: any lower bit carries into it when these are added.
 fn not_empty(word: u64) -> u64 {
-    ((word & !HIGHEST) + !HIGHEST | word) & HIGHEST
+    (((word & !HIGHEST) + !HIGHEST) | word) & HIGHEST
 }
 
 /// Four items, a bit for each, from the highest bits of their sets: one product moves them side by side.
