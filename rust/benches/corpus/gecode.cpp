@@ -101,7 +101,7 @@ int main(int argc, char **argv)
     bool first = strcmp(argv[1], "first") == 0;
     Times best = solve(sheet, first);
     // what takes long is done once
-    for (int k = 0; k < 4 && best.posting + best.search < 50000; k++) {
+    for (int k = 0; k < (best.posting + best.search < 50000 ? 4 : 2) && best.posting + best.search < 1000000; k++) {
         Times again = solve(sheet, first);
         if (again.posting + again.search < best.posting + best.search) {
             best = again;
