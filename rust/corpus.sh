@@ -1,8 +1,8 @@
 #!/bin/sh
 # Times picking a plan over the corpus of 200 sheets, all in one run: the proved library, the fast implementation and, where Debian's
 # packages are at hand (apt-get install g++ libgecode-dev cadical), Gecode and CaDiCaL or MiniSat. Prints the tables in Markdown, and each
-# sheet's times on standard error. Some of the dense sheets take Gecode its whole minute: half an hour in all. Arguments are handed on, as
-# limit=5 or only=queens.
+# sheet's times on standard error. The sheets that are held to the bar take some minutes (only=held); the others take most of them their
+# whole minute. Arguments are handed on, as limit=5, only=held, only=reported or only=queens.
 set -eu
 cd "$(dirname "$0")"
 

@@ -1,7 +1,8 @@
 //! Times picking a plan over the corpus of 200 sheets (src/corpus.rs): the proved library, the fast implementation and, where they are given,
 //! Gecode and a SAT solver, one after the other on each sheet. Each runs in a process of its own, which is ended where it takes too long.
 //!
-//! `corpus [gecode=PROGRAM] [sat=COMMAND] [limit=SECONDS] [only=FRONT]` prints the tables, in Markdown; corpus.sh calls it so.
+//! `corpus [gecode=PROGRAM] [sat=COMMAND] [limit=SECONDS] [only=WHICH]` prints the tables, in Markdown; corpus.sh calls it so. WHICH is
+//! `held`, the sheets that are held to the bar, `reported`, the others, or the front of names.
 //! `corpus --write FOLDER` writes every sheet, and for the SAT solver its clauses. `corpus --pick IMPLEMENTATION NAME` is one such process.
 
 #[path = "../tests/support/mod.rs"]
@@ -281,7 +282,12 @@ fn compare(setting: &Setting, only: &str) {
     println!("the full sheet.");
     println!("Each is ended after {} s. Where two are compared, less than {LEAST} ms counts as that.\n", setting.limit);
     let mut rows = Vec::new();
-    for entry in corpus().into_iter().filter(|entry| entry.name.starts_with(only)) {
+    let wanted = |entry: &Entry| match only {
+        "held" => entry.held,
+        "reported" => !entry.held,
+        front => entry.name.starts_with(front),
+    };
+    for entry in corpus().into_iter().filter(wanted) {
         let outcomes = ALL.map(|(who, _)| setting.timed(who, &entry.name));
         let row = Row { entry, outcomes };
         let times: Vec<String> = ALL.iter().map(|(who, _)| row.time(*who).map_or("-".into(), |time| shown(time, &setting.limit))).collect();
