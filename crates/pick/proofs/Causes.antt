@@ -14,8 +14,10 @@ use Rattle.problem.specs.Problem.{Problem, full, sizeSum}
 use Rattle.problem.specs.Reduce.{run, endOf}
 use Rattle.problem.specs.Held.{Bounded}
 use Rattle.problem.specs.declared.End.{End}
-use Rattle.sheet.specs.Sheet.{layout, Keeps}
+use Rattle.sheet.specs.Sheet.{layout, readSheet, Keeps}
 use Rattle.sheet.specs.Relation.{problemOf}
+use Rattle.sheet.specs.declared.SheetRefusal.{SheetRefusal}
+use Rattle.sheet.specs.declared.SheetRead.the-variants as read
 use Rattle.sheet.proofs.Accepted.{problem-bounded}
 use Rattle.sheet.proofs.Refusals.{sheet-number}
 use Rattle.jobs.proofs.Opened.{sheet-refused, sheet-kept}
@@ -126,6 +128,10 @@ module _ (s b p : List ℕ) where
       sheet-iff s _ _ (λ (y : PickResult). y .answer .outcome) whosePick told (λ r. refl) (λ P. PickCauseOver P b p) (λ P r x. x)
       (λ K. pick-iff-over (problemOf layout s) b p (problem-bounded s K))
 
+  pub pick-sheet-refused : (r : SheetRefusal) → readSheet layout s ≡ read.Refused r → pickJob s b p ≡ pickRefused (refusal.Sheet r) b p
+  unfolding pickJob
+  pick-sheet-refused r e = sheet-refused s _ _ r e
+
   pub pick-kept : Keeps layout s → pickJob s b p ≡ pickOver (problemOf layout s) b p
   unfolding pickJob
   pick-kept K = sheet-kept s _ _ K
@@ -156,10 +162,9 @@ module _ (s b p : List ℕ) where
   -- ---- what a refusal leaves: "A refusal [..] leaves all lent bytes unchanged": neither the trace nor the plan is altered
 
   pub pick-unaltered : (r : PickRefusal) → (pickJob s b p) .answer .outcome ≡ Refused r → pickJob s b p ≡ pickRefused r b p
-  unfolding pickJob
   pick-unaltered r e = go r (pick-iff (Refused r) .0 e)
     where
       go : (r : PickRefusal) → PickCause (Refused r) → pickJob s b p ≡ pickRefused r b p
-      go (refusal.Sheet r) x = sheet-refused s _ _ r x
+      go (refusal.Sheet r) x = pick-sheet-refused r x
       go refusal.Buffer (K, l) = pick-kept K ∙ pick-buffer-over (problemOf layout s) b p l
       go refusal.ResultLength (K, (l, d)) = pick-kept K ∙ pick-length-over (problemOf layout s) b p l d

@@ -27,23 +27,13 @@ use Rattle.extend.proofs.Demands.{put-back-accepted-over, put-back-plan}
 use Rattle.pick.specs.Pick.{leftBy, runTrace, firstLeft, leftPlan, PickResult, outcomeOf, planLeft, pickDone, pickJob}
 use Rattle.pick.specs.declared.PickOutcome.{PickOutcome}
 use Rattle.pick.specs.declared.PickOutcome.the-variants.{Plan, None, Refused}
-use Rattle.pick.proofs.Left.{HasPlan, found-iff, left-plan, left-least, left-back}
+use Rattle.pick.proofs.Left.{HasPlan, found-iff, plan-with, plan-without, left-plan, left-least, left-back}
 use Rattle.pick.proofs.Causes.{pick-accepted-over, pick-kept, pick-iff, RunsOwn}
 
--- ---- the buffers where picking is done
-
-module _ (P : Problem) (b p : List ℕ) where
-  trace-front : (w : ℕ) → w ≡ length (runTrace P) → take w ((pickDone P b p) .trace) ≡ runTrace P
-  unfolding pickDone
-  trace-front w e = rw e (take-append-seam (runTrace P) (drop (length (runTrace P)) b))
-
-  plan-with : (firstLeft P) .ok ≡ true → (pickDone P b p) .plan ≡ (putBackOver P (runTrace P) (leftPlan P) p) .result
-  unfolding pickDone planLeft
-  plan-with e = rw e
-
-  plan-without : (firstLeft P) .ok ≡ false → (pickDone P b p) .plan ≡ p
-  unfolding pickDone planLeft
-  plan-without e = rw e
+-- the trace stands at the buffer's front
+trace-front : (P : Problem) (b p : List ℕ) (w : ℕ) → w ≡ length (runTrace P) → take w ((pickDone P b p) .trace) ≡ runTrace P
+unfolding pickDone
+trace-front P b p w e = rw e (take-append-seam (runTrace P) (drop (length (runTrace P)) b))
 
 module _ (s b p : List ℕ) where
   abbrev problem : Problem
@@ -102,13 +92,14 @@ module _ (s b p : List ℕ) where
     pub whole : T (solvesWhole problem (planOf (picked .plan)))
 
   pub pick-plan : (e : End) (k w : ℕ) → picked .answer .outcome ≡ Plan e k w → PlanPicked w
+  unfolding pickDone
   pick-plan e k w o =
       let x = answers true e k w o in
       let A = x .0 in
       let B = problem-bounded s (A .keeps) in
       let ok = T-true ((firstLeft problem) .ok) (found-iff problem B .1 (pick-iff s b p (Plan e k w) .0 o .1 .1 .1)) in
       let t = runTrace problem in
-      let q : picked .plan ≡ (putBackOver problem t (leftPlan problem) p) .result = ap (λ (z : PickResult). z .plan) (done A) ∙ plan-with problem b p ok in
+      let q : picked .plan ≡ (putBackOver problem t (leftPlan problem) p) .result = ap (λ (z : PickResult). z .plan) (done A) ∙ plan-with problem p ok in
       let f : take w (picked .trace) ≡ t = ap (λ (z : PickResult). take w (z .trace)) (done A) ∙ trace-front problem b p w (x .1 .1 .1) in
       let d = left-back problem B ok p (A .sized) in
       let back : putBackOver problem t (leftPlan problem) p ≡ record { answer = Done; result = picked .plan } = d ∙ (λ i. record { answer = Done; result = (ap (λ (z : PutBackResult). z .result) (sym d) ∙ sym q) i }) in
@@ -134,7 +125,8 @@ module _ (s b p : List ℕ) where
   )
 
   pub none-keeps : (e : End) (k w : ℕ) → picked .answer .outcome ≡ None e k w → picked .plan ≡ p
+  unfolding pickDone
   none-keeps e k w o =
       let A = answers false e k w o .0 in
       let h = pick-iff s b p (None e k w) .0 o .1 .1 .1 in
-      ap (λ (z : PickResult). z .plan) (done A) ∙ plan-without problem b p (T-false ((firstLeft problem) .ok) (λ t. h (found-iff problem (problem-bounded s (A .keeps)) .0 t)))
+      ap (λ (z : PickResult). z .plan) (done A) ∙ plan-without problem p (T-false ((firstLeft problem) .ok) (λ t. h (found-iff problem (problem-bounded s (A .keeps)) .0 t)))

@@ -1,6 +1,6 @@
 -- What the run leaves, its first plan, and that put back. Assumes nothing.
 use mathlib.Core.Path.{_≡_, sym, ap, _∙_, subst}
-use mathlib.Core.Bool.{true, _||_}
+use mathlib.Core.Bool.{true, false, _||_}
 use mathlib.Core.List.{List}
 use mathlib.Core.Logic.{_↔_, inl, inr, _⊎_}
 use Prim.Native.Nat.{ℕ, _≤_, _<_}
@@ -14,16 +14,20 @@ use Rattle.bounded.proofs.Bounded.{all-iff}
 use Rattle.problem.specs.Problem.{Problem, State, full}
 use Rattle.problem.specs.Reduce.{run}
 use Rattle.problem.specs.Extend.{solves, solvesWhole, planOf}
-use Rattle.problem.specs.Held.{Bounded}
+use Rattle.problem.specs.Held.{Bounded, held, RowTable}
+use Rattle.problem.specs.Masks.{stateOf, masksOf}
+use Rattle.problem.specs.declared.Masks.{Masks}
 use Rattle.problem.proofs.Reflect.{Active, Live, Allowed, Fits, full-fits}
 use Rattle.problem.proofs.Sound.{Solution, solves-iff, solvesWhole-iff}
 use Rattle.problem.proofs.Trace.{trace-fits, trace-solvable}
 use Rattle.problem.proofs.Run.{run-lawful}
+use Rattle.held.specs.Ready.{Ready}
+use Rattle.held.proofs.After.{state-held, ready-held}
 use Rattle.jobs.specs.PutBack.{planFits, putBackDone, putBackOver}
-use Rattle.first_plan.specs.First.{NotAfter}
+use Rattle.first_plan.specs.First.{firstPlan, NotAfter}
 use Rattle.first_plan.proofs.Meaning.{first-is-plan, first-is-least, first-iff, first-keeps, first-long}
 use Rattle.extend.proofs.Demands.{run-put-back-over}
-use Rattle.pick.specs.Pick.{leftBy, runTrace, blank, firstLeft, leftPlan}
+use Rattle.pick.specs.Pick.{leftBy, runTrace, blank, firstLeft, leftPlan, planLeft}
 
 -- some choice of settings at all is a plan of the full sheet
 abbrev pub HasPlan : Problem → Type 0
@@ -32,6 +36,16 @@ HasPlan P = (q : ℕ → ℕ) × T (solvesWhole P q)
 pub left-fits : (P : Problem) → Fits P (leftBy P)
 unfolding leftBy
 left-fits P = trace-fits P (full-fits P) (run P (full P))
+
+-- the lent plan afterwards, where there is a first plan and where there is none
+module _ (P : Problem) (p : List ℕ) where
+  pub plan-with : (firstLeft P) .ok ≡ true → planLeft P p ≡ (putBackOver P (runTrace P) (leftPlan P) p) .result
+  unfolding planLeft
+  plan-with e = rw e
+
+  pub plan-without : (firstLeft P) .ok ≡ false → planLeft P p ≡ p
+  unfolding planLeft
+  plan-without e = rw e
 
 -- what is said of items out does not matter, to a plan and to its place in the order
 module _ (s : State) {p w : ℕ → ℕ} (same : (i : ℕ) → Active s i → w i ≡ p i) where
@@ -98,3 +112,14 @@ module _ (P : Problem) (B : Bounded P) where
     pub left-back : (p : List ℕ) → length p ≡ P .n → putBackOver P (runTrace P) (leftPlan P) p ≡ putBackDone P (run P (full P)) (leftPlan P)
     unfolding leftBy
     left-back p l = run-put-back-over P (leftPlan P) p left-long l left-plan
+
+-- ---- over a table
+
+module _ {t : List ℕ} (R : RowTable t) {last : Masks} (is : last ≡ masksOf (leftBy (held t))) where
+  pub left-ready : Ready t last
+  left-ready = subst (Ready t) (sym is) (ready-held R (left-fits (held t)))
+
+  -- the first plan of the state that the run answered is that of what it left
+  pub left-found : firstPlan (held t) (stateOf last) blank ≡ firstLeft (held t)
+  unfolding firstLeft
+  left-found = ap (λ (s : State). firstPlan (held t) s blank) (ap stateOf is ∙ state-held R (left-fits (held t)))

@@ -1,3 +1,4 @@
 pub mod Left
 pub mod Causes
+pub mod Job
 pub mod Demands
