@@ -401,9 +401,20 @@ def put_back_job(s, trace, plan, out):
     x = list(plan)
     if any(x[i] != 255 for i in range(P.n) if i not in st[0]) or any(x[i] not in st[1][i] for i in st[0]):
         return refused(19)
-    if any(not P.ok(i, x[i], j, x[j]) for i in st[0] for j in st[0] if i < j):
+    if not agrees(P, st[0], x):
         return refused(19)
-    for before, r in reversed(done):
+    return f"done {undone(P, done, x).hex()}"
+
+
+def agrees(P, items, x):
+    """Whether each two of these items have an allowed pair."""
+    return all(P.ok(i, x[i], j, x[j]) for i in items for j in items if i < j)
+
+
+def undone(P, steps, plan):
+    """The plan of the full sheet: the steps, each with the state before it, undone last first."""
+    x = list(plan)
+    for before, r in reversed(steps):
         if r[0] == 2:
             i, v = r[1], r[2]
             for j in others(before, i):
@@ -412,8 +423,34 @@ def put_back_job(s, trace, plan, out):
             x[i] = v
         if r[0] == 3:
             x[r[1]] = fold_fix(P, before, r[1], r[2], x[r[2]])[0]
-    assert all(P.ok(i, x[i], j, x[j]) for i in range(P.n) for j in range(i))
-    return f"done {bytes(x).hex()}"
+    assert agrees(P, range(P.n), x)
+    return bytes(x)
+
+
+def plans(P, st):
+    """The plans of a state in order, items rising and settings rising, with 255 for each item out: of all choices those that agree."""
+    choices = itertools.product(*(sorted(st[1][i]) if i in st[0] else [255] for i in range(P.n)))
+    return (x for x in choices if agrees(P, st[0], x))
+
+
+def pick_job(s, buffer, plan):
+    """The run's answer, with another word, and the plan behind it."""
+    word, ran = run_job(s, buffer).split(" ", 1)
+    if word == "refused":
+        return f"{word} {ran} {plan.hex()}"
+    P = Problem(s)
+    if len(plan) != P.n:
+        return f"refused 20 {buffer.hex()} {plan.hex()}"
+    trace, st, _ = run(P)
+    first = next(plans(P, st), None)
+    if first is not None:
+        states = [P.full()]
+        for r in trace:
+            states.append(after(P, states[-1], r))
+        plan = undone(P, list(zip(states, trace)), first)
+    # "none" speaks of the full sheet
+    assert (first is None) == (next(plans(P, P.full()), None) is None)
+    return f"{'none' if first is None else 'plan'} {ran} {plan.hex()}"
 
 
 # ---- the run
@@ -721,18 +758,14 @@ for k in range(60):
         r = rng.choice(good)
         trace.append(r)
         st = after(P, st, r)
-    plans = [[]]
-    for i in range(P.n):
-        plans = [p + [v] for p in plans for v in (sorted(st[1][i]) if i in st[0] else [255])
-                 if v == 255 or all(p[j] == 255 or P.ok(j, p[j], i, v) for j in range(i))]
-    for p in rng.sample(plans, min(2, len(plans))):
+    left = list(plans(P, st))
+    for p in rng.sample(left, min(2, len(left))):
         back(f"random {k}, a plan of what is left", s, trace_bytes(trace), bytes(p), expected="done")
     back(f"random {k}, any bytes", s, trace_bytes(trace), bytes(rng.randint(0, 3) for _ in range(P.n)))
 for k, s in enumerate(sliding):
     P = Problem(s)
     trace, st, _ = run(P)
-    choices = itertools.product(*(sorted(st[1][i]) if i in st[0] else [255] for i in range(P.n)))
-    left = next((x for x in choices if all(P.ok(i, x[i], j, x[j]) for i in st[0] for j in st[0] if i < j)), None)
+    left = next(plans(P, st), None)
     assert left is not None
     back(f"the run with slides {k}, a plan of what is left", s, trace_bytes(trace), bytes(left), expected="done")
 rng = random.Random(20261117)
@@ -752,6 +785,66 @@ for k in range(120):
     settings = rng.sample(sorted(st[1][i]), 2) if choices and rng.random() < 0.8 else [rng.randrange(4), rng.randrange(4)]
     trace.append((4, i, *settings) if rng.random() < 0.8 else rng.choice(list(candidates(P))))
     back(f"random {k}, a last record that may be unlawful", s, trace_bytes(trace), bytes(P.n))
+
+# ---- picking a plan
+
+
+def picking(name, s, long=None, plan=None, expected=None):
+    """A trace buffer of `long` bytes, or as long as it must be; the lent plan as it is before, or in a pattern."""
+    long = 1 + 5 * sum(s[8:8 + s[5]]) if long is None else long
+    plan = pattern(s[5]) if plan is None else plan
+    answer = pick_job(s, pattern(long), plan)
+    assert expected is None or (answer + " ").startswith(expected + " "), (name, answer)
+    case("pick: " + name, "pick", answer, long.to_bytes(2, "big"), s, plan)
+    return answer.split()
+
+
+PICKED = {  # the plans that docs/FORMAT.md gives under "Bench sheets"
+    "A": "00", "B": "0001", "C": None, "D": None, "E": "00010101", "F": "010000", "G": None, "H": None, "K": "000001", "L": "000100",
+}
+for name, s in bench.items():
+    n, need = s[5], 1 + 5 * sum(s[8:8 + s[5]])
+    answer = picking(name, s)
+    assert answer[-1] == (PICKED[name] or pattern(n).hex()) and answer[0] == ("plan" if PICKED[name] else "none"), name
+    picking(f"{name}, a longer buffer", s, need + 9, bytes(n))
+    picking(f"{name}, a buffer one byte too short", s, need - 1, expected="refused 10")
+    picking(f"{name}, a plan one byte too long", s, plan=pattern(n + 1), expected="refused 20")
+    picking(f"{name}, a plan one byte too short", s, plan=pattern(n - 1), expected="refused 20")
+# the first plan is first among the items left: by the full sheet's order it would be 0 0 0, and of F 0 1 1
+assert picking("first among the items left", folded, plan=X("ffffff"))[-1] == "010100"
+assert next(plans(Problem(folded), Problem(folded).full())) == (0, 0, 0)
+assert next(plans(Problem(F), Problem(F).full())) == (0, 1, 1)
+# the order of the refusals: each alone and in pairs, the sheet's first, then 10, then 20
+for a in range(len(ROWS)):
+    s = build([a])
+    picking(f"{ROWS[a]} alone", s, 31, pattern(3), f"refused {NUMBER[a]}")
+    picking(f"{ROWS[a]} with a buffer too short", s, 30, pattern(3), f"refused {NUMBER[a]}")
+    picking(f"{ROWS[a]} with a plan of another length", s, 31, pattern(2), f"refused {NUMBER[a]}")
+good = build([])
+for long, plan, expected in ((31, 3, "none 2"), (30, 3, "refused 10"), (31, 4, "refused 20"), (30, 4, "refused 10"), (30, 0, "refused 10"),
+                             (0, 3, "refused 10"), (0, 0, "refused 10"), (31, 0, "refused 20"), (31, 32, "refused 20"), (2561, 3, "none 2")):
+    picking(f"a buffer of {long} bytes, a plan of {plan}", good, long, pattern(plan), expected)
+picking("no byte at all", b"", 0, b"", "refused 1")
+# what the lent plan holds before is not read: a setting, an item out, and neither
+for byte in (0, 1, 2, 15, 16, 254, 255):
+    picking(f"a plan of bytes {byte}", B, plan=bytes([byte] * 2), expected="plan 1")
+    picking(f"a plan of bytes {byte}, none", C, plan=bytes([byte] * 3), expected="none 2")
+# 32 items; and the search among the highest three of them, the others out
+picking("32 items and no block", sheet([2] * 32, []), expected="plan 1")
+for rows, expected in ((NE2, "none 2"), ([1, 2], "plan 1")):
+    picking(f"the highest three of 32 items, rows {rows}", sheet([1] * 29 + [2] * 3, [(29, 30, NE2), (29, 31, NE2), (30, 31, rows)]),
+            expected=expected)
+for s in sliding[:8]:
+    picking("a run with slides", s, expected="plan")
+# at random: each end with a plan and without, as far as there is one
+rng = random.Random(20270118)
+wanted = {("none", "0"): 8, ("plan", "1"): 8, ("plan", "2"): 16, ("none", "2"): 10}
+while any(wanted.values()):
+    s = random_sheet(rng.randint(3, 5), 4, 0.8, 0.5) if rng.random() < 0.3 else linked_sheet(rng, *rng.choice([(4, 0.6), (5, 0.45), (6, 0.45)]))
+    word, end = pick_job(s, bytes(1 + 5 * sum(s[8:8 + s[5]])), bytes(s[5])).split()[:2]
+    if wanted[word, end]:
+        wanted[word, end] -= 1
+        picking(f"at random, {word} after the end {end}", s, expected=f"{word} {end}")
 
 # ---- the sheet of a colouring file
 
