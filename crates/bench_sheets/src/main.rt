@@ -15,6 +15,10 @@ use jobs::ReduceOutcome;
 use jobs::Reduced;
 use jobs::StartAnswer;
 use jobs::StartOutcome;
+use pick::PickOutcome;
+use pick::Picked;
+use problem::End;
+use problem::Masks;
 use sheet::SheetRead;
 
 // A line `read SHEET`.
@@ -44,16 +48,14 @@ fn do_work(fields: &[u8]) {
     let n = cases::bytes(&fields[cases::next_field(fields)..], &mut sheet);
     let mut b = io::buffer();
     cases::fill_pattern(&mut b);
-    run_part(&sheet[..n], &mut b, long as usize);
+    let k = cases::lent(long, &b);
+    run_part(&sheet[..n], &mut b[..k]);
 }
 
-// The run of a sheet with the first bytes of a buffer.
-fn run_part(s: &[u8], b: &mut [u8], long: usize) {
-    if long <= b.len() {
-        let part = &mut b[..long];
-        let a = reduce::reduce(s, part);
-        show_run(a, part);
-    }
+// The run of a sheet with a trace's buffer.
+fn run_part(s: &[u8], b: &mut [u8]) {
+    let a = reduce::reduce(s, b);
+    show_run(a, b);
 }
 
 fn show_run(a: Reduced, b: &[u8]) {
@@ -67,14 +69,19 @@ fn show_run(a: Reduced, b: &[u8]) {
             steps,
             written,
         } => {
-            cases::show_number(b"done ", jobs::end_number(end) as usize);
-            cases::show_number(b" ", steps);
-            cases::show_number(b" ", written);
-            cases::show(b" ");
-            cases::show_masks(a.state);
+            show_ran(b"done ", end, steps, written, a.state);
         }
     }
     cases::show_buffer(b);
+}
+
+// A word, and the run's answer behind it.
+fn show_ran(word: &[u8], end: End, steps: usize, written: usize, m: Masks) {
+    cases::show_number(word, jobs::end_number(end) as usize);
+    cases::show_number(b" ", steps);
+    cases::show_number(b" ", written);
+    cases::show(b" ");
+    cases::show_masks(m);
 }
 
 // A line `star SHEET`: the start.
@@ -186,6 +193,57 @@ fn show_back(a: Extended, out: &[u8]) {
     cases::show_buffer(out);
 }
 
+// A line `pick LENGTH SHEET PLAN`: the trace's buffer has so many bytes, four digits, and the plan's buffer is as it is before.
+fn do_pick(fields: &[u8]) {
+    let long = cases::number(fields, 0, 4);
+    let more = &fields[cases::next_field(fields)..];
+    let mut sheet = io::large_buffer();
+    let n = cases::bytes(more, &mut sheet);
+    pick_rest(&more[cases::next_field(more)..], &sheet[..n], long);
+}
+
+// The plan's buffer of a line whose sheet is read.
+fn pick_rest(fields: &[u8], s: &[u8], long: u64) {
+    let mut plan = [0u8; 64];
+    let n = cases::bytes(fields, &mut plan);
+    let mut b = io::buffer();
+    cases::fill_pattern(&mut b);
+    let k = cases::lent(long, &b);
+    pick_part(s, &mut b[..k], &mut plan[..n]);
+}
+
+// Picking with a trace's and a plan's buffer.
+fn pick_part(s: &[u8], b: &mut [u8], plan: &mut [u8]) {
+    let a = pick::pick(s, b, plan);
+    show_pick(a, b, plan);
+}
+
+fn show_pick(a: Picked, b: &[u8], plan: &[u8]) {
+    let o = a.outcome;
+    match o {
+        PickOutcome::Refused(r) => {
+            cases::show_number(b"refused ", pick::pick_number(r) as usize);
+        }
+        PickOutcome::Plan {
+            end,
+            steps,
+            written,
+        } => {
+            show_ran(b"plan ", end, steps, written, a.state);
+        }
+        PickOutcome::None {
+            end,
+            steps,
+            written,
+        } => {
+            show_ran(b"none ", end, steps, written, a.state);
+        }
+    }
+    cases::show(b" ");
+    cases::show_bytes(b);
+    cases::show_buffer(plan);
+}
+
 // A line: its first letter names the job, and the fields stand behind the first space. One too short for a job's word is passed over.
 fn line(text: &[u8]) {
     if text.len() < 5 {
@@ -199,6 +257,7 @@ fn line(text: &[u8]) {
         b's' => do_start(fields),
         b'h' => do_hand(fields),
         b'b' => do_back(fields),
+        b'p' => do_pick(fields),
         _ => {}
     }
 }

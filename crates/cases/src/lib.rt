@@ -197,6 +197,16 @@ pub fn show_buffer(b: &[u8]) {
     show(b"\n");
 }
 
+// How many bytes of a buffer are lent: as many as are asked for, or all that it has.
+pub fn lent(asked: u64, b: &[u8]) -> usize
+    ensures { λ r. ⌜ Counts r (now (b .entry)) ⌝ }
+{
+    if asked < b.len() as u64 {
+        return asked as usize;
+    }
+    b.len()
+}
+
 // Fills a buffer with a pattern, so that a byte that changes shows.
 pub fn fill_pattern(b: &mut [u8]) {
     let mut x: usize = 11;

@@ -36,7 +36,7 @@ use Rattle.trace.specs.Written.{written}
 use Rattle.trace.proofs.Written.{written-front}
 use Rattle.fields.proofs.Laws.{Puts, after}
 use Rattle.report.specs.Records.{recordsIn}
-use Rattle.report.specs.Report.{reportRoom, reportText, Ran}
+use Rattle.report.specs.Report.{textIn, Ran}
 use Rattle.report.proofs.Counting.{active-counted, values-counted}
 use Rattle.report.proofs.Records.{trace-read}
 
@@ -123,22 +123,22 @@ module _ (s b : List ℕ) (long : 2561 ≤ length b) where
           told = (λ i. recordsIn (c i) ((h ∙ ap (λ (y : RunResult). y .buffer) (worked K)) i) 1) ∙ trace-read (run P (full P)) b;
         }
 
--- ---- the text by the room for it
+-- ---- a text by the room for it
 
-pub text-short : (s : List ℕ) (room : ℕ) → room < reportRoom → reportText s room ≡ []
-unfolding reportText
-text-short s room l = rw (lt-ltb room reportRoom l, reportText)
+module _ (need : ℕ) (w d : List ℕ) where
+  in-short : length d < need → textIn need w (length d) ≡ []
+  unfolding textIn
+  in-short l = rw (lt-ltb (length d) need l, textIn)
 
--- what stands in the buffer and how many bytes were written
-pub report-short : (s d : List ℕ) → length d < reportRoom → (d ≡ fronted (reportText s (length d)) d) × (0 ≡ length (reportText s (length d)))
-report-short s d l = let e = text-short s (length d) l in (ap (λ (w : List ℕ). fronted w d) (sym e), ap length (sym e))
+  in-whole : need ≤ length d → textIn need w (length d) ≡ w
+  unfolding textIn
+  in-whole l = rw (le-ltb (length d) need l, textIn)
 
-pub text-whole : (s : List ℕ) (room : ℕ) → reportRoom ≤ room → reportText s room ≡ sheetLines s
-unfolding reportText
-text-whole s room l = rw (le-ltb room reportRoom l, reportText)
+  -- what stands in the buffer d then, and how many bytes were written
+  pub text-short : length d < need → (d ≡ fronted (textIn need w (length d)) d) × (0 ≡ length (textIn need w (length d)))
+  text-short l = let e = in-short l in (ap (λ (x : List ℕ). fronted x d) (sym e), ap length (sym e))
 
-pub report-whole : (s d b : List ℕ) (r : ℕ) → reportRoom ≤ length d → (b ≡ written d 0 (sheetLines s)) × (r ≡ length (sheetLines s))
-    → (b ≡ fronted (reportText s (length d)) d) × (r ≡ length (reportText s (length d)))
-report-whole s d b r l p =
-    let e = text-whole s (length d) l in
-    (p .0 ∙ written-front d (sheetLines s) ∙ ap (λ (w : List ℕ). fronted w d) (sym e), p .1 ∙ ap length (sym e))
+  pub text-whole : (b : List ℕ) (r : ℕ) → need ≤ length d → (b ≡ written d 0 w) × (r ≡ length w) → (b ≡ fronted (textIn need w (length d)) d) × (r ≡ length (textIn need w (length d)))
+  text-whole b r l p =
+      let e = in-whole l in
+      (p .0 ∙ written-front d w ∙ ap (λ (x : List ℕ). fronted x d) (sym e), p .1 ∙ ap length (sym e))

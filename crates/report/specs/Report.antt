@@ -17,9 +17,13 @@ use Rattle.report.specs.Records.{recordsIn}
 abbrev pub reportRoom : ℕ
 reportRoom = 32768
 
--- the text for the bytes s in a buffer of a length: all that is printed, or nothing where the buffer is short
-unfoldable pub reportText : List ℕ → ℕ → List ℕ
-reportText s room = elim (ltb room reportRoom) [ true ↦ [] | false ↦ sheetLines s ]
+-- a text in a buffer of a length: all of it, or nothing where the buffer is shorter than what is needed
+unfoldable pub textIn : (need : ℕ) → List ℕ → (room : ℕ) → List ℕ
+textIn need w room = elim (ltb room need) [ true ↦ [] | false ↦ w ]
+
+-- the text for the bytes s in a buffer of a length: all that is printed
+abbrev pub reportText : List ℕ → ℕ → List ℕ
+reportText s room = textIn reportRoom (sheetLines s) room
 
 -- the run of P ended so: its end, its number of steps and its last state, and its records in the trace w
 pub record Ran (P : Problem) (w : List ℕ) (e : End) (steps : ℕ) (m : Masks) : Type 0 where

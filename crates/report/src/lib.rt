@@ -88,7 +88,7 @@ fn put_steps(out: &mut [u8], at: usize, trace: &[u8], steps: usize) -> usize
 // ---- the text
 
 // The text of a run that was not refused: the first line, the step lines and the last line.
-fn put_run(out: &mut [u8], s: &[u8], trace: &[u8], end: End, steps: usize, m: Masks) -> usize
+pub fn put_run(out: &mut [u8], s: &[u8], trace: &[u8], end: End, steps: usize, m: Masks) -> usize
     requires { ⌜ Keeps layout (now s) × (Ran (problemOf layout (now s)) (now trace) end steps m × (reportRoom ≤ length (now out))) ⌝ }
     ensures text { λ r. ⌜ (now (out .exit) ≡ written (now (out .entry)) 0 (runLines (problemOf layout (now (s .entry))))) × (r ≡ length (runLines (problemOf layout (now (s .entry))))) ⌝ }
     ensures within { λ r. ⌜ r ≤ reportRoom ⌝ }

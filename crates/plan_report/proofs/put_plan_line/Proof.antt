@@ -1,0 +1,44 @@
+-- `plan_report::put_plan_line`: the word, the settings and the line's end, one after the other. Assumes nothing.
+use Prim.Native.Nat.{_≤_}
+use native.Mathlib.Omega.{arith}
+use lib.ListN.{length}
+use Rattle.fields.proofs.Laws.{after}
+use borrow.Author.Needs.{needs}
+use Rattle.plan_report.proofs.put_plan_line.Statement.{statement}
+use Rattle.plan_report.proofs.put_plan_line.Tie as tie
+
+slice-aggregate-put-bytes : tie.Need-slice-aggregate-put-bytes
+slice-aggregate-put-bytes c = search needs
+
+put-bytes-requires : tie.Need-put-bytes-requires
+put-bytes-requires c κs = search needs
+
+put-settings-requires : tie.Need-put-settings-requires
+put-settings-requires c κs = search needs
+
+put-byte-requires : tie.Need-put-byte-requires
+put-byte-requires c κs = search needs
+
+same-length : tie.Need-same-length
+same-length c = search needs
+
+returns : tie.Need-returns
+returns c =
+    let a = c .before .before .before .before .before .before .before .before .before .before .before .before .before .before .before .args in
+    let w = c .before .before .before .before .before .before .before .before .before .before .put-bytes in
+    let f = c .before .before .before .before .before .before .put-settings in
+    let e = c .before .before .put-byte in
+    let room-w : w .result ≤ length (a .out .now) = omega arith in
+    let room-f : f .result ≤ length (w .last .0) = omega arith in
+    (after _ _ _ _ _ _ _ _ (w .ensures) (after _ _ _ _ _ _ _ _ (f .ensures .0) (e .ensures) room-f) room-w, omega arith)
+
+pub put-plan-line-spec : {M : Type 1} → statement M
+put-plan-line-spec =
+    tie.close
+    (tie.spec
+    slice-aggregate-put-bytes
+    put-bytes-requires
+    put-settings-requires
+    put-byte-requires
+    same-length
+    returns)

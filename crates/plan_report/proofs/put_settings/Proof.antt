@@ -1,0 +1,62 @@
+-- `plan_report::put_settings`: the loop of proofs/Lines.antt. Assumes nothing.
+use Prim.Native.Nat.{_-_}
+use native.Mathlib.Omega.{arith}
+use lib.ListN.{length}
+use Rattle.plan_report.proofs.Lines.{Putting, putting-start, kept-length, field-room, putting-next, all-put}
+use borrow.Author.Needs.{needs}
+use Rattle.plan_report.proofs.put_settings.Statement.{statement}
+use Rattle.plan_report.proofs.put_settings.Tie as tie
+
+abbrev Inv-loop : tie.InvT-loop
+Inv-loop out₀ at plan end₀ k₀ out end k = Putting out₀ at plan out end k
+
+abbrev μ-loop : tie.MeasureT-loop
+μ-loop out₀ at plan end₀ k₀ out end k = length plan - k
+
+loop-holds : tie.Need-loop-holds Inv-loop μ-loop
+loop-holds c = putting-start _ _ _ (c .before .before .pre)
+
+shared-slice-read-put-field : tie.Need-shared-slice-read-put-field Inv-loop μ-loop
+shared-slice-read-put-field c = omega arith
+
+cast-put-field : tie.Need-cast-put-field Inv-loop μ-loop
+cast-put-field c = omega (arith, c .shared-slice-known2 .given (c .before .before .before .loop .k))
+
+put-field-requires : tie.Need-put-field-requires Inv-loop μ-loop
+put-field-requires c κs =
+    let w = c .before .before .before .loop in
+    (omega (arith, c .shared-slice-known2 .given (w .k)), field-room _ _ _ _ _ _ (w .inv) (omega arith))
+
+add-k : tie.Need-add-k Inv-loop μ-loop
+add-k c = omega arith
+
+loop-less : tie.Need-loop-less Inv-loop μ-loop
+loop-less c = omega arith
+
+loop-again : tie.Need-loop-again Inv-loop μ-loop
+loop-again c =
+    let w = c .before .before .before .before .before .before .loop in
+    let p = c .before .before .put-field .ensures in
+    putting-next _ _ _ _ _ _ (w .inv) (omega arith) _ _ (p .0) (p .1)
+
+same-length : tie.Need-same-length Inv-loop μ-loop
+same-length c = kept-length _ _ _ _ _ _ (c .before .loop .inv)
+
+returns : tie.Need-returns Inv-loop μ-loop
+returns c = let w = c .before .loop in (all-put _ _ _ _ _ _ (w .inv) (omega arith), omega (arith, w .inv .within, w .inv .turn))
+
+pub put-settings-spec : {M : Type 1} → statement M
+put-settings-spec =
+    tie.close
+    (tie.spec
+    Inv-loop
+    μ-loop
+    loop-holds
+    shared-slice-read-put-field
+    cast-put-field
+    put-field-requires
+    add-k
+    loop-less
+    loop-again
+    same-length
+    returns)
