@@ -1,6 +1,6 @@
 -- What the search in code concludes from a value that was tried, over a table and a state as masks. Assumes nothing.
 use mathlib.Core.Path.{_≡_, refl, sym, ap, subst, _∙_, fun-ext}
-use mathlib.Core.Bool.{Bool, true, false}
+use mathlib.Core.Bool.{true, false}
 use mathlib.Core.List.{List}
 use mathlib.Core.Logic.{_≢_}
 use Prim.Native.Nat.{ℕ, _≤_, _<_}
@@ -24,7 +24,7 @@ use Rattle.held.specs.Ready.{Ready}
 use Rattle.held.proofs.Laws.{active-32}
 use Rattle.held.proofs.After.{state-held}
 use Rattle.first_plan.specs.First.{found, none, firstPlan}
-use Rattle.first_plan.specs.Steps.{choose, Next, Narrowed, Emptied, Opens}
+use Rattle.first_plan.specs.Steps.{choose, Next, Emptied, Opens}
 use Rattle.first_plan.specs.declared.Found.{Found}
 use Rattle.first_plan.specs.declared.Opened.{Opened}
 use Rattle.first_plan.proofs.Prune.{first-unsolved, first-narrowed, first-refuted, first-done, first-taken, never, choose-active, choose-fits, choose-keeps}
