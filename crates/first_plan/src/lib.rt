@@ -231,19 +231,13 @@ fn refute(t: &[u16], near: &[u32; 32], m: Masks, i: usize, v: usize) -> Opened
 
 // ---- the search
 
-// The state and the plan are lent, and the answer is a number: so the call of `tries` for the next value takes no room on the stack, and
-// at most 32 calls lie within one another.
+// State and plan are lent, and the table by a reference to it, so that `tries` has nothing of its own to keep when it calls itself for the
+// next value: the compiler makes a jump of that call, and at most 32 calls lie within one another.
 
 // The first plan: the next variable, and its values. The plan is written where there is one, and left as it was where there is none.
-fn pick(
-    t: &[u16; 16416],
-    near: &[u32; 32],
-    active: u32,
-    on: &mut [u16; 32],
-    plan: &mut [u8; 32],
-) -> bool
-    requires { ⌜ Ready (now t) (sets active (now on)) × (length (now plan) ≡ 32) ⌝ }
-    ensures { λ r. ⌜ answer r (now (plan .exit)) ≡ firstPlan (held (now (t .entry))) (stateOf (sets active (now (on .entry)))) (now (plan .entry)) ⌝ }
+fn pick(t: &&[u16], near: &[u32; 32], active: u32, on: &mut [u16; 32], plan: &mut [u8; 32]) -> bool
+    requires { ⌜ Ready (now (now t)) (sets active (now on)) × (length (now plan) ≡ 32) ⌝ }
+    ensures { λ r. ⌜ answer r (now (plan .exit)) ≡ firstPlan (held (now (now (t .entry)))) (stateOf (sets active (now (on .entry)))) (now (plan .entry)) ⌝ }
 {
     let i = lowest32(active);
     if 32 <= i {
@@ -254,15 +248,15 @@ fn pick(
 
 // The same where the next variable is i: the lowest value left of it with the variables after i, or else the values after that one.
 fn tries(
-    t: &[u16; 16416],
+    t: &&[u16],
     near: &[u32; 32],
     active: u32,
     on: &mut [u16; 32],
     plan: &mut [u8; 32],
     i: usize,
 ) -> bool
-    requires { ⌜ Ready (now t) (sets active (now on)) × Next (sets active (now on)) i × (length (now plan) ≡ 32) ⌝ }
-    ensures { λ r. ⌜ answer r (now (plan .exit)) ≡ firstPlan (held (now (t .entry))) (stateOf (sets active (now (on .entry)))) (now (plan .entry)) ⌝ }
+    requires { ⌜ Ready (now (now t)) (sets active (now on)) × Next (sets active (now on)) i × (length (now plan) ≡ 32) ⌝ }
+    ensures { λ r. ⌜ answer r (now (plan .exit)) ≡ firstPlan (held (now (now (t .entry)))) (stateOf (sets active (now (on .entry)))) (now (plan .entry)) ⌝ }
 {
     let domain = on[i];
     if domain == 0 {
@@ -271,7 +265,7 @@ fn tries(
     let v = lowest16(domain);
     let domains = *on;
     let state = Masks { active, domains };
-    let o = attempt(t, near, state, i, v);
+    let o = attempt(*t, near, state, i, v);
     if o.open {
         let was = plan[i];
         plan[i] = v as u8;
@@ -282,7 +276,7 @@ fn tries(
         }
         plan[i] = was;
     }
-    let rest = refute(t, near, state, i, v);
+    let rest = refute(*t, near, state, i, v);
     if !rest.open {
         return false;
     }
@@ -293,7 +287,7 @@ fn tries(
 }
 
 // The first plan of a state, or none. Items out keep what `plan` says of them, and all items do where there is none.
-pub fn first_plan(t: &[u16; 16416], m: Masks, plan: [u8; 32]) -> Found
+pub fn first_plan(t: &[u16], m: Masks, plan: [u8; 32]) -> Found
     requires { ⌜ Ready (now t) m ⌝ }
     ensures { λ r. ⌜ r ≡ firstPlan (held (now (t .entry))) (stateOf m) plan ⌝ }
 {
@@ -305,6 +299,6 @@ pub fn first_plan(t: &[u16; 16416], m: Masks, plan: [u8; 32]) -> Found
     let left = o.masks;
     let mut on = left.domains;
     let mut found = plan;
-    let ok = pick(t, &near, left.active, &mut on, &mut found);
+    let ok = pick(&t, &near, left.active, &mut on, &mut found);
     Found { ok, plan: found }
 }

@@ -29,23 +29,23 @@ use Rattle.first_plan.proofs.refute.Reads as refute-reads
 use Rattle.first_plan.proofs.+pick+tries.{statement}
 use Rattle.first_plan.proofs.+pick+tries.Tie.{close}
 
-abbrev μ-pick : Measures 4 pick-kinds.ps ℕ
+abbrev μ-pick : Measures 5 pick-kinds.ps ℕ
 μ-pick κs a = a .1 .1 .0 * 65537 + 65536
 
-abbrev μ-tries : Measures 4 tries-kinds.ps ℕ
+abbrev μ-tries : Measures 5 tries-kinds.ps ℕ
 μ-tries κs a = a .1 .1 .0 * 65537 + getD (a .1 .1 .1 .0 .now) (a .1 .1 .1 .1 .1 .0) 0
 
-abbrev pick-at : ℕ → In 4 pick-kinds.ps
-pick-at t = and 4 pick-kinds.ps (is 4 pick-kinds.ps μ-pick t) pick.Pre
+abbrev pick-at : ℕ → In 5 pick-kinds.ps
+pick-at t = and 5 pick-kinds.ps (is 5 pick-kinds.ps μ-pick t) pick.Pre
 
-abbrev pick-below : ℕ → In 4 pick-kinds.ps
-pick-below t = and 4 pick-kinds.ps (falls 4 pick-kinds.ps _<_ μ-pick t) pick.Pre
+abbrev pick-below : ℕ → In 5 pick-kinds.ps
+pick-below t = and 5 pick-kinds.ps (falls 5 pick-kinds.ps _<_ μ-pick t) pick.Pre
 
-abbrev tries-at : ℕ → In 4 tries-kinds.ps
-tries-at t = and 4 tries-kinds.ps (is 4 tries-kinds.ps μ-tries t) tries.Pre
+abbrev tries-at : ℕ → In 5 tries-kinds.ps
+tries-at t = and 5 tries-kinds.ps (is 5 tries-kinds.ps μ-tries t) tries.Pre
 
-abbrev tries-below : ℕ → In 4 tries-kinds.ps
-tries-below t = and 4 tries-kinds.ps (falls 4 tries-kinds.ps _<_ μ-tries t) tries.Pre
+abbrev tries-below : ℕ → In 5 tries-kinds.ps
+tries-below t = and 5 tries-kinds.ps (falls 5 tries-kinds.ps _<_ μ-tries t) tries.Pre
 
 pick-lowest32-requires : (t : ℕ) → pick-lts.Need-lowest32-requires (
   lowest32-reads.Asked,
@@ -274,7 +274,7 @@ tries-returns-3 t c =
     let d = c .before .before .before .before .before .before .before .before .before .if1 .left in
     let e = c .before .before .before .before .before .before .before .before .lowest16 .ensures in
     let lt : a .i < length (a .plan .now) = omega (arith, p .1 .variable, p .2) in
-    let x : ((q : ℕ → ℕ) → Solution (held (a .t .now)) (stateOf (sets (a .active) (a .on .now))) q → q (a .i) ≢ c .before .before .before .before .before .before .before .before .lowest16 .result) × (c .before .before .before .before .if2 .plan ≡ a .plan .now) =
+    let x : ((q : ℕ → ℕ) → Solution (held (a .t .now .now)) (stateOf (sets (a .active) (a .on .now))) q → q (a .i) ≢ c .before .before .before .before .before .before .before .before .lowest16 .result) × (c .before .before .before .before .if2 .plan ≡ a .plan .now) =
     ⊎-elim
     (λ w. (missed (p .0) _ _ (p .1) d e O (a .plan .now) (p .2) _ (w .6 .ensures) (w .7 .left), w .8 ∙ put-back _ _ (a .plan .now) _ _ (O .narrowed .ready) lt (w .6 .ensures) (w .7 .left)))
     (λ w. (shut (p .0) _ _ (p .1) d e O (w .0 .left), w .1))
@@ -300,7 +300,7 @@ tries-tries-requires t c κs =
     let d = c .before .before .before .before .before .before .before .before .before .before .before .before .before .if1 .left in
     let e = c .before .before .before .before .before .before .before .before .before .before .before .before .lowest16 .ensures in
     let lt : a .i < length (a .plan .now) = omega (arith, p .1 .variable, p .2) in
-    let x : ((q : ℕ → ℕ) → Solution (held (a .t .now)) (stateOf (sets (a .active) (a .on .now))) q → q (a .i) ≢ c .before .before .before .before .before .before .before .before .before .before .before .before .lowest16 .result) × (c .before .before .before .before .before .before .before .before .if2 .plan ≡ a .plan .now) =
+    let x : ((q : ℕ → ℕ) → Solution (held (a .t .now .now)) (stateOf (sets (a .active) (a .on .now))) q → q (a .i) ≢ c .before .before .before .before .before .before .before .before .before .before .before .before .lowest16 .result) × (c .before .before .before .before .before .before .before .before .if2 .plan ≡ a .plan .now) =
     ⊎-elim
     (λ w. (missed (p .0) _ _ (p .1) d e O (a .plan .now) (p .2) _ (w .6 .ensures) (w .7 .left), w .8 ∙ put-back _ _ (a .plan .now) _ _ (O .narrowed .ready) lt (w .6 .ensures) (w .7 .left)))
     (λ w. (shut (p .0) _ _ (p .1) d e O (w .0 .left), w .1))
@@ -329,7 +329,7 @@ tries-returns-4 t c =
     let d = c .before .before .before .before .before .before .before .before .before .before .before .before .before .before .if1 .left in
     let e = c .before .before .before .before .before .before .before .before .before .before .before .before .before .lowest16 .ensures in
     let lt : a .i < length (a .plan .now) = omega (arith, p .1 .variable, p .2) in
-    let x : ((q : ℕ → ℕ) → Solution (held (a .t .now)) (stateOf (sets (a .active) (a .on .now))) q → q (a .i) ≢ c .before .before .before .before .before .before .before .before .before .before .before .before .before .lowest16 .result) × (c .before .before .before .before .before .before .before .before .before .if2 .plan ≡ a .plan .now) =
+    let x : ((q : ℕ → ℕ) → Solution (held (a .t .now .now)) (stateOf (sets (a .active) (a .on .now))) q → q (a .i) ≢ c .before .before .before .before .before .before .before .before .before .before .before .before .before .lowest16 .result) × (c .before .before .before .before .before .before .before .before .before .if2 .plan ≡ a .plan .now) =
     ⊎-elim
     (λ w. (missed (p .0) _ _ (p .1) d e O (a .plan .now) (p .2) _ (w .6 .ensures) (w .7 .left), w .8 ∙ put-back _ _ (a .plan .now) _ _ (O .narrowed .ready) lt (w .6 .ensures) (w .7 .left)))
     (λ w. (shut (p .0) _ _ (p .1) d e O (w .0 .left), w .1))

@@ -13,13 +13,13 @@ narrow-requires : tie.Need-narrow-requires
 narrow-requires c κs = search needs
 
 returns : tie.Need-returns
-returns c = closed-first (c .before .before .before .before .before .before .before .before .before .pre .fits) (c .before .before .narrow .ensures) (not-true _ (c .if1 .taken)) _
+returns c = closed-first (c .before .before .before .before .before .before .before .before .pre .fits) (c .before .before .narrow .ensures) (not-true _ (c .if1 .taken)) _
 
 pick-requires : tie.Need-pick-requires
 pick-requires c κs = search needs
 
 returns-2 : tie.Need-returns-2
-returns-2 c = c .pick .ensures ∙ sym (opened-first (c .before .before .before .before .before .before .before .before .before .before .before .before .before .before .before .pre .fits) (c .before .before .before .before .before .before .before .before .narrow .ensures) _)
+returns-2 c = c .pick .ensures ∙ sym (opened-first (c .before .before .before .before .before .before .before .before .before .before .before .before .before .before .before .pre .fits) (c .before .before .before .before .before .before .before .before .before .narrow .ensures) _)
 
 pub first-plan-spec : {M : Type 1} → statement M
 first-plan-spec =
