@@ -162,12 +162,13 @@ module _ {t : List ℕ} {m : Masks} (R : Ready t m) (i v : ℕ) (X : Next m i) w
       unfolding stateOf remove
       still-next = record { variable = X .variable; lowest = X .lowest ∙ ap (lowest 32) (fun-ext (O .narrowed .active)) }
 
-      module _ (n : (q : ℕ → ℕ) → Solution (held t) (stateOf m) q → q i ≢ v) (w : List ℕ) where
+      module _ (n : (q : ℕ → ℕ) → Solution (held t) (stateOf m) q → q i ≢ v) (w x : List ℕ) (g : x ≡ w) where
         without : firstPlan (held t) (stateOf m) w ≡ firstPlan (held t) (remove (held t) (stateOf m) i v) w
         without = first-refuted (R .fits) i v n w
 
-        pub on-with : firstPlan (held t) (stateOf (o .masks)) w ≡ firstPlan (held t) (stateOf m) w
-        on-with = sym (without ∙ opened-first (remove-fits (held t) (stateOf m) (R .fits) i v) O w)
+        pub on-with : (r : Found) → r ≡ firstPlan (held t) (stateOf (o .masks)) x → r ≡ firstPlan (held t) (stateOf m) w
+        on-with r a =
+            a ∙ ap (firstPlan (held t) (stateOf (o .masks))) g ∙ sym (without ∙ opened-first (remove-fits (held t) (stateOf m) (R .fits) i v) O w)
 
-        pub all-shut : o .open ≡ false → none w ≡ firstPlan (held t) (stateOf m) w
-        all-shut c = closed-first (remove-fits (held t) (stateOf m) (R .fits) i v) O c w ∙ sym without
+        pub all-shut : o .open ≡ false → none x ≡ firstPlan (held t) (stateOf m) w
+        all-shut c = ap none g ∙ closed-first (remove-fits (held t) (stateOf m) (R .fits) i v) O c w ∙ sym without

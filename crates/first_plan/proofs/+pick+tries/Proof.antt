@@ -11,7 +11,6 @@ use borrow.Author.Tests.{not-true}
 use Rattle.problem.specs.Held.{held}
 use Rattle.problem.specs.Masks.{stateOf, sets}
 use Rattle.problem.proofs.Sound.{Solution}
-use Rattle.first_plan.specs.First.{none, firstPlan}
 use Rattle.first_plan.specs.Steps.{answer}
 use borrow.Fn.Kinds.{In}
 use borrow.Fn.PlainCycle.{Measures, is, falls, and}
@@ -279,7 +278,7 @@ tries-returns-3 t c =
     (λ w. (missed (p .0) _ _ (p .1) d e O (a .plan .now) (p .2) _ (w .6 .ensures) (w .7 .left), w .8 ∙ put-back _ _ (a .plan .now) _ _ (O .narrowed .ready) lt (w .6 .ensures) (w .7 .left)))
     (λ w. (shut (p .0) _ _ (p .1) d e O (w .0 .left), w .1))
     (c .before .before .before .before .if2 .came) in
-    ap none (x .1) ∙ all-shut (p .0) _ _ (p .1) d e (c .before .before .refute .ensures) (x .0) _ (not-true _ (c .if4 .taken))
+    all-shut (p .0) _ _ (p .1) d e (c .before .before .refute .ensures) (x .0) (a .plan .now) _ (x .1) (not-true _ (c .if4 .taken))
 
 tries-tries-requires : (t : ℕ) → tries-lts.Need-tries-requires (
   lowest16-reads.Asked,
@@ -334,7 +333,7 @@ tries-returns-4 t c =
     (λ w. (missed (p .0) _ _ (p .1) d e O (a .plan .now) (p .2) _ (w .6 .ensures) (w .7 .left), w .8 ∙ put-back _ _ (a .plan .now) _ _ (O .narrowed .ready) lt (w .6 .ensures) (w .7 .left)))
     (λ w. (shut (p .0) _ _ (p .1) d e O (w .0 .left), w .1))
     (c .before .before .before .before .before .before .before .before .before .if2 .came) in
-    c .tries .ensures ∙ ap (firstPlan _ _) (x .1) ∙ on-with (p .0) _ _ (p .1) d e (c .before .before .before .before .before .before .before .refute .ensures) (x .0) _
+    on-with (p .0) _ _ (p .1) d e (c .before .before .before .before .before .before .before .refute .ensures) (x .0) (a .plan .now) _ (x .1) _ (c .tries .ensures)
 
 pub +pick+tries-spec : {M : Type 1} → statement M
 +pick+tries-spec = close μ-pick μ-tries (λ t. pick-lts.spec (
