@@ -22,6 +22,7 @@
  *     zomuwedli_start        ZOMUWEDLI_START_STACK       40 KiB
  *     zomuwedli_hand_call    ZOMUWEDLI_HAND_CALL_STACK   40 KiB
  *     zomuwedli_put_back     ZOMUWEDLI_PUT_BACK_STACK   320 KiB, since it keeps a state for each record of the trace
+ *     zomuwedli_pick         ZOMUWEDLI_PICK_STACK       320 KiB, since it puts back inside
  *     zomuwedli_colour       ZOMUWEDLI_COLOUR_STACK      40 KiB
  */
 #ifndef ZOMUWEDLI_H
@@ -65,12 +66,13 @@ extern "C" {
 /* The item and the setting of 17 where none is named. */
 #define ZOMUWEDLI_NOT_NAMED 255
 
-/* The stack for each call, as above, and for any but putting back. */
+/* The stack for each call, as above, and for any but putting back and picking. */
 #define ZOMUWEDLI_READ_STACK (4 * 1024)
 #define ZOMUWEDLI_RUN_STACK (40 * 1024)
 #define ZOMUWEDLI_START_STACK (40 * 1024)
 #define ZOMUWEDLI_HAND_CALL_STACK (40 * 1024)
 #define ZOMUWEDLI_PUT_BACK_STACK (320 * 1024)
+#define ZOMUWEDLI_PICK_STACK (320 * 1024)
 #define ZOMUWEDLI_COLOUR_STACK (40 * 1024)
 #define ZOMUWEDLI_STACK (40 * 1024)
 
@@ -87,7 +89,7 @@ extern "C" {
     ROW(ZOMUWEDLI_REFUSED_BLOCK_ORDER, 7, "a block is without i < j < n, or not after the block before") \
     ROW(ZOMUWEDLI_REFUSED_ROW_BEYOND, 8, "a row has a bit for a setting that item j lacks") \
     ROW(ZOMUWEDLI_REFUSED_BARS_NOTHING, 9, "a block bars nothing") \
-    /* the run */ \
+    /* the run, and picking, which has 20 after it */ \
     ROW(ZOMUWEDLI_REFUSED_TRACE_BUFFER, 10, "the trace buffer is shorter than 1 + 5 x the sum of the sizes") \
     /* the hand call */ \
     ROW(ZOMUWEDLI_REFUSED_STATE_MISFIT, 11, "the state does not fit the sheet") \
@@ -100,7 +102,7 @@ extern "C" {
     ROW(ZOMUWEDLI_REFUSED_RECORD_UNLAWFUL, 17, "a record is not lawful in the state reached, or an item in has no setting on there") \
     ROW(ZOMUWEDLI_REFUSED_PLAN_LENGTH, 18, "the plan does not have one byte for each item") \
     ROW(ZOMUWEDLI_REFUSED_PLAN_UNFIT, 19, "the plan has an item out that is not 255, a setting not on, or a barred pair") \
-    ROW(ZOMUWEDLI_REFUSED_RESULT_LENGTH, 20, "the result buffer does not have one byte for each item") \
+    ROW(ZOMUWEDLI_REFUSED_RESULT_LENGTH, 20, "the buffer for the finished plan does not have one byte for each item") \
     /* the sheet of a colouring file */ \
     ROW(ZOMUWEDLI_REFUSED_GRAPH_FILE, 21, "the colouring file is over 64 KiB, has a line of no known form, has no p line or a second one or one after an e line, or names a vertex outside the stated range") \
     ROW(ZOMUWEDLI_REFUSED_GRAPH_LOOP, 22, "both ends of an edge are one vertex") \
@@ -182,6 +184,20 @@ uint64_t zomuwedli_put_back(const uint8_t *sheet, size_t sheet_length, const uin
 static inline unsigned zomuwedli_unlawful_record(uint64_t answer) { return (unsigned)(answer >> 8 & 0xffff); }
 static inline unsigned zomuwedli_unlawful_item(uint64_t answer) { return (unsigned)(answer >> 24 & 0xff); }
 static inline unsigned zomuwedli_unlawful_setting(uint64_t answer) { return (unsigned)(answer >> 32 & 0xff); }
+
+/* ---- Picking a plan: from a sheet to a finished plan of it, in one call. It runs the sheet, searches among the items left, lowest item
+ * first, lowest setting first, and puts the first plan in that order back. Refused: 200, then 1 to 9, then 10, then 20.
+ * Writes the run's trace at the front of its buffer, which keeps its old bytes after that, and the run's last state, with a plan and
+ * without; and the plan, one byte an item, where there is one. Where there is none, zomuwedli_has_plan is 0, the sheet has no plan at all,
+ * and the lent plan is as it was: that is an answer, and no refusal. What the plan holds before the call is not read. The trace buffer has
+ * at least 1 + 5 x the sum of the sizes, the plan exactly one byte for each item, which sheet[5] counts.
+ * The time has no bound but the sheet: in the worst case it is exponential in the number of items left, and the call cannot be broken off.
+ * Most sheets take milliseconds; docs/PERFORMANCE.md says which of a corpus of 200 were hard. */
+uint64_t zomuwedli_pick(const uint8_t *sheet, size_t sheet_length, uint8_t *trace, size_t trace_length, uint8_t *plan, size_t plan_length,
+                        uint8_t *state, size_t state_length);
+
+/* Whether there is a plan, and it was written. The other fields are those of the run: zomuwedli_end, zomuwedli_steps, zomuwedli_written. */
+static inline int zomuwedli_has_plan(uint64_t answer) { return (int)(answer >> 48 & 1); }
 
 /* ---- The sheet of a colouring file: from a DIMACS graph colouring file and a number of channels, the sheet whose plans are the proper
  * colourings. Vertex v is item v - 1, each item's settings are the channels, and each edge's block bars equal settings and nothing else.

@@ -210,6 +210,68 @@ static void unlawful(const uint8_t *sheet, size_t sheet_length, const uint8_t *b
     free(result);
 }
 
+/* A pick with buffers of exactly so many bytes on the heap: what it answers, the plan, or that this is as it was, and that trace, state and
+ * the fields below bit 48 are the run's. */
+static void pick_done(const uint8_t *sheet, size_t sheet_length, size_t trace_length, const uint8_t *expected, uint64_t word)
+{
+    uint8_t *trace = lent(trace_length), *plan = lent(sheet[5]), *state = lent(ZOMUWEDLI_STATE_LENGTH);
+    uint8_t *run_trace = lent(trace_length), *run_state = lent(ZOMUWEDLI_STATE_LENGTH);
+    uint64_t answer = zomuwedli_pick(sheet, sheet_length, trace, trace_length, plan, sheet[5], state, ZOMUWEDLI_STATE_LENGTH);
+    uint64_t ran = zomuwedli_run(sheet, sheet_length, run_trace, trace_length, run_state, ZOMUWEDLI_STATE_LENGTH);
+    EXPECT(answer == word);
+    EXPECT(zomuwedli_number(answer) == ZOMUWEDLI_DONE);
+    EXPECT(zomuwedli_has_plan(answer) == (expected != NULL));
+    EXPECT(zomuwedli_end(answer) == zomuwedli_end(ran) && zomuwedli_steps(answer) == zomuwedli_steps(ran));
+    EXPECT(zomuwedli_written(answer) == zomuwedli_written(ran) && (answer & UINT64_C(0xffffffffffff)) == ran);
+    EXPECT(memcmp(trace, run_trace, trace_length) == 0);
+    EXPECT(memcmp(state, run_state, ZOMUWEDLI_STATE_LENGTH) == 0);
+    EXPECT(expected != NULL ? memcmp(plan, expected, sheet[5]) == 0 : as_lent(plan, sheet[5]));
+    free(trace);
+    free(plan);
+    free(state);
+    free(run_trace);
+    free(run_state);
+}
+
+/* The whole answer is the number, and no byte of any buffer is changed. */
+static void pick_refused(const uint8_t *sheet, size_t sheet_length, size_t trace_length, size_t plan_length, size_t state_length,
+                         uint64_t number)
+{
+    uint8_t *trace = lent(trace_length), *plan = lent(plan_length), *state = lent(state_length);
+    EXPECT(zomuwedli_pick(sheet, sheet_length, trace, trace_length, plan, plan_length, state, state_length) == number);
+    EXPECT(as_lent(trace, trace_length) && as_lent(plan, plan_length) && as_lent(state, state_length));
+    free(trace);
+    free(plan);
+    free(state);
+}
+
+/* A plan with no item left, and with all of them left; none at rest, and where the end is impossible; and a plan that is not the first of the
+ * full sheet, which is 0 0 0. */
+static void picks(void)
+{
+    static const uint8_t sheet_l[] = {1, 0, 0, 0, 35, 3, 0, 3, 3, 3, 2, 0, 1, 0, 6, 0, 1, 0,
+                                      4, 0, 2, 0, 1, 0, 1, 0, 3, 1, 2, 0, 1, 0, 3, 0, 2};
+    static const uint8_t sheet_fold[] = {1, 0, 0, 0, 23, 3, 0, 2, 2, 2, 2, 0, 1, 0, 1, 0, 2, 1, 2, 0, 1, 0, 3};
+    pick_done(sheet_b, sizeof sheet_b, 21, (const uint8_t[]){0, 1}, UINT64_C(0x0001000900020100));
+    pick_done(sheet_b, sizeof sheet_b, ZOMUWEDLI_MAX_TRACE, (const uint8_t[]){0, 1}, UINT64_C(0x0001000900020100));
+    pick_done(sheet_k, sizeof sheet_k, 36, (const uint8_t[]){0, 0, 1}, UINT64_C(0x0001001200040100));
+    pick_done(sheet_l, sizeof sheet_l, 41, (const uint8_t[]){0, 1, 0}, UINT64_C(0x0001000b00020200));
+    pick_done(sheet_fold, sizeof sheet_fold, 31, (const uint8_t[]){1, 1, 0}, UINT64_C(0x0001000d00030100));
+    pick_done(sheet_c, sizeof sheet_c, 31, NULL, UINT64_C(0x0000000100000200));
+    pick_done(sheet_d, sizeof sheet_d, 11, NULL, UINT64_C(0x0000000600010000));
+    pick_refused(sheet_b, 7, 21, 2, ZOMUWEDLI_STATE_LENGTH, ZOMUWEDLI_REFUSED_SHEET_FRONT);
+    pick_refused(sheet_b, 15, 20, 3, ZOMUWEDLI_STATE_LENGTH, ZOMUWEDLI_REFUSED_SHEET_LENGTH);
+    pick_refused(sheet_b, sizeof sheet_b, 20, 2, ZOMUWEDLI_STATE_LENGTH, ZOMUWEDLI_REFUSED_TRACE_BUFFER);
+    pick_refused(sheet_b, sizeof sheet_b, 20, 3, ZOMUWEDLI_STATE_LENGTH, ZOMUWEDLI_REFUSED_TRACE_BUFFER);
+    pick_refused(sheet_b, sizeof sheet_b, 0, 0, ZOMUWEDLI_STATE_LENGTH, ZOMUWEDLI_REFUSED_TRACE_BUFFER);
+    pick_refused(sheet_b, sizeof sheet_b, 21, 3, ZOMUWEDLI_STATE_LENGTH, ZOMUWEDLI_REFUSED_RESULT_LENGTH);
+    pick_refused(sheet_b, sizeof sheet_b, 21, 1, ZOMUWEDLI_STATE_LENGTH, ZOMUWEDLI_REFUSED_RESULT_LENGTH);
+    pick_refused(sheet_b, sizeof sheet_b, 21, 0, ZOMUWEDLI_STATE_LENGTH, ZOMUWEDLI_REFUSED_RESULT_LENGTH);
+    pick_refused(sheet_b, 7, 20, 3, ZOMUWEDLI_STATE_LENGTH - 1, ZOMUWEDLI_BAD_STATE);
+    pick_refused(sheet_b, sizeof sheet_b, 21, 2, ZOMUWEDLI_STATE_LENGTH + 1, ZOMUWEDLI_REFUSED_RUN_STATE_LENGTH);
+    EXPECT(zomuwedli_pick(NULL, 0, NULL, 0, NULL, 0, NULL, 0) == ZOMUWEDLI_BAD_STATE);
+}
+
 /* The sheet of docs/FORMAT.md, "Putting back": setting 1 of item 0 is barred with setting 1 of item 1 and with setting 3 of item 2. */
 static const uint8_t sheet_cover[] = {1, 0, 0, 0, 23, 3, 0, 2, 2, 2, 4, 0, 1, 0, 3, 0, 1, 0, 2, 0, 15, 0, 7};
 
@@ -507,6 +569,7 @@ int main(void)
     unlawful_records();
     unlawful_far_on();
     longest_trace();
+    picks();
     colour_done(sizeof path_sheet);
     colour_done(ZOMUWEDLI_MAX_SHEET);
     colour_causes();

@@ -12,8 +12,8 @@
 /* A call that used less than LEAST bytes was not made. */
 enum { STACK = 1 << 20, PATTERN = 0xa5, LEAST = 64, ITEMS = ZOMUWEDLI_MAX_ITEMS, SETTINGS = ZOMUWEDLI_MAX_SETTINGS };
 
-/* ---- The sheets: 32 items of 16 settings, without a block, or with one block for each pair by one relation; and 32 items whose run takes
- * slides. */
+/* ---- The sheets: 32 items of 16 settings, without a block, or with a block for each pair that a relation bars something of; and 32 items
+ * whose run takes slides. */
 struct sheet {
     const char *name;
     size_t length;
@@ -21,40 +21,93 @@ struct sheet {
 };
 
 static struct sheet no_block = {.name = "no block"}, unequal = {.name = "unequal"}, less = {.name = "less"},
-                    parity = {.name = "unlike parity"}, equal = {.name = "equal"}, sliding = {.name = "slides"};
+                    parity = {.name = "unlike parity"}, equal = {.name = "equal"}, sliding = {.name = "slides"},
+                    one = {.name = "one plan"}, circle = {.name = "unlike parity round a circle"}, deep = {.name = "a deep search"};
 
-static unsigned is_unequal(unsigned a, unsigned b) { return a != b; }
-static unsigned is_less(unsigned a, unsigned b) { return a < b; }
-static unsigned is_of_unlike_parity(unsigned a, unsigned b) { return (a + b) % 2; }
-static unsigned is_equal(unsigned a, unsigned b) { return a == b; }
+/* Whether setting a of item i and setting b of item j, the higher one, may stand together. */
+typedef unsigned relation(unsigned i, unsigned a, unsigned j, unsigned b);
 
-static uint8_t *fill_block(uint8_t *at, unsigned i, unsigned j, unsigned (*allowed)(unsigned, unsigned))
+static unsigned is_unequal(unsigned i, unsigned a, unsigned j, unsigned b)
 {
-    *at++ = (uint8_t)i;
-    *at++ = (uint8_t)j;
-    for (unsigned a = 0; a < SETTINGS; a++) {
-        unsigned row = 0;
-        for (unsigned b = 0; b < SETTINGS; b++) {
-            row |= allowed(a, b) << b;
-        }
-        *at++ = (uint8_t)(row >> 8);
-        *at++ = (uint8_t)row;
-    }
-    return at;
+    (void)i, (void)j;
+    return a != b;
 }
 
-static void fill_pairs(struct sheet *sheet, unsigned (*allowed)(unsigned, unsigned))
+static unsigned is_less(unsigned i, unsigned a, unsigned j, unsigned b)
 {
-    static const uint8_t front[8] = {1, 0, 0, ZOMUWEDLI_MAX_SHEET >> 8, ZOMUWEDLI_MAX_SHEET & 0xff, ITEMS, 496 >> 8, 496 & 0xff};
-    uint8_t *at = sheet->bytes + 8 + ITEMS;
-    memcpy(sheet->bytes, front, 8);
-    memset(sheet->bytes + 8, SETTINGS, ITEMS);
+    (void)i, (void)j;
+    return a < b;
+}
+
+static unsigned is_of_unlike_parity(unsigned i, unsigned a, unsigned j, unsigned b)
+{
+    (void)i, (void)j;
+    return (a + b) % 2;
+}
+
+static unsigned is_equal(unsigned i, unsigned a, unsigned j, unsigned b)
+{
+    (void)i, (void)j;
+    return a == b;
+}
+
+/* The run switches off every setting but the last of each item by itself, and then takes the items out: no run has more steps. */
+static unsigned is_last(unsigned i, unsigned a, unsigned j, unsigned b)
+{
+    (void)i, (void)j;
+    return a == SETTINGS - 1 && b == SETTINGS - 1;
+}
+
+/* Only neighbours in the circle of all items are linked. The run switches off all settings but two of each item, and there are plans. */
+static unsigned is_of_unlike_parity_round(unsigned i, unsigned a, unsigned j, unsigned b)
+{
+    return (j - i != 1 && j - i != ITEMS - 1) || (a + b) % 2;
+}
+
+/* Each item but the last two has setting 15 in the first plan, and each lower setting fails at once: it leaves both of the last two setting 0
+ * alone, and these are unequal. So the search is as deep as it gets, in settings and in items. What is barred between the others lets no
+ * setting cover another; the run takes the last two down to settings 0 and 15, and no other item. */
+static unsigned is_deep(unsigned i, unsigned a, unsigned j, unsigned b)
+{
+    if (i >= ITEMS - 2) {
+        return a != b;
+    }
+    return j >= ITEMS - 2 ? a == SETTINGS - 1 || b == 0 : b != (a + 1 + (i * i + i * j + 3 * j * j) % 15) % SETTINGS;
+}
+
+/* Copies a block, and answers the place after it; the same place where it would bar nothing. */
+static uint8_t *fill_block(uint8_t *at, unsigned i, unsigned j, relation *allowed)
+{
+    unsigned barred = 0;
+    uint8_t *row = at + 2;
+    at[0] = (uint8_t)i;
+    at[1] = (uint8_t)j;
+    for (unsigned a = 0; a < SETTINGS; a++, row += 2) {
+        unsigned bits = 0;
+        for (unsigned b = 0; b < SETTINGS; b++) {
+            bits |= allowed(i, a, j, b) << b;
+        }
+        row[0] = (uint8_t)(bits >> 8);
+        row[1] = (uint8_t)bits;
+        barred |= bits ^ 0xffff;
+    }
+    return barred != 0 ? row : at;
+}
+
+static void fill_pairs(struct sheet *sheet, relation *allowed)
+{
+    uint8_t *first = sheet->bytes + 8 + ITEMS, *at = first;
     for (unsigned i = 0; i < ITEMS; i++) {
         for (unsigned j = i + 1; j < ITEMS; j++) {
             at = fill_block(at, i, j, allowed);
         }
     }
+    size_t blocks = (size_t)(at - first) / (2 + 2 * SETTINGS);
     sheet->length = (size_t)(at - sheet->bytes);
+    memcpy(sheet->bytes,
+           (const uint8_t[]){1, 0, 0, (uint8_t)(sheet->length >> 8), (uint8_t)sheet->length, ITEMS, (uint8_t)(blocks >> 8), (uint8_t)blocks},
+           8);
+    memset(sheet->bytes + 8, SETTINGS, ITEMS);
 }
 
 /* Sheets K and L of docs/FORMAT.md, "Bench sheets", by turns, five of each, and two items of 16 settings without a block. K's run is a slide,
@@ -144,15 +197,33 @@ static void prepare_put_back(const struct sheet *sheet)
     }
 }
 
-/* The sum of the result's bytes stands above the answer. */
-static uint64_t put_back(const struct sheet *sheet)
+static uint64_t result_sum(void)
 {
     uint64_t sum = 0;
-    uint64_t answer = zomuwedli_put_back(sheet->bytes, sheet->length, trace, written, plan, sizeof plan, result, sizeof result);
     for (unsigned i = 0; i < ITEMS; i++) {
         sum += result[i];
     }
-    return answer | sum << 32;
+    return sum;
+}
+
+/* The sum of the result's bytes stands above the answer. */
+static uint64_t put_back(const struct sheet *sheet)
+{
+    uint64_t answer = zomuwedli_put_back(sheet->bytes, sheet->length, trace, written, plan, sizeof plan, result, sizeof result);
+    return answer | result_sum() << 32;
+}
+
+static void prepare_pick(const struct sheet *sheet)
+{
+    (void)sheet;
+    memset(result, 0, sizeof result);
+}
+
+/* The sum of the plan's bytes stands above the answer, which has 49 bits. */
+static uint64_t pick(const struct sheet *sheet)
+{
+    uint64_t answer = zomuwedli_pick(sheet->bytes, sheet->length, trace, sizeof trace, result, sizeof result, state, sizeof state);
+    return answer | result_sum() << 49;
 }
 
 /* A line of the file: an edge, or, where the sheet has no block, a comment of as many bytes. */
@@ -187,16 +258,17 @@ static uint64_t colour(const struct sheet *sheet)
 /* ---- What is measured, and what each call answers. */
 #define READ_ANSWER(blocks) ((uint64_t)ITEMS << 8 | (uint64_t)(blocks) << 16)
 #define RUN_ANSWER(end, steps, bytes) ((uint64_t)(end) << 8 | (uint64_t)(steps) << 16 | (uint64_t)(bytes) << 32)
+#define PICK_ANSWER(run, has_plan, figure) ((run) | (uint64_t)(has_plan) << 48 | (uint64_t)(figure) << 49)
 #define COLOUR_ANSWER(bytes) ((uint64_t)(bytes) << 8)
 #define AND(answer, figure) ((uint64_t)(answer) | (uint64_t)(figure) << 32)
 
-/* What is enough for any call but putting back is enough for each of them. */
+/* What is enough for any call but putting back and picking is enough for each of them. */
 _Static_assert(ZOMUWEDLI_READ_STACK <= ZOMUWEDLI_STACK && ZOMUWEDLI_RUN_STACK <= ZOMUWEDLI_STACK
                    && ZOMUWEDLI_START_STACK <= ZOMUWEDLI_STACK && ZOMUWEDLI_HAND_CALL_STACK <= ZOMUWEDLI_STACK
                    && ZOMUWEDLI_COLOUR_STACK <= ZOMUWEDLI_STACK,
                "ZOMUWEDLI_STACK is less than some call's own");
 
-enum { MOST_CALLS = 6 };
+enum { MOST_CALLS = 8 };
 
 struct job {
     const char *name;
@@ -239,6 +311,19 @@ static const struct job jobs[] = {
      prepare_put_back,
      put_back,
      {{&no_block, AND(0, 0)}, {&parity, AND(19, ITEMS * PATTERN)}, {&equal, AND(0, 0)}, {&sliding, AND(19, ITEMS * PATTERN)}}},
+    /* The last three put back through 512 records, as many as there can be, put back through 448 after a search, and search deepest. */
+    {"pick",
+     ZOMUWEDLI_PICK_STACK,
+     prepare_pick,
+     pick,
+     {{&no_block, PICK_ANSWER(RUN_ANSWER(ZOMUWEDLI_SOLVED, 32, 1 + 4 * 32), 1, 0)},
+      {&less, PICK_ANSWER(RUN_ANSWER(ZOMUWEDLI_IMPOSSIBLE, 241, 1 + 5 * 241), 0, 0)},
+      {&parity, PICK_ANSWER(RUN_ANSWER(ZOMUWEDLI_REST, 448, 1 + 5 * 448), 0, 0)},
+      {&equal, PICK_ANSWER(RUN_ANSWER(ZOMUWEDLI_SOLVED, 32, 1 + 4 * 32), 1, 0)},
+      {&sliding, PICK_ANSWER(RUN_ANSWER(ZOMUWEDLI_REST, 2 + 5 * (4 + 2), 1 + 4 * 2 + 5 * (17 + 10)), 1, 5 * (1 + 1))},
+      {&one, PICK_ANSWER(RUN_ANSWER(ZOMUWEDLI_SOLVED, 512, LONGEST_TRACE), 1, ITEMS * 15)},
+      {&circle, PICK_ANSWER(RUN_ANSWER(ZOMUWEDLI_REST, 448, 1 + 5 * 448), 1, 16 * 14 + 16 * 15)},
+      {&deep, PICK_ANSWER(RUN_ANSWER(ZOMUWEDLI_REST, 2 * 14, 1 + 5 * 2 * 14), 1, 31 * 15)}}},
     {"colour",
      ZOMUWEDLI_COLOUR_STACK,
      prepare_colour,
@@ -322,6 +407,9 @@ int main(void)
     fill_pairs(&parity, is_of_unlike_parity);
     fill_pairs(&equal, is_equal);
     fill_sliding(&sliding);
+    fill_pairs(&one, is_last);
+    fill_pairs(&circle, is_of_unlike_parity_round);
+    fill_pairs(&deep, is_deep);
     struct call alone = {&baseline, &no_block, 1};
     size_t own = used(&alone, 0);
     for (unsigned k = 0; k < sizeof jobs / sizeof jobs[0]; k++) {

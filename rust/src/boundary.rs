@@ -1,4 +1,4 @@
-//! The six C functions of the proved library over slices: the one place with unsafe code.
+//! The seven C functions of the proved library over slices: the one place with unsafe code.
 //!
 //! Each function answers one word (docs/FORMAT.md, "The state's bytes and the C boundary"): bits 0 to 7 hold 0 or the number of the
 //! refusal, the bits above what a call that was done answers, or what 17 of putting back carries. Here the word is taken apart and nothing
@@ -26,6 +26,16 @@ extern "C" {
         result: *mut u8,
         result_length: usize,
     ) -> u64;
+    fn zomuwedli_pick(
+        sheet: *const u8,
+        sheet_length: usize,
+        trace: *mut u8,
+        trace_length: usize,
+        plan: *mut u8,
+        plan_length: usize,
+        state: *mut u8,
+        state_length: usize,
+    ) -> u64;
     fn zomuwedli_colour(file: *const u8, file_length: usize, channels: u64, sheet: *mut u8, sheet_length: usize) -> u64;
 }
 
@@ -41,8 +51,12 @@ pub fn read(sheet: &[u8]) -> Result<(u8, u16), u8> {
 pub fn run(sheet: &[u8], trace: &mut [u8], state: &mut [u8]) -> Result<(u8, u16, u16), u8> {
     // SAFETY: each pointer and length are of one live slice; the two that are written are lent as mutable, so that none overlaps them.
     let word = unsafe { zomuwedli_run(sheet.as_ptr(), sheet.len(), trace.as_mut_ptr(), trace.len(), state.as_mut_ptr(), state.len()) };
-    let fields = taken(word, 48)?;
-    Ok((fields as u8, (fields >> 8) as u16, (fields >> 24) as u16))
+    taken(word, 48).map(run_fields)
+}
+
+/// The end, the number of steps and the bytes written of an answer's fields.
+fn run_fields(fields: u64) -> (u8, u16, u16) {
+    (fields as u8, (fields >> 8) as u16, (fields >> 24) as u16)
 }
 
 /// Nothing but that it was done.
@@ -93,6 +107,25 @@ pub fn put_back_taken(word: u64) -> Result<(), PutBackFault> {
         return Err(PutBackFault::Unlawful { record: (word >> 8) as u16, item: (word >> 24) as u8, setting: (word >> 32) as u8 });
     }
     taken(word, 8).map(|_| ()).map_err(PutBackFault::Number)
+}
+
+/// The end, the number of steps and the bytes written of the run, and whether a plan was written.
+pub fn pick(sheet: &[u8], trace: &mut [u8], plan: &mut [u8], state: &mut [u8]) -> Result<((u8, u16, u16), bool), u8> {
+    // SAFETY: each pointer and length are of one live slice; the three that are written are lent as mutable, so that none overlaps them.
+    let word = unsafe {
+        zomuwedli_pick(
+            sheet.as_ptr(),
+            sheet.len(),
+            trace.as_mut_ptr(),
+            trace.len(),
+            plan.as_mut_ptr(),
+            plan.len(),
+            state.as_mut_ptr(),
+            state.len(),
+        )
+    };
+    let fields = taken(word, 49)?;
+    Ok((run_fields(fields), fields >> 40 == 1))
 }
 
 /// The bytes written.

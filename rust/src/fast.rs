@@ -1,16 +1,16 @@
-//! The six jobs written for speed, from docs/FORMAT.md: sets as bit masks, and the rows of every pair both ways in one dense table. The
+//! The seven jobs written for speed, from docs/FORMAT.md: sets as bit masks, and the rows of every pair both ways in one dense table. The
 //! answers' types and the limits are those of the library; all else is written here. No part of the library: tests/support has it.
 //!
 //! Two facts save most of the work, and neither changes the trace. A state only ever shrinks, so a value that covers another at an item
 //! covers it there for good: for each two values one mark, the lowest item at which the one may fail to cover the other, only moves up
 //! (`Reduction::gap`). And a rule that failed rests on a few items only: it is not tested again before one of them changes (`Failed`).
 //! Slides are looked for last, and all those of one item together, as words (`Reduction::slides_from`): a run that comes to rest has to
-//! test every one.
+//! test every one. The search for a plan keeps every set arc consistent, four items to a word (`Search`).
 
 use zomuwedli::{Accepted, End, Refusal, Taken, Unlawful, Written};
 use zomuwedli::{HAND_STATE_LENGTH, MAX_FILE, MAX_ITEMS, MAX_SETTINGS, NOT_NAMED, OUT, STATE_LENGTH};
 
-use super::{Answer, Done, Fault};
+use super::{Answer, Chosen, Done, Fault};
 
 /// What a mark says when no item is left at which a value fails to cover another.
 const NONE: usize = MAX_ITEMS;
@@ -281,6 +281,11 @@ enum Step {
 }
 
 impl Step {
+    /// Whether undoing it changes a plan.
+    fn takes_out(self) -> bool {
+        matches!(self, Step::Snake { .. } | Step::Triangle { .. })
+    }
+
     /// Writes the record at the front of the buffer, and answers its length.
     fn write(self, buffer: &mut [u8]) -> usize {
         let (fields, length) = match self {
@@ -680,12 +685,167 @@ impl Reduction {
     }
 }
 
+// ---- The search ---------------------------------------------------------------------------------------------------------------------
+
+/// The values still open at each item, sixteen bits for each and four items in a word: what is done for each item is done for four at once,
+/// or for eight where the compiler finds it. An item out has all its bits, so that its set never changes and is never empty.
+type Sets = [u64; MAX_ITEMS / 4];
+
+/// One bit in each of the four sets of a word, the lowest or the highest.
+const LOWEST: u64 = 0x0001_0001_0001_0001;
+const HIGHEST: u64 = LOWEST << 15;
+
+fn set_of(sets: &Sets, i: usize) -> u16 {
+    (sets[i / 4] >> (i % 4 * 16)) as u16
+}
+
+fn is_open(set: u16) -> bool {
+    set & (set - 1) != 0
+}
+
+/// The highest bit of each set of a word that is not empty: any lower bit carries into it when these are added.
+fn not_empty(word: u64) -> u64 {
+    (((word & !HIGHEST) + !HIGHEST) | word) & HIGHEST
+}
+
+/// Four items, a bit for each, from the highest bits of their sets: one product moves them side by side.
+fn items_of(highest: u64) -> u32 {
+    const TOGETHER: u64 = 1 << 48 | 1 << 33 | 1 << 18 | 1 << 3;
+    ((highest >> 15).wrapping_mul(TOGETHER) >> 48) as u32 & 15
+}
+
+/// The search for the first plan of a state. It asks whether there is any plan with the values fixed so far, and looks for it in the order
+/// that serves it best; what is answered is the first plan all the same.
+struct Search {
+    /// The items in.
+    left: u32,
+    /// `rows[i][a]`: what is allowed with value a of i at each other item in; at i itself a alone.
+    rows: [[Sets; MAX_SETTINGS]; MAX_ITEMS],
+    /// How often a set was emptied by or at an item: the search goes where it failed before. Nothing that is answered rests on it.
+    weights: [u32; MAX_ITEMS],
+}
+
+impl Search {
+    fn new() -> Search {
+        Search { left: 0, rows: [[[0; MAX_ITEMS / 4]; MAX_SETTINGS]; MAX_ITEMS], weights: [1; MAX_ITEMS] }
+    }
+
+    /// The first plan of a state in which every value has its supports, as that of a run has, and no item is emptied: a set of one value for
+    /// each item in. Items are fixed in their order, each at the lowest value with which there is a plan still. The plan that was found last
+    /// answers the question by itself where it has that value.
+    fn first_plan(&mut self, table: &Table, state: &State) -> Option<Sets> {
+        let mut sets = self.begin(table, state);
+        let mut known = self.any_plan(sets)?;
+        for i in members(state.items) {
+            while is_open(set_of(&sets, i)) {
+                let a = set_of(&sets, i).trailing_zeros() as usize;
+                let fixed = self.fix(&sets, i, a);
+                let has_it = set_of(&known, i) >> a & 1 == 1;
+                let found = if has_it { Some(known) } else { fixed.and_then(|fixed| self.any_plan(fixed)) };
+                match (found, fixed) {
+                    (Some(found), Some(fixed)) => (known, sets) = (found, fixed),
+                    // The plan that is known stays in the sets, so none is emptied.
+                    _ => sets = self.without(&sets, i, a).expect("the plan that was found last"),
+                }
+            }
+        }
+        Some(sets)
+    }
+
+    /// Takes the rows of the items in over, and answers their sets.
+    fn begin(&mut self, table: &Table, state: &State) -> Sets {
+        let out: [u16; MAX_ITEMS] = std::array::from_fn(|i| if has(state.items, i) { 0 } else { u16::MAX });
+        let packed = |lanes: [u16; MAX_ITEMS]| -> Sets {
+            std::array::from_fn(|word| (0..4).fold(0, |four, lane| four | u64::from(lanes[4 * word + lane]) << (16 * lane)))
+        };
+        self.left = state.items;
+        self.weights = [1; MAX_ITEMS];
+        for i in members(state.items) {
+            for a in values(state.settings[i]) {
+                let mut lanes = table.rows[i][a];
+                lanes.iter_mut().zip(&out).for_each(|(lane, out)| *lane |= out);
+                lanes[i] = 1 << a;
+                self.rows[i][a] = packed(lanes);
+            }
+        }
+        packed(std::array::from_fn(|i| state.settings[i] | out[i]))
+    }
+
+    /// Some plan within these sets: the item with the fewest values for its weight is branched on, the lowest value first.
+    fn any_plan(&mut self, mut sets: Sets) -> Option<Sets> {
+        let cost = |i: &usize| set_of(&sets, *i).count_ones() * 65_536 / self.weights[*i];
+        // Where each has one value and all have their supports, they are a plan.
+        let Some(i) = members(self.left).filter(|&i| is_open(set_of(&sets, i))).min_by_key(cost) else {
+            return Some(sets);
+        };
+        loop {
+            let a = set_of(&sets, i).trailing_zeros() as usize;
+            if let Some(found) = self.fix(&sets, i, a).and_then(|fixed| self.any_plan(fixed)) {
+                return Some(found);
+            }
+            sets = self.without(&sets, i, a)?;
+        }
+    }
+
+    /// The sets with value a alone at i, and what has no support then taken off; nothing where a set is emptied.
+    fn fix(&mut self, sets: &Sets, i: usize, a: usize) -> Option<Sets> {
+        let mut fixed = *sets;
+        let changed = narrow(&mut fixed, &self.rows[i][a], i, &mut self.weights)?;
+        self.settle(fixed, changed & !(1 << i))
+    }
+
+    /// The same with value a off at i.
+    fn without(&mut self, sets: &Sets, i: usize, a: usize) -> Option<Sets> {
+        let mut fewer = *sets;
+        fewer[i / 4] &= !(1 << (i % 4 * 16 + a));
+        if set_of(&fewer, i) == 0 {
+            return None;
+        }
+        self.settle(fewer, 1 << i)
+    }
+
+    /// Takes off what has no support at an item that changed, from these items on, until nothing changes.
+    fn settle(&mut self, mut sets: Sets, mut changed: u32) -> Option<Sets> {
+        while changed != 0 {
+            let k = changed.trailing_zeros() as usize;
+            changed &= changed - 1;
+            let mut supported = [0; MAX_ITEMS / 4];
+            for a in values(set_of(&sets, k)) {
+                supported.iter_mut().zip(&self.rows[k][a]).for_each(|(all, row)| *all |= row);
+            }
+            changed |= narrow(&mut sets, &supported, k, &mut self.weights)?;
+        }
+        Some(sets)
+    }
+}
+
+/// Leaves of the sets what is supported at item k too: the items that lose a value, or nothing where one is emptied, which weighs.
+#[inline(always)]
+fn narrow(sets: &mut Sets, supported: &Sets, k: usize, weights: &mut [u32; MAX_ITEMS]) -> Option<u32> {
+    let mut changed = 0;
+    for (word, (set, supported)) in sets.iter_mut().zip(supported).enumerate() {
+        let lost = *set & !supported;
+        if lost != 0 {
+            *set &= supported;
+            let emptied = not_empty(*set) ^ HIGHEST;
+            if emptied != 0 {
+                weights[k] += 1;
+                weights[4 * word + items_of(emptied).trailing_zeros() as usize] += 1;
+                return None;
+            }
+            changed |= items_of(not_empty(lost)) << (4 * word);
+        }
+    }
+    Some(changed)
+}
+
 // ---- The jobs -----------------------------------------------------------------------------------------------------------------------
 
 /// The memory that the jobs work in, to be used again from call to call.
 pub struct Workspace {
     table: Box<Table>,
     reduction: Box<Reduction>,
+    search: Box<Search>,
 }
 
 impl Default for Workspace {
@@ -696,7 +856,7 @@ impl Default for Workspace {
 
 impl Workspace {
     pub fn new() -> Workspace {
-        Workspace { table: Box::new(Table::new()), reduction: Box::new(Reduction::new()) }
+        Workspace { table: Box::new(Table::new()), reduction: Box::new(Reduction::new()), search: Box::new(Search::new()) }
     }
 
     /// Reads a sheet.
@@ -714,17 +874,54 @@ impl Workspace {
         if trace.len() < self.table.trace_length() {
             return Err(Refusal::TraceBuffer.into());
         }
+        let done = self.reduce(trace, |_, _| {});
+        state.copy_from_slice(&self.reduction.state.to_bytes());
+        Ok(done)
+    }
+
+    /// The run once its sheet is read, and its buffer is long enough; each step is told with the state before it.
+    #[inline(always)]
+    fn reduce(&mut self, trace: &mut [u8], mut tell: impl FnMut(&State, Step)) -> Done {
         self.reduction.begin(&self.table, self.table.full_state());
         let mut steps = 0;
         let mut written = 1;
         trace[0] = 1;
         while let Some(step) = self.reduction.next_step(&self.table) {
+            tell(&self.reduction.state, step);
             self.reduction.perform(&self.table, step);
             written += step.write(&mut trace[written..]);
             steps += 1;
         }
+        Done { end: self.reduction.end(), steps, written }
+    }
+
+    /// Picks a plan: the run, the first plan of what is left, and putting it back.
+    pub fn pick(&mut self, sheet: &[u8], trace: &mut [u8], plan: &mut [u8], state: &mut [u8]) -> Answer<Chosen> {
+        if state.len() != STATE_LENGTH {
+            return Err(Fault::RunStateLength);
+        }
+        self.table.fill(sheet)?;
+        if trace.len() < self.table.trace_length() {
+            return Err(Refusal::TraceBuffer.into());
+        }
+        if plan.len() != self.table.count {
+            return Err(Refusal::ResultLength.into());
+        }
+        let mut steps = Vec::new();
+        let run = self.reduce(trace, |before, step| {
+            if step.takes_out() {
+                steps.push((before.clone(), step));
+            }
+        });
         state.copy_from_slice(&self.reduction.state.to_bytes());
-        Ok(Done { end: self.reduction.end(), steps, written })
+        let left = &self.reduction.state;
+        let first = if self.reduction.emptied { None } else { self.search.first_plan(&self.table, left) };
+        if let Some(sets) = first {
+            let value = |i: usize| if has(left.items, i) { set_of(&sets, i).trailing_zeros() as u8 } else { OUT };
+            plan.iter_mut().enumerate().for_each(|(i, byte)| *byte = value(i));
+            steps.iter().rev().for_each(|(before, step)| self.table.undo(before, *step, plan));
+        }
+        Ok(Chosen { run, has_plan: first.is_some() })
     }
 
     /// Starts taking out by hand.
@@ -801,7 +998,7 @@ impl Workspace {
                 let (item, setting) = self.reduction.named(&self.table, step);
                 return Err(Unlawful { record: records_before(trace, place), item, setting }.into());
             }
-            if matches!(step, Step::Snake { .. } | Step::Triangle { .. }) {
+            if step.takes_out() {
                 steps.push((self.reduction.state.clone(), step));
             }
             self.reduction.perform(&self.table, step);

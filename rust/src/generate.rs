@@ -239,6 +239,18 @@ pub fn sliding_draft(random: &mut Random) -> Draft {
     linked_draft(random, n, 4, barred)
 }
 
+/// A sheet whose run often comes to rest, with a plan and without: 5 to 9 items of 3 to 5 settings, all pairs linked or most of them, and
+/// about as many pairs of settings barred as leave one plan.
+pub fn resting_draft(random: &mut Random) -> Draft {
+    let (n, percent) = (random.between(5, 9), random.pick(&[60, 80, 100]));
+    let size = random.between(3, 5);
+    let linked: Vec<bool> = (0..n * n).map(|_| random.chance(percent)).collect();
+    let degree = percent as f64 / 100.0 * (n - 1) as f64;
+    let critical = 1.0 - (size as f64).powf(-2.0 / degree);
+    let barred = (critical * random.between(80, 110) as f64) as usize;
+    Draft::new(vec![size as u8; n], |i, _, j, _| !linked[i * n + j] || !random.chance(barred))
+}
+
 /// A larger sheet whose run often takes slides, mostly several: 3 items of 6 to 16 settings; 9 to 16 items of 5 to 8, a few of the pairs
 /// linked; or 2 to 8 groups of 4 items of 4.
 pub fn large_sliding_draft(random: &mut Random) -> Draft {

@@ -1,4 +1,4 @@
-//! The six jobs of the proved library.
+//! The seven jobs of the proved library.
 
 use std::fmt;
 
@@ -113,6 +113,14 @@ pub struct Run {
     pub state: State,
 }
 
+impl Run {
+    /// The end, the number of steps and the bytes written, and the state.
+    fn new((end, steps, written): (u8, u16, u16), state: State) -> Run {
+        let end = End::from_number(end).unwrap_or_else(|| panic!("the library answered the end {end}"));
+        Run { end, steps: steps.into(), written: written.into(), state }
+    }
+}
+
 /// Works a sheet down to its end. Refused: 1 to 9, then 10.
 ///
 /// The trace goes to the front of the buffer, which keeps its old bytes after it. A buffer of [`MAX_TRACE`](crate::MAX_TRACE) bytes is
@@ -133,9 +141,8 @@ pub struct Run {
 /// ```
 pub fn run(sheet: &[u8], trace: &mut [u8]) -> Result<Run, Refusal> {
     let mut state = State::EMPTY;
-    let (end, steps, written) = boundary::run(sheet, trace, &mut state.bytes).map_err(refusal)?;
-    let end = End::from_number(end).unwrap_or_else(|| panic!("the library answered the end {end}"));
-    Ok(Run { end, steps: steps.into(), written: written.into(), state })
+    let fields = boundary::run(sheet, trace, &mut state.bytes).map_err(refusal)?;
+    Ok(Run::new(fields, state))
 }
 
 /// Starts taking out by hand. Refused: 1 to 9.
@@ -231,6 +238,59 @@ pub fn put_back(sheet: &[u8], trace: &[u8], plan: &[u8], result: &mut [u8]) -> R
             PutBackRefusal { refusal: Refusal::RecordUnlawful, unlawful: Some(Unlawful { record, item, setting }) }
         }
     })
+}
+
+/// What picking a plan answers: the run's own, and whether the sheet has a plan.
+///
+/// ```
+/// use zomuwedli::{pick, End, MAX_TRACE};
+///
+/// // Sheet D: two items of one setting, the pair barred.
+/// let mut plan = [7, 7];
+/// let picked = pick(&[1, 0, 0, 0, 14, 2, 0, 1, 1, 1, 0, 1, 0, 0], &mut [0; MAX_TRACE], &mut plan)?;
+/// assert_eq!((picked.run.end, picked.has_plan), (End::Impossible, false));
+/// assert_eq!(plan, [7, 7]);
+/// # Ok::<(), zomuwedli::Refusal>(())
+/// ```
+#[must_use]
+#[derive(Clone, PartialEq, Eq, Hash, Debug)]
+pub struct Picked {
+    /// What the run answered: its trace is in the trace buffer, with a plan and without.
+    pub run: Run,
+    /// Whether there is a plan, and it was written. Where there is none the sheet has no plan at all, and the lent plan is as it was.
+    pub has_plan: bool,
+}
+
+/// Picks a plan of a sheet: runs it, searches among the items left, lowest item first, lowest setting first, and puts the first plan in that
+/// order back. Refused: 1 to 9, then 10, then 20.
+///
+/// The trace buffer is that of [`run`], and holds the run's trace afterwards, with a plan and without. The plan has a byte for each item; it
+/// is written where there is one, and what it holds before is not read. That there is none is an answer, and no error.
+///
+/// The time has no bound but the sheet: in the worst case it is exponential in the number of items left. The call puts back inside, for
+/// which [`PICK_STACK`](crate::PICK_STACK) bytes of stack are enough.
+///
+/// ```
+/// use zomuwedli::{pick, Refusal, MAX_TRACE};
+///
+/// // Sheet L: three items of 3, 3 and 2 settings. Its run takes no item out, and a search decides.
+/// let sheet = [
+///     1, 0, 0, 0, 35, 3, 0, 3, 3, 3, 2, 0, 1, 0, 6, 0, 1, 0, 4, 0, 2, 0, 1, 0, 1, 0, 3, 1, 2, 0, 1, 0, 3, 0, 2,
+/// ];
+/// let mut trace = [0; MAX_TRACE];
+/// let mut plan = [0; 3];
+/// let picked = pick(&sheet, &mut trace, &mut plan)?;
+/// assert!(picked.has_plan);
+/// assert_eq!(plan, [0, 1, 0]);
+/// assert_eq!(picked.run.state.count_items(), 3);
+///
+/// assert_eq!(pick(&sheet, &mut trace, &mut [0; 2]), Err(Refusal::ResultLength));
+/// # Ok::<(), Refusal>(())
+/// ```
+pub fn pick(sheet: &[u8], trace: &mut [u8], plan: &mut [u8]) -> Result<Picked, Refusal> {
+    let mut state = State::EMPTY;
+    let (fields, has_plan) = boundary::pick(sheet, trace, plan, &mut state.bytes).map_err(refusal)?;
+    Ok(Picked { run: Run::new(fields, state), has_plan })
 }
 
 /// What a job that writes a sheet answers.

@@ -2,7 +2,7 @@
 //!
 //! A *sheet* lists items, the settings of each, and which settings of two items may stand together. A run crosses off settings and takes
 //! out items that cannot matter, and writes each step into a trace; a plan for the items left is put back through the trace into a plan
-//! of the full sheet. What each job does, byte for byte, is in docs/FORMAT.md of the repository.
+//! of the full sheet. Picking does all of it, with a search for the plan between. What each job does, byte for byte, is in docs/FORMAT.md of the repository.
 //!
 //! | job | refused, by number |
 //! |---|---|
@@ -11,6 +11,7 @@
 //! | [`start`]: starts taking items out by hand | 1 to 9 |
 //! | [`hand_call`]: takes one item out by hand | 1 to 9, 11, 12, 13, 14 |
 //! | [`put_back`]: from a trace and a plan for the items left, the plan of the full sheet | 1 to 9, 18, 20, 15, 16, 17, 19 |
+//! | [`pick`]: from a sheet to a finished plan, or that it has none | 1 to 9, 10, 20 |
 //! | [`colour`]: from a graph colouring file and a channel count, the sheet of its proper colourings | 21, 22, 23, 24, 25 |
 //!
 //! Each answers a `Result`, and a refused call changes no byte that was lent to it. The error is a [`Refusal`], and of putting back a
@@ -18,17 +19,19 @@
 //! between calls and may be called from several threads. [`records`] takes a trace apart and [`trace_of`] writes one; these two are plain
 //! Rust.
 //!
-//! Here two items of two settings each are unequal: the run takes out both, and nothing is left to plan.
+//! Here two items of two settings each are unequal. A plan in one call, and by its parts: the run takes out both items, and nothing is left
+//! to plan.
 //!
 //! ```
-//! use zomuwedli::{put_back, run, End, MAX_TRACE, OUT};
+//! use zomuwedli::{pick, put_back, run, End, MAX_TRACE, OUT};
 //!
 //! let sheet = [1, 0, 0, 0, 16, 2, 0, 1, 2, 2, 0, 1, 0, 2, 0, 1];
-//! let mut trace = [0; MAX_TRACE];
+//! let (mut trace, mut plan) = ([0; MAX_TRACE], [0; 2]);
+//! assert!(pick(&sheet, &mut trace, &mut plan)?.has_plan);
+//! assert_eq!(plan, [0, 1]);
+//!
 //! let run = run(&sheet, &mut trace)?;
 //! assert_eq!(run.end, End::Solved);
-//!
-//! let mut plan = [0; 2];
 //! put_back(&sheet, &trace[..run.written], &[OUT, OUT], &mut plan)?;
 //! assert_eq!(plan, [0, 1]);
 //! # Ok::<(), zomuwedli::Refusal>(())
@@ -38,10 +41,10 @@
 #![deny(unsafe_code)]
 #![deny(unsafe_op_in_unsafe_fn)]
 
-// reference.rs, fast.rs and generate.rs beside this file are no part of the library: tests/support has them.
+// reference.rs, fast.rs, generate.rs and corpus.rs beside this file are no part of the library: tests/support has them.
 #[allow(unsafe_code)]
 mod boundary;
-/// An answer that is dropped is warned of, here as an error: each of these six does not compile.
+/// An answer that is dropped is warned of, here as an error: each of these seven does not compile.
 ///
 /// ```compile_fail
 /// # #![deny(unused_must_use)]
@@ -85,6 +88,14 @@ mod boundary;
 /// ```compile_fail
 /// # #![deny(unused_must_use)]
 /// # fn dropped() -> Result<(), zomuwedli::Refusal> {
+/// zomuwedli::pick(&[], &mut [], &mut [])?;
+/// # Ok(())
+/// # }
+/// ```
+///
+/// ```compile_fail
+/// # #![deny(unused_must_use)]
+/// # fn dropped() -> Result<(), zomuwedli::Refusal> {
 /// zomuwedli::colour(&[], 1, &mut [])?;
 /// # Ok(())
 /// # }
@@ -100,6 +111,7 @@ mod boundary;
 /// let _ = zomuwedli::start(&[])?;
 /// let _ = zomuwedli::hand_call(&[], state, 0)?;
 /// let _ = zomuwedli::put_back(&[], &[], &[], &mut []);
+/// let _ = zomuwedli::pick(&[], &mut [], &mut [])?;
 /// let _ = zomuwedli::colour(&[], 1, &mut [])?;
 /// # Ok(())
 /// # }
@@ -114,7 +126,7 @@ mod trace;
 #[doc = include_str!("../README.md")]
 mod readme {}
 
-pub use jobs::{colour, hand_call, put_back, read, run, start, Accepted, End, Run, Taken, Written};
+pub use jobs::{colour, hand_call, pick, put_back, read, run, start, Accepted, End, Picked, Run, Taken, Written};
 pub use refusal::{PutBackRefusal, Refusal, Unlawful};
 pub use state::{HandState, State};
 pub use trace::{records, trace_of, Record, Records};
@@ -219,7 +231,7 @@ pub const OUT: u8 = 255;
 /// ```
 pub const NOT_NAMED: u8 = 255;
 
-/// The stack that is enough for any call but putting back, in bytes.
+/// The stack that is enough for any call but putting back and picking, in bytes.
 ///
 /// ```
 /// // A thread needs some beside that of the call.
@@ -236,3 +248,10 @@ pub const STACK: usize = 40 * 1024;
 /// assert!(zomuwedli::PUT_BACK_STACK >= zomuwedli::MAX_RECORDS * zomuwedli::STATE_LENGTH);
 /// ```
 pub const PUT_BACK_STACK: usize = 320 * 1024;
+
+/// The stack that is enough for picking, in bytes: it puts back inside.
+///
+/// ```
+/// assert!(zomuwedli::PICK_STACK >= zomuwedli::PUT_BACK_STACK);
+/// ```
+pub const PICK_STACK: usize = 320 * 1024;

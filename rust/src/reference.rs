@@ -1,4 +1,4 @@
-//! The six jobs written from docs/FORMAT.md alone, for clarity: lists of items and settings, one function for each rule, and the
+//! The seven jobs written from docs/FORMAT.md alone, for clarity: lists of items and settings, one function for each rule, and the
 //! sentence of that paper over it. The answers' types and the limits are those of the library; all else is written here. No part of the
 //! library: tests/support has it.
 //!
@@ -10,7 +10,7 @@ use std::collections::BTreeSet;
 use zomuwedli::{Accepted, End, Refusal, Taken, Unlawful, Written};
 use zomuwedli::{HAND_STATE_LENGTH, MAX_FILE, MAX_ITEMS, MAX_SETTINGS, NOT_NAMED, OUT, STATE_LENGTH};
 
-use super::{Answer, Done, Fault};
+use super::{Answer, Chosen, Done, Fault};
 
 /// What a sheet says: how many values each variable has, and which pairs are allowed.
 #[derive(Clone)]
@@ -46,6 +46,11 @@ impl Problem {
     /// How many values each variable has.
     pub fn sizes(&self) -> &[usize] {
         &self.sizes
+    }
+
+    /// "1 + 5 × the sum of the sizes."
+    fn trace_length(&self) -> usize {
+        1 + 5 * self.sizes.iter().sum::<usize>()
     }
 
     /// The same by the slide rule of before, which "had i among the items where e covers d". "No job has it": it is to be compared with.
@@ -442,6 +447,33 @@ impl Problem {
     }
 }
 
+// ---- The search ---------------------------------------------------------------------------------------------------------------------
+
+impl Problem {
+    /// The first plan of a state, "lowest item first, lowest setting first": 255 for the items out.
+    pub fn first_plan(&self, state: &State) -> Option<Vec<u8>> {
+        let mut plan = vec![OUT; self.sizes.len()];
+        // Where an item in has no setting on there is nothing to be searched for, among however many others.
+        (!state.emptied() && self.complete(state, state.active(), &mut plan)).then_some(plan)
+    }
+
+    /// Gives these variables values, the lowest that go with those chosen before; whether it can be done.
+    fn complete(&self, state: &State, left: &[usize], plan: &mut [u8]) -> bool {
+        let [i, rest @ ..] = left else { return true };
+        for &a in state.live(*i) {
+            let chosen = |j: &usize| plan[*j] != OUT;
+            if state.others(*i).filter(chosen).all(|j| self.allowed(*i, a, j, usize::from(plan[j]))) {
+                plan[*i] = a as u8;
+                if self.complete(state, rest, plan) {
+                    return true;
+                }
+                plan[*i] = OUT;
+            }
+        }
+        false
+    }
+}
+
 // ---- The jobs -----------------------------------------------------------------------------------------------------------------------
 
 /// Reads a sheet.
@@ -456,7 +488,7 @@ pub fn run(sheet: &[u8], trace: &mut [u8], state: &mut [u8]) -> Answer<Done> {
         return Err(Fault::RunStateLength);
     }
     let (problem, _) = read_sheet(sheet)?;
-    if trace.len() < 1 + 5 * problem.sizes.iter().sum::<usize>() {
+    if trace.len() < problem.trace_length() {
         return Err(Refusal::TraceBuffer.into());
     }
     let (steps, last) = problem.reduce();
@@ -549,6 +581,27 @@ pub fn put_back_over(problem: &Problem, trace: &[u8], plan: &[u8], result: &mut 
     }
     result.copy_from_slice(&full);
     Ok(())
+}
+
+/// "It runs the sheet, searches the items left, lowest item first, lowest setting first, and puts the first plan in that order back into the
+/// lent plan." After the sheet, 10 for the trace buffer and then 20 for the plan.
+pub fn pick(sheet: &[u8], trace: &mut [u8], plan: &mut [u8], state: &mut [u8]) -> Answer<Chosen> {
+    if state.len() != STATE_LENGTH {
+        return Err(Fault::RunStateLength);
+    }
+    let (problem, _) = read_sheet(sheet)?;
+    if trace.len() < problem.trace_length() {
+        return Err(Refusal::TraceBuffer.into());
+    }
+    if plan.len() != problem.sizes.len() {
+        return Err(Refusal::ResultLength.into());
+    }
+    let run = run(sheet, trace, state)?;
+    let first = problem.first_plan(&State::from_bytes(state));
+    if let Some(first) = &first {
+        put_back_over(&problem, &trace[..run.written], first, plan)?;
+    }
+    Ok(Chosen { run, has_plan: first.is_some() })
 }
 
 /// The steps that a trace's bytes say, lawful or not: the two faults of its shape alone.

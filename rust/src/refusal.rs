@@ -69,7 +69,7 @@ pub enum Refusal {
     PlanLength = 18,
     /// The plan has an item out that is not 255, a setting not on, or a barred pair.
     PlanUnfit = 19,
-    /// The result buffer does not have one byte for each item.
+    /// The buffer for the finished plan does not have one byte for each item.
     ResultLength = 20,
     /// The colouring file is over 64 KiB, has a line of no known form, has no p line or a second one or one after an e line, or names a vertex outside the stated range.
     GraphFile = 21,
@@ -168,7 +168,7 @@ impl Refusal {
             Refusal::RecordUnlawful => "a record is not lawful in the state reached, or an item in has no setting on there",
             Refusal::PlanLength => "the plan does not have one byte for each item",
             Refusal::PlanUnfit => "the plan has an item out that is not 255, a setting not on, or a barred pair",
-            Refusal::ResultLength => "the result buffer does not have one byte for each item",
+            Refusal::ResultLength => "the buffer for the finished plan does not have one byte for each item",
             Refusal::GraphFile => "the colouring file is over 64 KiB, has a line of no known form, has no p line or a second one or one after an e line, or names a vertex outside the stated range",
             Refusal::GraphLoop => "both ends of an edge are one vertex",
             Refusal::EdgeCount => "the e lines are not as many as the p line states",

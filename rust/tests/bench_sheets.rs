@@ -1,6 +1,6 @@
 //! The bench sheets of docs/FORMAT.md, "Bench sheets", and the step lists of "Putting back", by both layers of the proved library
-//! (support/proved.rs), with their bytes and what is expected written out. And the cases of putting back in crates/bench_sheets, which
-//! tests/bench_cases.py answers, by the three implementations.
+//! (support/proved.rs), with their bytes and what is expected written out. And the cases of putting back and of picking in
+//! crates/bench_sheets, which tests/bench_cases.py answers, by the three implementations.
 
 mod support;
 
@@ -8,8 +8,8 @@ use std::fs;
 use std::path::Path;
 
 use support::fast::Workspace;
-use support::proved::{self, hand_call, put_back, read, run, start};
-use support::{reference, Answer, Done, Fault};
+use support::proved::{self, hand_call, pick, put_back, read, run, start};
+use support::{reference, Answer, Chosen, Done, Fault};
 use zomuwedli::{Accepted, End, Refusal, State, Taken, Unlawful, HAND_STATE_LENGTH, NOT_NAMED, STATE_LENGTH};
 
 const A: [u8; 9] = [1, 0, 0, 0, 9, 1, 0, 0, 2];
@@ -100,6 +100,18 @@ fn runs(sheet: &[u8], sum_of_sizes: usize, end: End, steps: usize, trace: &[u8])
     state
 }
 
+/// The plan that is picked from the sheet, or none, which leaves the lent plan as it was; the rest is the run's.
+fn picks(sheet: &[u8], expected: Option<&[u8]>) {
+    let n = usize::from(sheet[5]);
+    let sum_of_sizes = sheet[8..8 + n].iter().map(|&size| usize::from(size)).sum();
+    let (ran, last, ran_trace) = worked(sheet, sum_of_sizes);
+    let (mut trace, mut plan, mut state) = (vec![OLD; ran_trace.len()], vec![OLD; n], [OLD; STATE_LENGTH]);
+    let answer = pick(sheet, &mut trace, &mut plan, &mut state);
+    assert_eq!(answer, ran.map(|run| Chosen { run, has_plan: expected.is_some() }));
+    assert_eq!(plan, expected.unwrap_or(&vec![OLD; n]));
+    assert_eq!((State::from_bytes(state), trace), (last, ran_trace));
+}
+
 /// The state with these items in and these settings on, as bits.
 fn state(items: u32, settings: &[u16]) -> State {
     let mut bytes = items.to_be_bytes().to_vec();
@@ -135,6 +147,36 @@ fn refused(sheet: &[u8], number: u8) {
     assert!(untouched(&state));
     assert_eq!(put_back(sheet, &[1], &[0, 0], &mut result), refuses(refusal));
     assert!(untouched(&result));
+    assert_eq!(pick(sheet, &mut trace, &mut result, &mut state), refuses(refusal));
+    assert!(untouched(&trace) && untouched(&result) && untouched(&state));
+}
+
+/// "Picked, by the same sheets", and the fold of "Picking a plan".
+#[test]
+fn picked() {
+    let fold = [1, 0, 0, 0, 23, 3, 0, 2, 2, 2, 2, 0, 1, 0, 1, 0, 2, 1, 2, 0, 1, 0, 3];
+    let with_plans: [(&[u8], &[u8]); 7] =
+        [(&A, &[0]), (&B, &[0, 1]), (&E, &[0, 1, 1, 1]), (&F, &[1, 0, 0]), (&K, &[0, 0, 1]), (&L, &[0, 1, 0]), (&fold, &[1, 1, 0])];
+    with_plans.iter().for_each(|(sheet, plan)| picks(sheet, Some(plan)));
+    let without: [&[u8]; 4] = [&C, &D, &G, &H];
+    without.iter().for_each(|sheet| picks(sheet, None));
+    assert!(is_plan(&F, &[0, 1, 1]) && is_plan(&fold, &[0, 0, 0]));
+}
+
+/// 200 before 10, and 10 before 20; no byte changes.
+#[test]
+fn b_pick_buffers() {
+    let refused = |trace: usize, plan: usize, state: usize| {
+        let (mut trace, mut plan, mut state) = (vec![OLD; trace], vec![OLD; plan], vec![OLD; state]);
+        let answer = pick(&B, &mut trace, &mut plan, &mut state);
+        assert!(untouched(&trace) && untouched(&plan) && untouched(&state));
+        answer
+    };
+    assert_eq!(refused(20, 2, STATE_LENGTH), refuses(Refusal::TraceBuffer));
+    assert_eq!(refused(21, 1, STATE_LENGTH), refuses(Refusal::ResultLength));
+    assert_eq!(refused(21, 3, STATE_LENGTH), refuses(Refusal::ResultLength));
+    assert_eq!(refused(20, 3, STATE_LENGTH), refuses(Refusal::TraceBuffer));
+    assert_eq!(refused(20, 3, STATE_LENGTH - 1), Err(Fault::RunStateLength));
 }
 
 #[test]
@@ -319,25 +361,28 @@ fn a_step_list_mended() {
 
 // ---- The cases of crates/bench_sheets -----------------------------------------------------------------------------------------------
 
-/// What a line of putting back lends: sheet, trace, plan and the result's buffer.
-type Lent = [Vec<u8>; 4];
-
-/// The lines of putting back, each with its name and its answer.
-fn bench_cases() -> Vec<(String, Lent, String)> {
+/// The cases of one job: the name of each, its fields, and its answer.
+fn bench_cases(job: &str, least: usize) -> Vec<(String, Vec<Vec<u8>>, String)> {
     let folder = Path::new(env!("CARGO_MANIFEST_DIR")).join("../crates/bench_sheets");
     let [cases, answers] = ["stdin", "stdout"].map(|name| fs::read_to_string(folder.join(name)).expect("a file of the bench cases"));
     let (names, lines): (Vec<&str>, Vec<&str>) = cases.lines().partition(|line| line.starts_with('#'));
     assert_eq!((names.len(), lines.len()), (lines.len(), answers.lines().count()));
     let bytes = |digits: &str| (0..digits.len()).step_by(2).map(|k| u8::from_str_radix(&digits[k..k + 2], 16).expect("digits")).collect();
-    let lent = |line: &str| line.strip_prefix("back ").map(|fields| fields.split(' ').map(bytes).collect::<Vec<_>>());
+    let fields = |line: &str| line.strip_prefix(job)?.strip_prefix(' ').map(|fields| fields.split(' ').map(bytes).collect());
     let all = names.iter().zip(lines).zip(answers.lines());
-    let backs = all.filter_map(|((name, line), answer)| Some((name.to_string(), lent(line)?, answer.to_string())));
-    backs.map(|(name, lent, answer)| (name, lent.try_into().expect("four fields"), answer)).collect()
+    let of_job = all.filter_map(|((name, line), answer)| Some((name.to_string(), fields(line)?, answer.to_string())));
+    let of_job: Vec<_> = of_job.collect();
+    assert!(of_job.len() >= least, "only {} cases of {job}", of_job.len());
+    of_job
 }
 
-/// An answer as its line in the file.
+fn digits(bytes: &[u8]) -> String {
+    bytes.iter().map(|byte| format!("{byte:02x}")).collect()
+}
+
+/// An answer of putting back as its line in the file.
 fn line(answer: Answer<()>, result: &[u8]) -> String {
-    let result: String = result.iter().map(|byte| format!("{byte:02x}")).collect();
+    let result = digits(result);
     match answer {
         Ok(()) => format!("done {result}"),
         Err(Fault::Unlawful(Unlawful { record, item, setting })) => format!("refused 17 {record} {item} {setting} {result}"),
@@ -345,30 +390,50 @@ fn line(answer: Answer<()>, result: &[u8]) -> String {
     }
 }
 
-/// Every case is answered as the file has it, by this implementation.
+/// Every case of putting back is answered as the file has it, by this implementation.
 fn answers(mut put_back: impl FnMut(&[u8], &[u8], &[u8], &mut [u8]) -> Answer<()>) {
-    let cases = bench_cases();
-    assert!(cases.len() >= 400, "only {} cases of putting back", cases.len());
-    for (name, [sheet, trace, plan, mut result], expected) in cases {
+    for (name, fields, expected) in bench_cases("back", 400) {
+        let [sheet, trace, plan, mut result] = <[Vec<u8>; 4]>::try_from(fields).expect("four fields");
         let answer = put_back(&sheet, &trace, &plan, &mut result);
         assert_eq!(line(answer, &result), expected, "{name}");
+    }
+}
+
+/// A line of picking has the length of the trace buffer, which is lent in a pattern, the sheet and the lent plan; its answer the run's own
+/// behind the word `plan` or `none`, or the number, and both buffers.
+fn picking_answers(mut pick: impl FnMut(&[u8], &mut [u8], &mut [u8], &mut [u8]) -> Answer<Chosen>) {
+    for (name, fields, expected) in bench_cases("pick", 150) {
+        let [length, sheet, mut plan] = <[Vec<u8>; 3]>::try_from(fields).expect("three fields");
+        let length = usize::from(u16::from_be_bytes([length[0], length[1]]));
+        let mut trace: Vec<u8> = (0..length).map(|place| ((37 * place + 11) % 251) as u8).collect();
+        let mut state = [OLD; STATE_LENGTH];
+        let told = match pick(&sheet, &mut trace, &mut plan, &mut state) {
+            Ok(Chosen { run: Done { end, steps, written }, has_plan }) => {
+                format!("{} {} {steps} {written} {}", if has_plan { "plan" } else { "none" }, end as u8, digits(&state))
+            }
+            Err(fault) => format!("refused {}", fault.number()),
+        };
+        assert_eq!(format!("{told} {} {}", digits(&trace), digits(&plan)), expected, "{name}");
     }
 }
 
 #[test]
 fn the_reference_answers_the_bench_cases() {
     answers(reference::put_back);
+    picking_answers(reference::pick);
 }
 
 #[test]
 fn the_fast_implementation_answers_the_bench_cases() {
     let mut workspace = Workspace::new();
     answers(|sheet, trace, plan, result| workspace.put_back(sheet, trace, plan, result));
+    picking_answers(|sheet, trace, plan, state| workspace.pick(sheet, trace, plan, state));
 }
 
 #[test]
 fn the_library_answers_the_bench_cases() {
     answers(put_back);
+    picking_answers(pick);
 }
 
 #[test]
@@ -394,6 +459,8 @@ fn state_lengths() {
         for sheet in [&B[..], &[]] {
             let (mut trace, mut wrong) = ([OLD; 21], vec![OLD; length]);
             assert_eq!(run(sheet, &mut trace, &mut wrong), Err(Fault::RunStateLength));
+            assert!(untouched(&trace) && untouched(&wrong));
+            assert_eq!(pick(sheet, &mut trace, &mut [OLD; 2], &mut wrong), Err(Fault::RunStateLength));
             assert!(untouched(&trace) && untouched(&wrong));
             assert_eq!(start(sheet, &mut wrong), Err(Fault::HandStateLength));
             assert!(untouched(&wrong));

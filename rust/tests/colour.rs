@@ -148,7 +148,7 @@ fn either_way(random: &mut Random, graph: &Graph) -> Graph {
     Graph::new(graph.vertices, edges)
 }
 
-/// Whether the library's run, a search over what is left and putting back come to a plan, which then is a proper colouring.
+/// Whether the library picks a plan, which then is a proper colouring.
 fn planned(graph: &Graph, sheet: &[u8]) -> bool {
     let Some(plan) = plan::plan_of(sheet).expect("a written sheet is run") else { return false };
     let colouring: Vec<usize> = plan.into_iter().map(usize::from).collect();

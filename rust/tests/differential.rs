@@ -8,11 +8,12 @@ mod support;
 use std::collections::BTreeMap;
 use std::fmt::Debug;
 
+use support::corpus::{corpus, Entry};
 use support::decoder::{decode, record, reference_decode};
 use support::fast::{self, Workspace};
 use support::generate::{self, Random};
 use support::reference::{self, Problem, State, Step};
-use support::{proved, Answer, Done, Fault};
+use support::{proved, Answer, Chosen, Done, Fault};
 use zomuwedli::{Accepted, End, Record, Refusal, Unlawful, Written, HAND_STATE_LENGTH, MAX_FILE, MAX_SHEET, OUT, STATE_LENGTH};
 
 const SEED: u64 = 20_260_917;
@@ -26,6 +27,7 @@ const HAND_LISTS: u64 = 14_000;
 const TRACES: u64 = 12_000;
 const UNLAWFUL_TRACES: u64 = 24_000;
 const LONG_TRACES: u64 = 500;
+const PICKS: u64 = 14_000;
 const FILES: u64 = 60_000;
 const LONG_FILES: u64 = 200;
 
@@ -40,10 +42,13 @@ const LEAST_OF_EACH_FILE: u64 = 500;
 const LEAST_OF_EACH_CAUSE: u64 = 500;
 const LEAST_SLIDING: u64 = 2_000;
 const LEAST_BARE_AFTER: u64 = 200;
+const LEAST_PICKS: u64 = 10_000;
+const LEAST_OF_EACH_PICK: u64 = 1_000;
 
-const JOBS: [&str; 6] = ["read", "run", "start", "hand call", "put back", "colour"];
+const JOBS: [&str; 7] = ["read", "run", "start", "hand call", "put back", "pick", "colour"];
+const PICK: usize = 5;
 /// The job that is lent no sheet but a colouring file.
-const COLOUR: usize = 5;
+const COLOUR: usize = 6;
 const KINDS: [&str; 5] = ["bare", "snake", "fold", "cover", "slide"];
 
 /// Why a record is refused with 17, those first that name an item and a setting. Each but the last two is counted where it alone speaks
@@ -69,10 +74,19 @@ const CAUSES: [&str; 16] = [
 /// Those that name an item and a setting.
 const NAMES: &[&str] = CAUSES.split_at(4).0;
 
-const EVERY_JOB: [usize; 6] = [0, 1, 2, 3, 4, COLOUR];
+const EVERY_JOB: [usize; 7] = [0, 1, 2, 3, 4, PICK, COLOUR];
 
 /// The refusals that each job has beside those of the sheet, 1 to 9, which all have that are lent one.
-const OWN_REFUSALS: [&[u8]; 6] = [&[], &[10, 200], &[201], &[11, 12, 13, 14, 201], &[15, 16, 17, 18, 19, 20], &[21, 22, 23, 24, 25]];
+const OWN_REFUSALS: [&[u8]; 7] =
+    [&[], &[10, 200], &[201], &[11, 12, 13, 14, 201], &[15, 16, 17, 18, 19, 20], &[10, 20, 200], &[21, 22, 23, 24, 25]];
+
+/// What a pick comes to, by the end of its run and whether there is a plan. There are no others.
+const PICKED: [(&str, (End, bool)); 4] = [
+    ("a plan after solved", (End::Solved, true)),
+    ("a plan after rest", (End::Rest, true)),
+    ("none after rest", (End::Rest, false)),
+    ("none after impossible", (End::Impossible, false)),
+];
 
 fn main() {
     let seed = generate::from_environment("ZOMUWEDLI_SEED", SEED);
@@ -87,6 +101,8 @@ fn main() {
     comparison.part("larger ones", LARGE_SLIDING_SHEETS / divisor, large_sliding_case);
     comparison.part("large sheets", LARGE_SHEETS / divisor, large_case);
     comparison.part("large sheets put back", LARGE_SHEETS / 4 / divisor, large_trace_case);
+    comparison.part("picking", PICKS / divisor, picking_case);
+    comparison.part("picking from the corpus", comparison.corpus.len() as u64 / divisor, corpus_case);
     comparison.part("colouring files", FILES / divisor, colouring_case);
     comparison.part("long colouring files", LONG_FILES / divisor, long_colouring_case);
     comparison.counts.print();
@@ -144,6 +160,13 @@ struct Counts {
     lent_partners_lost: u64,
     hand_partners_lost: u64,
     changed_when_undone: u64,
+    /// Picks that were done, by the run's end and whether there is a plan; those whose plan is not the first of the full sheet; and those
+    /// that were lent a short trace buffer and a plan of a wrong length at once.
+    picks: BTreeMap<(End, bool), u64>,
+    not_first_of_all: u64,
+    both_buffers_wrong: u64,
+    /// Picks from the corpus that were left to the library and the fast implementation.
+    picked_by_two: u64,
     /// Accepted sheets by the number of items, and those of 32 items of 16 settings with 496 blocks.
     sheets_by_items: BTreeMap<usize, u64>,
     fullest_sheets: u64,
@@ -178,6 +201,10 @@ impl Counts {
 
     fn of_causes(&self) -> [(&'static str, u64); CAUSES.len()] {
         CAUSES.map(|cause| (cause, *self.unlawful.get(cause).unwrap_or(&0)))
+    }
+
+    fn of_picks(&self) -> [(&'static str, u64); PICKED.len()] {
+        PICKED.map(|(name, outcome)| (name, *self.picks.get(&outcome).unwrap_or(&0)))
     }
 
     fn of_decoding(&self, number: u8) -> u64 {
@@ -227,6 +254,11 @@ impl Counts {
         println!("plans put back in which an item left has another setting than before: {}", self.changed_when_undone);
         let decoded = [0, 15, 16].map(|number| self.of_decoding(number));
         println!("traces taken apart: {} to their end, {} refused with 15, {} with 16", decoded[0], decoded[1], decoded[2]);
+        println!("picks: {}", self.of_picks().map(|(name, count)| format!("{name} {count}")).join(", "));
+        println!(
+            "among them with another plan than the first of the full sheet: {}; refused with both buffers wrong: {}; by two alone: {}",
+            self.not_first_of_all, self.both_buffers_wrong, self.picked_by_two
+        );
         println!("colouring files: {}, {} of them 64 KiB long", self.files, self.longest_files);
         println!(
             "sheets written: {} with an edge given again, {} of the longest length, {} with a block that bars everything",
@@ -246,7 +278,12 @@ impl Counts {
         let records = [1, 2, 3, 4, 5].map(|kind| (format!("lent records of kind {kind}"), self.lent_records[kind], LEAST_OF_EACH));
         let decoded = [0, 15, 16].map(|number| (format!("traces taken apart, {number}"), self.of_decoding(number), LEAST_OF_EACH));
         let causes = self.of_causes().map(|(cause, count)| (format!("17: {cause}"), count, LEAST_OF_EACH_CAUSE));
+        let picks = self.of_picks().map(|(name, count)| (format!("picks, {name}"), count, LEAST_OF_EACH_PICK));
         let others = [
+            ("picks".to_string(), self.picks.values().sum(), LEAST_PICKS),
+            ("picks of another plan than the first of all".to_string(), self.not_first_of_all, LEAST_OF_EACH),
+            ("picks with both buffers wrong".to_string(), self.both_buffers_wrong, LEAST_OF_EACH),
+            ("picks by two alone".to_string(), self.picked_by_two, LEAST_OF_EACH),
             ("17 after a lawful record".to_string(), self.unlawful_later, LEAST_OF_EACH_CAUSE),
             ("17 of a record over 255".to_string(), self.unlawful_far_on, LEAST_OF_EACH_CAUSE),
             ("17 of a record over 255 that names a setting".to_string(), self.named_far_on, LEAST_OF_EACH),
@@ -271,15 +308,18 @@ impl Counts {
             ("longest sheets written".to_string(), self.longest_written, LEAST_LONG),
             ("blocks written that bar everything".to_string(), self.bars_everything, LEAST_OF_EACH),
         ];
-        let all = jobs.into_iter().chain(answers).chain(ends).chain(steps).chain(records).chain(decoded).chain(causes).chain(others);
+        let all =
+            jobs.into_iter().chain(answers).chain(ends).chain(steps).chain(records).chain(decoded).chain(causes).chain(picks).chain(others);
         let scaled = all.map(|(name, count, least)| (name, count, least / divisor));
         scaled.filter(|(_, count, least)| count < least).map(|(name, count, least)| format!("{name}: {count}, least {least}")).collect()
     }
 
-    /// What must not come up: an answer that the job cannot give.
+    /// What must not come up: an answer that the job cannot give, or a plan where the run says that there is none, or the other way round.
     fn strange(&self) -> Vec<String> {
         let answers = self.answers.iter().filter(|((job, number), _)| !can_answer(*job, *number));
-        answers.map(|((job, number), count)| format!("{}, answer {number}: {count}", JOBS[*job])).collect()
+        let answers = answers.map(|((job, number), count)| format!("{}, answer {number}: {count}", JOBS[*job]));
+        let picks = self.picks.iter().filter(|(outcome, _)| !PICKED.iter().any(|(_, picked)| picked == *outcome));
+        answers.chain(picks.map(|(outcome, count)| format!("a pick with {outcome:?}: {count}"))).collect()
     }
 }
 
@@ -294,6 +334,8 @@ struct Comparison {
     part: &'static str,
     case: u64,
     fast: Workspace,
+    /// The sheets of the corpus that are held to the bar.
+    corpus: Vec<Entry>,
     counts: Counts,
 }
 
@@ -323,7 +365,8 @@ type Call<'a, T> = &'a dyn Fn(&mut Workspace, &[Lent], &mut [Lent]) -> Answer<T>
 
 impl Comparison {
     fn new(seed: u64) -> Comparison {
-        Comparison { seed, part: "", case: 0, fast: Workspace::new(), counts: Counts::default() }
+        let corpus = corpus().into_iter().filter(|entry| entry.held).collect();
+        Comparison { seed, part: "", case: 0, fast: Workspace::new(), corpus, counts: Counts::default() }
     }
 
     fn part(&mut self, part: &'static str, cases: u64, compare: fn(&mut Comparison, &mut Random)) {
@@ -472,6 +515,22 @@ impl Comparison {
         }
         *self.counts.decoded.entry(decoded.map_or_else(Refusal::number, |_| 0)).or_default() += 1;
         answer.map(|()| written.remove(0))
+    }
+
+    /// What was answered, or nothing where the call was refused, and the trace, the plan and the state afterwards.
+    fn pick(&mut self, sheet: &[u8], trace_length: usize, plan_length: usize, state_length: usize) -> (Option<Chosen>, [Lent; 3]) {
+        let (answer, written) = self.call(
+            PICK,
+            &[sheet],
+            &[&buffer(trace_length), &buffer(plan_length), &buffer(state_length)],
+            "",
+            [
+                &|_, lent, written| on_three(written, |trace, plan, state| proved::pick(&lent[0], trace, plan, state)),
+                &|_, lent, written| on_three(written, |trace, plan, state| reference::pick(&lent[0], trace, plan, state)),
+                &|fast, lent, written| on_three(written, |trace, plan, state| fast.pick(&lent[0], trace, plan, state)),
+            ],
+        );
+        (answer.ok(), written.try_into().expect("three buffers"))
     }
 
     /// The bytes written, or nothing where the file was refused, and the sheet buffer afterwards.
@@ -627,6 +686,11 @@ fn on_two<A>(written: &mut [Lent], call: impl FnOnce(&mut [u8], &mut [u8]) -> A)
     call(first, second)
 }
 
+fn on_three<A>(written: &mut [Lent], call: impl FnOnce(&mut [u8], &mut [u8], &mut [u8]) -> A) -> A {
+    let [first, second, third] = written else { panic!("three buffers") };
+    call(first, second, third)
+}
+
 /// Says where a panic came from; forgotten where there was none.
 struct OnPanic(u64, &'static str, u64);
 
@@ -736,6 +800,7 @@ fn refused_sheet(comparison: &mut Comparison, random: &mut Random, sheet: &[u8])
     comparison.start(sheet, state_length);
     let state = random.bytes(state_length);
     comparison.hand_call(sheet, &state, random.pick(&[0, 1, 32, u64::MAX]));
+    comparison.pick(sheet, random.pick(&[0, 1, 100, 2561]), random.pick(&[0, 1, 3, 32]), state_length);
     let (trace, plan) = (random.bytes(3), random.bytes(2));
     let answer = comparison.put_back(sheet, random.pick(&[&[1][..], &[], &trace]), &plan, random.pick(&[0, 2, 3]));
     assert!(answer.is_err(), "putting back takes a sheet that the reference refuses");
@@ -869,6 +934,68 @@ fn doubtful_calls(comparison: &mut Comparison, random: &mut Random, sheet: &[u8]
         let trace = reference::trace_of(&[&steps[..place], &[doubtful], &steps[place..]].concat());
         Lending { sheet, problem: &problem, trace: &trace, plan: &plan }.put_back(comparison, plan.len());
     }
+}
+
+/// A plan picked from a sheet, mostly one whose run comes to rest.
+fn picking_case(comparison: &mut Comparison, random: &mut Random) {
+    let sheet = if random.chance(70) { generate::resting_draft(random) } else { generate::small_draft(random) }.bytes();
+    picking_calls(comparison, random, &sheet);
+}
+
+/// The sheets of the corpus that the reference, which tries one choice after the other, is done with in no time.
+const QUICK: [&str; 9] =
+    ["queens-0", "latin-3x3", "latin-4x4", "pigeons-03", "pigeons-04", "pigeons-05", "pigeons-06", "petersen", "mycielski-3-4"];
+
+/// A sheet of the corpus by the three, or where the reference would take too long by the other two.
+fn corpus_case(comparison: &mut Comparison, random: &mut Random) {
+    let Entry { name, sheet, solvable, .. } = comparison.corpus[comparison.case as usize].clone();
+    let quick = QUICK.iter().any(|front| name.starts_with(front));
+    let has_plan = if quick { picking_calls(comparison, random, &sheet) } else { picked_by_two(comparison, &sheet) };
+    assert!(solvable.map_or(true, |solvable| solvable == has_plan), "{name} is known to be otherwise");
+}
+
+fn picked_by_two(comparison: &mut Comparison, sheet: &[u8]) -> bool {
+    let (problem, _) = reference::read_sheet(sheet).expect("the sheet keeps the layout");
+    let mut lent = [(); 2].map(|()| [trace_length(&problem), problem.sizes().len(), STATE_LENGTH].map(buffer));
+    let [proved, fast] = &mut lent;
+    let answers = [
+        on_three(proved, |trace, plan, state| proved::pick(sheet, trace, plan, state)),
+        on_three(fast, |trace, plan, state| comparison.fast.pick(sheet, trace, plan, state)),
+    ];
+    if answers[0] != answers[1] || lent[0] != lent[1] {
+        comparison.difference(PICK, &[sheet], &[], "");
+        println!("proved and fast: {answers:?}, {lent:02x?}");
+        std::process::exit(1);
+    }
+    let has_plan = answers[0].is_ok_and(|chosen| chosen.has_plan);
+    assert!(!has_plan || problem.is_solution(&State::full(&problem), &lent[0][1]), "what was picked is no plan");
+    comparison.counts.picked_by_two += 1;
+    has_plan
+}
+
+/// Buffers as they must be, and now and then a longer trace buffer; one too short, a plan of a wrong length, both, and a state of a wrong
+/// length, which comes first. Trace, state and answer are those of a run. Whether there is a plan.
+fn picking_calls(comparison: &mut Comparison, random: &mut Random, sheet: &[u8]) -> bool {
+    let (problem, _) = reference::read_sheet(sheet).expect("the sheet keeps the layout");
+    let (exact, n) = (trace_length(&problem), problem.sizes().len());
+    let length = if random.chance(20) { exact + random.between(1, 40) } else { exact };
+    let (answer, [trace, plan, state]) = comparison.pick(sheet, length, n, STATE_LENGTH);
+    let Some(Chosen { run, has_plan }) = answer else { panic!("a pick of a sheet that keeps the layout is refused") };
+    let (ran, run_trace, run_state) = comparison.run(sheet, length, STATE_LENGTH);
+    assert_eq!((Some(run), trace, state), (ran, run_trace, run_state), "a pick answers otherwise than a run");
+    *comparison.counts.picks.entry((run.end, has_plan)).or_default() += 1;
+    let first_of_all = problem.first_plan(&State::full(&problem));
+    assert_eq!(first_of_all.is_some(), has_plan, "a plan is picked where the full sheet has none, or the other way round");
+    comparison.counts.not_first_of_all += u64::from(first_of_all.is_some_and(|first| *first != *plan));
+    if random.chance(10) {
+        comparison.pick(sheet, random.pick(&[exact - 1, 0]), n, STATE_LENGTH);
+        comparison.pick(sheet, exact, wrong_length(random, n), STATE_LENGTH);
+        let short = comparison.counts.of_answer(PICK, Refusal::TraceBuffer.number());
+        comparison.pick(sheet, random.pick(&[exact - 1, 0]), wrong_length(random, n), STATE_LENGTH);
+        comparison.counts.both_buffers_wrong += comparison.counts.of_answer(PICK, Refusal::TraceBuffer.number()) - short;
+        comparison.pick(sheet, random.pick(&[0, exact]), random.pick(&[n, n + 1]), wrong_length(random, STATE_LENGTH));
+    }
+    has_plan
 }
 
 /// A colouring file, half of them with a fault or several.

@@ -1,5 +1,7 @@
 //! Demands 2 and 3 by brute force on very small sheets: all plans of what a trace leaves, and all lists of hand calls from a few states;
 //! and what 17 carries, for every cover of two settings after a few traces. Demand 2 also on small sheets whose runs often take a slide.
+//! And the plan that is picked: among all plans of what is left it is the first, put back; and there is none exactly where no choice of
+//! settings at all is a plan of the full sheet.
 //!
 //! The proved library does the jobs, by both its layers (support/proved.rs); the reference says which rule holds; the plans are counted out here.
 //!
@@ -11,7 +13,7 @@ use std::collections::btree_map::{BTreeMap, Entry};
 
 use support::generate::{self, Draft, Random};
 use support::reference::{self, Problem, State, Step};
-use support::{proved, Done, Fault};
+use support::{proved, Chosen, Done, Fault};
 use zomuwedli::{End, Refusal, Unlawful, HAND_STATE_LENGTH, MAX_ITEMS, MAX_SETTINGS, NOT_NAMED, OUT, STATE_LENGTH};
 
 const SEED: u64 = 4_711;
@@ -21,6 +23,8 @@ const RANDOM_SHEETS: usize = 1_500;
 const SLIDING_SHEETS: usize = 2_500;
 const TIGHT_SHEETS: usize = 5_000;
 const LAWFUL_TRACES: usize = 4;
+/// How many sheets of 5 items of 3 or 4 settings are made whose runs often come to rest. Of these the pick alone is checked.
+const RESTING_SHEETS: usize = 8_000;
 
 /// How many sheets there are, of two items of 1 to 3 settings, of two items of 1 or 2, and of three items of 2; and how many are checked.
 const PAIR_SHEETS: usize = 2 + 4 + 8 + 4 + 16 + 64 + 8 + 64 + 512;
@@ -40,7 +44,7 @@ fn main() {
     let all = if part == 1 { "all " } else { &share };
     println!(
         "sheets: {all}{PAIR_SHEETS} of two items up to 3 settings, {all}{TRIPLE_SHEETS} of three of 2, {share}{RANDOM_SHEETS} random, \
-         {share}those whose runs slide of {SLIDING_SHEETS} and {TIGHT_SHEETS} of four and five of 4"
+         {share}those whose runs slide of {SLIDING_SHEETS} and {TIGHT_SHEETS} of four and five of 4, {share}{RESTING_SHEETS} for picking"
     );
     for sheet in pairs.iter().chain(&triples).chain(&others).step_by(part as usize) {
         Case::new(sheet).demand_two(&mut random, &mut counts);
@@ -49,6 +53,9 @@ fn main() {
     }
     for sheet in sliding_sheets().iter().step_by(part as usize) {
         Case::new(sheet).run(&mut counts);
+    }
+    for sheet in pairs.iter().chain(&triples).chain(&others).chain(&resting_sheets()).step_by(part as usize) {
+        Case::new(sheet).pick(&mut counts);
     }
     // From the last one, which bars nothing and has hundreds of traces: the first has three.
     for sheet in smallest.iter().rev().step_by(part as usize) {
@@ -90,6 +97,13 @@ fn sliding_sheets() -> Vec<Vec<u8>> {
     sliding.take(SLIDING_SHEETS).chain(tight.take(TIGHT_SHEETS)).map(|draft| draft.bytes()).filter(slides).collect()
 }
 
+fn resting_sheets() -> Vec<Vec<u8>> {
+    let mut random = Random::new(SEED + 4);
+    let resting =
+        std::iter::repeat_with(|| generate::resting_draft(&mut random)).filter(|draft| draft.sizes.len() == 5 && draft.sizes[0] <= 4);
+    resting.take(RESTING_SHEETS).map(|draft| draft.bytes()).collect()
+}
+
 #[derive(Default)]
 struct Counts {
     runs: u64,
@@ -123,6 +137,14 @@ struct Counts {
     covers_not_named: u64,
     covers_taken: u64,
     others_refused: u64,
+    /// Plans picked with no item left, and among items left; the latter that are not the only plan of what is left, and all that are not the
+    /// first plan of the full sheet. Sheets without a plan, by the run's end.
+    picked_solved: u64,
+    picked_at_rest: u64,
+    picked_of_several: u64,
+    picked_not_first_of_all: u64,
+    none_impossible: u64,
+    none_at_rest: u64,
 }
 
 impl Counts {
@@ -161,6 +183,11 @@ impl Counts {
             "covers after a lawful trace: {} refused with 17 and a setting, {} with none, {} taken; other records refused with 17: {}",
             self.covers_named, self.covers_not_named, self.covers_taken, self.others_refused
         );
+        println!(
+            "plans picked: {} with no item left, {} among items left, {} of these out of several; not the first of the full sheet: {}",
+            self.picked_solved, self.picked_at_rest, self.picked_of_several, self.picked_not_first_of_all
+        );
+        println!("sheets without a plan: {} that end impossible, {} at rest", self.none_impossible, self.none_at_rest);
     }
 
     /// What falls short of its least count: what each sheet has one or four of, exactly; of the rest, half of what the seed gives.
@@ -194,6 +221,12 @@ impl Counts {
             ("covers that name none", self.covers_not_named, 39_000),
             ("covers that are taken", self.covers_taken, 14_000),
             ("other records refused with 17", self.others_refused, 23_000),
+            ("plans picked with no item left", self.picked_solved, 3_500),
+            ("plans picked among items left", self.picked_at_rest, 550),
+            ("plans picked out of several", self.picked_of_several, 400),
+            ("plans picked that are not the first of all", self.picked_not_first_of_all, 540),
+            ("impossible sheets without a plan", self.none_impossible, 2_800),
+            ("sheets at rest without a plan", self.none_at_rest, 140),
         ];
         let scaled = least.map(|(name, count, least)| (name, count, least / part));
         let short = scaled.iter().filter(|(_, count, least)| count < least);
@@ -353,6 +386,45 @@ impl Case<'_> {
                 steps.pop();
             }
         }
+    }
+
+    // ---- Picking --------------------------------------------------------------------------------------------------------------------
+
+    /// Of all plans of what the run leaves the first in order, put back; none exactly where no choice of settings is a plan of the full
+    /// sheet, and then no byte of the lent plan changes. Trace, state and answer are the run's.
+    fn pick(&self, counts: &mut Counts) {
+        let n = self.problem.sizes().len();
+        let length = 1 + 5 * self.problem.sizes().iter().sum::<usize>();
+        let [mut trace, mut run_trace] = [(); 2].map(|()| vec![77; length + 3]);
+        let [mut state, mut run_state] = [[78; STATE_LENGTH]; 2];
+        let mut plan = vec![79; n];
+        let Ok(Chosen { run, has_plan }) = proved::pick(self.sheet, &mut trace, &mut plan, &mut state) else {
+            self.fault("the pick was refused", &[]);
+        };
+        let ran = proved::run(self.sheet, &mut run_trace, &mut run_state);
+        self.demand(ran == Ok(run) && trace == run_trace && state == run_state, "a pick answers otherwise than a run", &trace);
+        self.demand(has_plan == !self.plans.is_empty(), "a plan was picked and there is none, or the other way round", &trace);
+        let mut left = assignments(&self.problem, &State::from_bytes(&state));
+        self.demand(left.windows(2).all(|two| two[0] < two[1]), "the choices do not rise", &trace);
+        left.retain(|plan| allowed(&self.problem, plan));
+        match left.first() {
+            None => self.demand(!has_plan && plan == vec![79; n], "none was said of a sheet with a plan, or it wrote", &trace),
+            Some(first) => {
+                let mut full = vec![0; n];
+                let answer = proved::put_back(self.sheet, &trace[..run.written], first, &mut full);
+                self.demand(answer == Ok(()) && plan == full, "what was picked is not the first plan put back", &trace);
+                self.demand(self.plans.contains(&plan), "what was picked is no plan", &trace);
+                counts.picked_of_several += u64::from(left.len() > 1);
+                counts.picked_not_first_of_all += u64::from(plan != self.plans[0]);
+            }
+        }
+        *match (run.end, has_plan) {
+            (End::Solved, true) => &mut counts.picked_solved,
+            (End::Rest, true) => &mut counts.picked_at_rest,
+            (End::Rest, false) => &mut counts.none_at_rest,
+            (End::Impossible, false) => &mut counts.none_impossible,
+            _ => self.fault("a plan after impossible, or none after solved", &trace),
+        } += 1;
     }
 
     // ---- What 17 carries ------------------------------------------------------------------------------------------------------------

@@ -27,6 +27,7 @@ use Rattle.pick.specs.declared.PickRefusal.{PickRefusal}
 use Rattle.pick.specs.declared.PickRefusal.the-variants as refusal
 use Rattle.pick.specs.declared.PickOutcome.{PickOutcome}
 use Rattle.pick.specs.declared.PickOutcome.the-variants.{Plan, None, Refused}
+use Rattle.pick.specs.declared.Picked.{Picked}
 use Rattle.pick.proofs.Causes.{pick-unaltered}
 use Rattle.pick.proofs.Demands.{pick-run, pick-plan, none-says, none-keeps}
 use Rattle.boundary_pick.specs.Calls.{PickCall, doneNumber, crossedNumber, crossedState, pickCall, PickFits}
@@ -52,6 +53,11 @@ module _ (s t p b : List ℕ) where
       → call ≡ record { answer = crossedNumber (job .answer .outcome); trace = job .trace; plan = job .plan; state = crossedState (job .answer .outcome) (job .answer .state) b }
   unfolding pickCall
   pick-good e = rw (eq-eqb (length b) stateLength e, pickCall)
+
+  -- from the job's answer x, and the trace w and the plan q as it leaves them
+  pub pick-says : length b ≡ stateLength → (x : Picked) (w q : List ℕ) → x ≡ job .answer → w ≡ job .trace → q ≡ job .plan
+      → record { answer = crossedNumber (x .outcome); trace = w; plan = q; state = crossedState (x .outcome) (x .state) b } ≡ call
+  pick-says e x w q a f g = (λ i. record { answer = crossedNumber (a i .outcome); trace = f i; plan = g i; state = crossedState (a i .outcome) (a i .state) b }) ∙ sym (pick-good e)
 
   -- the steps and the bytes written are the run's, which are few
   few : (y : Bool) (e : End) (k w : ℕ) → job .answer .outcome ≡ outcomeOf y e k w → (k ≤ 512) × (w ≤ 2561)

@@ -2,14 +2,15 @@
 use mathlib.Core.Path.{_≡_, refl, sym, ap, subst, _∙_, fun-ext}
 use mathlib.Core.Bool.{Bool, true, false}
 use mathlib.Core.List.{List}
-use mathlib.Core.Logic.{_≢_}
+use mathlib.Core.Logic.{_⊎_, inl, inr, _≢_}
 use Prim.Native.Nat.{ℕ, _≤_, _<_}
 use native.Mathlib.Omega.{arith}
 use lib.Dec.{T}
-use lib.ListN.{length, getD, set}
+use lib.ListN.{length, getD, set, length-set}
+use lib.Seq.{getD-set-same, getD-set-other, ext-getD}
 use Rattle.bounded.specs.Bounded.{lowest}
 use Rattle.bounded.specs.Mask.{bit}
-use Rattle.bounded.proofs.Truth.{T-not}
+use Rattle.bounded.proofs.Truth.{T-not, eq-dec}
 use Rattle.bounded.proofs.Bounded.{lowest-least, lowest-passes}
 use Rattle.bounded.proofs.Mask.{bit-none}
 use Rattle.bounded.proofs.Members.{lowest-member, part-le, part-lt}
@@ -24,9 +25,10 @@ use Rattle.held.specs.Ready.{Ready}
 use Rattle.held.proofs.Laws.{active-32}
 use Rattle.held.proofs.After.{state-held}
 use Rattle.first_plan.specs.First.{found, none, firstPlan}
-use Rattle.first_plan.specs.Steps.{choose, Next, Narrowed, Emptied, Opens}
+use Rattle.first_plan.specs.Steps.{answer, choose, Next, Emptied, Opens}
 use Rattle.first_plan.specs.declared.Found.{Found}
 use Rattle.first_plan.specs.declared.Opened.{Opened}
+use Rattle.first_plan.proofs.Meaning.{first-none-keeps}
 use Rattle.first_plan.proofs.Prune.{first-unsolved, first-narrowed, first-refuted, first-done, first-taken, never, choose-active, choose-fits, choose-keeps}
 
 -- ---- a state narrowed
@@ -51,6 +53,24 @@ module _ {t : List ℕ} {s : State} {o : Opened} (F : Fits (held t) s) (O : Open
 
   pub closed-first : o .open ≡ false → (w : List ℕ) → none w ≡ firstPlan (held t) s w
   closed-first e w = sym (first-unsolved F (closed-unsolved e) w)
+
+-- ---- the lent plan
+
+-- what was at i is put back where there is no plan with v there
+pub put-back : {t : List ℕ} {m : Masks} (i v : ℕ) (w x : List ℕ) (ok : Bool) → Ready t m → i < length w → answer ok x ≡ firstPlan (held t) (stateOf m) (set w i v) → ok ≡ false → set x i (getD w i 0) ≡ w
+put-back {t} {m} i v w x ok R l e n =
+    let a : x ≡ set w i v = ap (λ (r : Found). r .plan) e ∙ first-none-keeps (R .fits) (set w i v) (ap (λ (r : Found). r .ok) (sym e) ∙ n) in
+    ap (λ (y : List ℕ). set y i (getD w i 0)) a ∙ again
+  where
+    long : length (set (set w i v) i (getD w i 0)) ≡ length w
+    long = length-set (set w i v) i (getD w i 0) ∙ length-set w i v
+
+    at : (k : ℕ) → (k ≡ i) ⊎ (k ≢ i) → getD (set (set w i v) i (getD w i 0)) k 0 ≡ getD w k 0
+    at k (inl g) = subst (λ (z : ℕ). getD (set (set w i v) i (getD w i 0)) z 0 ≡ getD w z 0) (sym g) (getD-set-same (set w i v) i (getD w i 0) 0 (omega (arith, length-set w i v)))
+    at k (inr d) = getD-set-other (set w i v) i k (getD w i 0) 0 d ∙ getD-set-other w i k v 0 d
+
+    again : set (set w i v) i (getD w i 0) ≡ w
+    again = ext-getD 0 _ w long (λ k h. at k (eq-dec k i))
 
 -- ---- the next variable
 

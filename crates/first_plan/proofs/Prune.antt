@@ -7,7 +7,7 @@ use Prim.Native.Nat.{ℕ, zero, suc, _+_, _-_, _≤_, _<_}
 use native.Mathlib.Omega.{arith}
 use lib.ListN.{length, set, length-set}
 use lib.Seq.{getD-set-same, getD-set-other}
-use Rattle.bounded.proofs.Truth.{T-true, T-false, T-of, T-not, T-ext, and-iff, not-iff, eqb-iff, eq-dec}
+use Rattle.bounded.proofs.Truth.{T-true, T-false, T-not, T-ext, and-iff, not-iff, eqb-iff, eq-dec}
 use Rattle.problem.specs.Problem.{Problem, State, remove}
 use Rattle.problem.specs.Extend.{solves, planOf}
 use Rattle.problem.proofs.Reflect.{Active, Live, Allowed, Fits, turn, remove-live, remove-fits}

@@ -1,7 +1,7 @@
 -- What the parts of the search in code rely on and promise. Values may go off that no solution has, in any order and as many as the code
 -- finds: the first plan stays the same.
 use mathlib.Core.Path.{_≡_}
-use mathlib.Core.Bool.{true, false, not, _&&_}
+use mathlib.Core.Bool.{Bool, true, false, not, _&&_}
 use mathlib.Core.List.{List}
 use Prim.Native.Nat.{ℕ, _<_}
 use lib.Dec.{T, eqb}
@@ -15,8 +15,13 @@ use Rattle.problem.specs.declared.Masks.{Masks}
 use Rattle.problem.proofs.Reflect.{Active, Live, Allowed}
 use Rattle.problem.proofs.Sound.{Solution}
 use Rattle.held.specs.Ready.{Ready}
+use Rattle.first_plan.specs.declared.Found.{Found}
 use Rattle.first_plan.specs.declared.Opened.{Opened}
 use Rattle.first_plan.specs.declared.Swept.{Swept}
+
+-- an answer of the search, with the plan lent to it
+abbrev pub answer : Bool → List ℕ → Found
+answer ok plan = record { ok = ok; plan = plan }
 
 -- variable i has the value v: it is active no more, and every other domain loses what is barred with v
 unfoldable pub choose : Problem → State → (i v : ℕ) → State

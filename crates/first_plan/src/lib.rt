@@ -4,6 +4,7 @@ ghost use mathlib.Core.Path.{_≡_};
 ghost use mathlib.Core.Bool.{true};
 ghost use mathlib.Core.Logic.{_≢_};
 ghost use Prim.Native.Nat.{_<_};
+ghost use lib.ListN.{length};
 ghost use Rattle.bounded.specs.Mask.{bit};
 ghost use Rattle.problem.specs.Problem.{remove as removed};
 ghost use Rattle.problem.specs.Held.{held, RowTable};
@@ -11,7 +12,7 @@ ghost use Rattle.problem.specs.Masks.{stateOf, masksOf, sets};
 ghost use Rattle.problem.proofs.Reflect.{Live};
 ghost use Rattle.held.specs.Ready.{Ready};
 ghost use Rattle.first_plan.specs.First.{firstPlan};
-ghost use Rattle.first_plan.specs.Steps.{choose as chosen, Next, Supported, Sweeps, Opens};
+ghost use Rattle.first_plan.specs.Steps.{answer, choose as chosen, Next, Supported, Sweeps, Opens};
 use bounded::lowest16;
 use bounded::lowest32;
 use bounded::without16;
@@ -230,44 +231,59 @@ fn refute(t: &[u16], near: &[u32; 32], m: Masks, i: usize, v: usize) -> Opened
 
 // ---- the search
 
-// The first plan: the next variable, and its values.
-fn pick(t: &[u16], near: &[u32; 32], m: Masks, plan: [u8; 32]) -> Found
-    requires { ⌜ Ready (now t) m ⌝ }
-    ensures { λ r. ⌜ r ≡ firstPlan (held (now (t .entry))) (stateOf m) plan ⌝ }
+// State and plan are lent, and the table by a reference to it, so that `tries` has nothing of its own to keep when it calls itself for the
+// next value: the compiler makes a jump of that call, and at most 32 calls lie within one another.
+
+// The first plan: the next variable, and its values. The plan is written where there is one, and left as it was where there is none.
+fn pick(t: &&[u16], near: &[u32; 32], active: u32, on: &mut [u16; 32], plan: &mut [u8; 32]) -> bool
+    requires { ⌜ Ready (now (now t)) (sets active (now on)) × (length (now plan) ≡ 32) ⌝ }
+    ensures { λ r. ⌜ answer r (now (plan .exit)) ≡ firstPlan (held (now (now (t .entry)))) (stateOf (sets active (now (on .entry)))) (now (plan .entry)) ⌝ }
 {
-    let i = lowest32(m.active);
+    let i = lowest32(active);
     if 32 <= i {
-        return Found { ok: true, plan };
+        return true;
     }
-    tries(t, near, m, plan, i)
+    tries(t, near, active, on, plan, i)
 }
 
 // The same where the next variable is i: the lowest value left of it with the variables after i, or else the values after that one.
-fn tries(t: &[u16], near: &[u32; 32], m: Masks, plan: [u8; 32], i: usize) -> Found
-    requires { ⌜ Ready (now t) m × Next m i ⌝ }
-    ensures { λ r. ⌜ r ≡ firstPlan (held (now (t .entry))) (stateOf m) plan ⌝ }
+fn tries(
+    t: &&[u16],
+    near: &[u32; 32],
+    active: u32,
+    on: &mut [u16; 32],
+    plan: &mut [u8; 32],
+    i: usize,
+) -> bool
+    requires { ⌜ Ready (now (now t)) (sets active (now on)) × Next (sets active (now on)) i × (length (now plan) ≡ 32) ⌝ }
+    ensures { λ r. ⌜ answer r (now (plan .exit)) ≡ firstPlan (held (now (now (t .entry)))) (stateOf (sets active (now (on .entry)))) (now (plan .entry)) ⌝ }
 {
-    let domain = m.domains[i];
+    let domain = on[i];
     if domain == 0 {
-        return Found { ok: false, plan };
+        return false;
     }
     let v = lowest16(domain);
-    let o = attempt(t, near, m, i, v);
+    let domains = *on;
+    let state = Masks { active, domains };
+    let o = attempt(*t, near, state, i, v);
     if o.open {
-        let mut next = plan;
-        next[i] = v as u8;
+        let was = plan[i];
+        plan[i] = v as u8;
         let left = o.masks;
-        let r = pick(t, near, left, next);
-        if r.ok {
-            return r;
+        let mut next = left.domains;
+        if pick(t, near, left.active, &mut next, plan) {
+            return true;
         }
+        plan[i] = was;
     }
-    let rest = refute(t, near, m, i, v);
+    let rest = refute(*t, near, state, i, v);
     if !rest.open {
-        return Found { ok: false, plan };
+        return false;
     }
     let left = rest.masks;
-    tries(t, near, left, plan, i)
+    let domains = left.domains;
+    *on = domains;
+    tries(t, near, left.active, on, plan, i)
 }
 
 // The first plan of a state, or none. Items out keep what `plan` says of them, and all items do where there is none.
@@ -281,5 +297,8 @@ pub fn first_plan(t: &[u16], m: Masks, plan: [u8; 32]) -> Found
         return Found { ok: false, plan };
     }
     let left = o.masks;
-    pick(t, &near, left, plan)
+    let mut on = left.domains;
+    let mut found = plan;
+    let ok = pick(&t, &near, left.active, &mut on, &mut found);
+    Found { ok, plan: found }
 }

@@ -2,3 +2,4 @@ pub mod Left
 pub mod Causes
 pub mod Job
 pub mod Demands
+pub mod Samples

@@ -4,9 +4,12 @@ ghost use Prim.Native.Nat.{_+_, _*_};
 ghost use Rattle.trace.specs.Written.{written};
 ghost use Rattle.boundary.specs.Calls.{readCall, runCall, startCall, handCall, putBackCall};
 ghost use Rattle.boundary_sheets.specs.Calls.{colourCall};
+ghost use Rattle.boundary_pick.specs.Calls.{pickCall};
 use boundary::put_back_answer;
 use boundary::put_state;
 use boundary::read_state;
+use boundary_pick::picked_number;
+use boundary_pick::put_picked_state;
 use colour::Coloured;
 use jobs::CallOutcome;
 use jobs::Extended;
@@ -139,4 +142,28 @@ pub extern "C" fn zomuwedli_colour(file: &[u8], channels: u64, sheet: &mut [u8])
         Coloured::Refused(r) => colour::colour_number(r) as u64,
         Coloured::Written(w) => 256 * w as u64,
     }
+}
+
+// Picking a plan. As the run's answer, and bit 48: whether a plan was written. The state is written with a plan and with none, the plan
+// only with one. A refused pick writes nothing.
+#[no_mangle]
+pub extern "C" fn zomuwedli_pick(
+    sheet: &[u8],
+    trace: &mut [u8],
+    plan: &mut [u8],
+    state: &mut [u8],
+) -> u64
+    ensures answer { λ r. ⌜ r ≡ (pickCall (now (sheet .entry)) (now (trace .entry)) (now (plan .entry)) (now (state .entry))) .answer ⌝ }
+    ensures trace { λ _. ⌜ now (trace .exit) ≡ (pickCall (now (sheet .entry)) (now (trace .entry)) (now (plan .entry)) (now (state .entry))) .trace ⌝ }
+    ensures plan { λ _. ⌜ now (plan .exit) ≡ (pickCall (now (sheet .entry)) (now (trace .entry)) (now (plan .entry)) (now (state .entry))) .plan ⌝ }
+    ensures state { λ _. ⌜ now (state .exit) ≡ (pickCall (now (sheet .entry)) (now (trace .entry)) (now (plan .entry)) (now (state .entry))) .state ⌝ }
+{
+    if state.len() != STATE_LENGTH {
+        return BAD_STATE;
+    }
+    let done = pick::pick(sheet, trace, plan);
+    let outcome = done.outcome;
+    let last = done.state;
+    put_picked_state(state, outcome, last);
+    picked_number(outcome)
 }

@@ -8,6 +8,8 @@ use zomuwedli::{Accepted, End, PutBackRefusal, Refusal, Taken, Unlawful, Written
 
 #[path = "../../src/boundary.rs"]
 pub mod boundary;
+#[path = "../../src/corpus.rs"]
+pub mod corpus;
 pub mod decoder;
 #[path = "../../src/fast.rs"]
 pub mod fast;
@@ -79,4 +81,11 @@ pub struct Done {
     pub end: End,
     pub steps: usize,
     pub written: usize,
+}
+
+/// What picking answers beside its buffers: the run's own, and whether a plan was written.
+#[derive(Clone, Copy, PartialEq, Eq, Debug)]
+pub struct Chosen {
+    pub run: Done,
+    pub has_plan: bool,
 }

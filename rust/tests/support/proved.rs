@@ -3,14 +3,14 @@
 //!
 //! `raw` has the first layer alone, for the bench.
 
-use zomuwedli::{HandState, Refusal, State};
+use zomuwedli::{HandState, Refusal, Run, State};
 
-use super::{Accepted, Answer, Done, Fault, Taken, Written, HAND_STATE_LENGTH, STATE_LENGTH};
+use super::{Accepted, Answer, Chosen, Done, Fault, Taken, Written, HAND_STATE_LENGTH, STATE_LENGTH};
 
 /// The archive's functions, their numbers read as answers.
 pub mod raw {
     use super::super::boundary::{self, PutBackFault};
-    use super::{Accepted, Answer, Done, Fault, Taken, Written};
+    use super::{Accepted, Answer, Chosen, Done, Fault, Taken, Written};
     use zomuwedli::{End, Unlawful};
 
     pub fn read(sheet: &[u8]) -> Answer<Accepted> {
@@ -19,8 +19,11 @@ pub mod raw {
     }
 
     pub fn run(sheet: &[u8], trace: &mut [u8], state: &mut [u8]) -> Answer<Done> {
-        let (end, steps, written) = boundary::run(sheet, trace, state).map_err(fault)?;
-        Ok(Done { end: End::from_number(end).expect("one of the three ends"), steps: steps.into(), written: written.into() })
+        boundary::run(sheet, trace, state).map(done).map_err(fault)
+    }
+
+    fn done((end, steps, written): (u8, u16, u16)) -> Done {
+        Done { end: End::from_number(end).expect("one of the three ends"), steps: steps.into(), written: written.into() }
     }
 
     pub fn start(sheet: &[u8], state: &mut [u8]) -> Answer<()> {
@@ -37,6 +40,11 @@ pub mod raw {
             PutBackFault::Number(number) => fault(number),
             PutBackFault::Unlawful { record, item, setting } => Fault::Unlawful(Unlawful { record, item, setting }),
         })
+    }
+
+    pub fn pick(sheet: &[u8], trace: &mut [u8], plan: &mut [u8], state: &mut [u8]) -> Answer<Chosen> {
+        let (run, has_plan) = boundary::pick(sheet, trace, plan, state).map_err(fault)?;
+        Ok(Chosen { run: done(run), has_plan })
     }
 
     pub fn colour(file: &[u8], channels: u64, sheet: &mut [u8]) -> Answer<Written> {
@@ -61,8 +69,25 @@ pub fn run(sheet: &[u8], trace: &mut [u8], state: &mut [u8]) -> Answer<Done> {
     if state.len() == STATE_LENGTH {
         let ran = refused(zomuwedli::run(sheet, &mut other));
         let states_agree = ran.as_ref().map_or(true, |run| run.state.to_bytes() == *state);
-        let done = ran.map(|run| Done { end: run.end, steps: run.steps, written: run.written });
-        assert!(done == answer && states_agree && *other == *trace, "the library runs otherwise than the archive");
+        assert!(ran.map(done) == answer && states_agree && *other == *trace, "the library runs otherwise than the archive");
+    }
+    answer
+}
+
+/// What a run answers beside its state.
+fn done(run: Run) -> Done {
+    Done { end: run.end, steps: run.steps, written: run.written }
+}
+
+pub fn pick(sheet: &[u8], trace: &mut [u8], plan: &mut [u8], state: &mut [u8]) -> Answer<Chosen> {
+    let (mut other_trace, mut other_plan): (Box<[u8]>, Box<[u8]>) = (Box::from(&*trace), Box::from(&*plan));
+    let answer = raw::pick(sheet, trace, plan, state);
+    if state.len() == STATE_LENGTH {
+        let picked = refused(zomuwedli::pick(sheet, &mut other_trace, &mut other_plan));
+        let states_agree = picked.as_ref().map_or(true, |picked| picked.run.state.to_bytes() == *state);
+        let chosen = picked.map(|picked| Chosen { run: done(picked.run), has_plan: picked.has_plan });
+        let buffers_agree = *other_trace == *trace && *other_plan == *plan;
+        assert!(chosen == answer && states_agree && buffers_agree, "the library picks otherwise than the archive");
     }
     answer
 }

@@ -16,10 +16,10 @@ returns : tie.Need-returns
 returns c = closed-first (c .before .before .before .before .before .before .before .before .pre .fits) (c .before .before .narrow .ensures) (not-true _ (c .if1 .taken)) _
 
 pick-requires : tie.Need-pick-requires
-pick-requires c κs = c .before .before .before .before .narrow .ensures .narrowed .ready
+pick-requires c κs = search needs
 
 returns-2 : tie.Need-returns-2
-returns-2 c = c .pick .ensures ∙ sym (opened-first (c .before .before .before .before .before .before .before .before .before .before .before .pre .fits) (c .before .before .before .before .before .narrow .ensures) _)
+returns-2 c = c .pick .ensures ∙ sym (opened-first (c .before .before .before .before .before .before .before .before .before .before .before .before .before .before .before .pre .fits) (c .before .before .before .before .before .before .before .before .before .narrow .ensures) _)
 
 pub first-plan-spec : {M : Type 1} → statement M
 first-plan-spec =

@@ -1,7 +1,7 @@
 -- `first_plan::spread`: every solution stays. Assumes nothing.
 use Prim.Native.Nat.{_<_, _^_}
-use mathlib.Core.Path.{_≡_, refl}
-use mathlib.Core.Bool.{true, false}
+use mathlib.Core.Path.{refl}
+use mathlib.Core.Bool.{false}
 use lib.Bits.{bitAnd}
 use borrow.Author.Needs.{needs}
 use Rattle.bounded.proofs.Truth.{clash}
