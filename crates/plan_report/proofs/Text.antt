@@ -10,13 +10,12 @@ use Rattle.problem.specs.Problem.{Problem}
 use Rattle.problem.specs.declared.End.{End}
 use Rattle.problem.specs.declared.Masks.{Masks}
 use Rattle.problem.proofs.Count.{sizes-most}
-use Rattle.sheet.specs.Sheet.{layout, readSheet, sheetNumber, variablesOf, Keeps}
+use Rattle.sheet.specs.Sheet.{layout, readSheet, sheetNumber, Keeps}
 use Rattle.sheet.specs.Relation.{problemOf}
 use Rattle.sheet.specs.declared.SheetRefusal.{SheetRefusal}
 use Rattle.sheet.specs.declared.SheetRead.the-variants as read
 use Rattle.sheet.proofs.Accepted.{keeps, problem-bounded}
 use Rattle.jobs.specs.Print.{refusedLine, runLines}
-use Rattle.jobs.specs.declared.ReduceOutcome.the-variants.{Done}
 use Rattle.jobs.proofs.Opened.{sheet-refused, sheet-kept}
 use Rattle.trace.specs.Written.{written}
 use Rattle.fields.proofs.Laws.{Puts, after}
@@ -29,7 +28,7 @@ use Rattle.pick.specs.declared.PickOutcome.the-variants.{Plan, None, Refused}
 use Rattle.pick.specs.declared.PickRefusal.{PickRefusal}
 use Rattle.pick.proofs.Causes.{pick-kept, pick-accepted-over}
 use Rattle.pick.proofs.Demands.{pick-run}
-use Rattle.plan_report.specs.Planned.{foundLine, pickedPlan, pickLines, plannedLines, Picks}
+use Rattle.plan_report.specs.Planned.{foundLine, pickLines, plannedLines, Picks}
 
 -- ---- the text of a refused sheet and of one that is read
 
@@ -41,9 +40,9 @@ module _ (s : List ℕ) (K : Keeps layout s) where
   abbrev problem : Problem
   problem = problemOf layout s
 
-  read-lines : pickLines problem ≡ plannedLines s
+  pub kept-lines : pickLines problem ≡ plannedLines s
   unfolding plannedLines
-  read-lines = sym (sheet-kept s _ _ K)
+  kept-lines = sym (sheet-kept s _ _ K)
 
   -- the run's text, and the plan's line after it
   pub picked-put : (w plan : List ℕ) (found : Bool) (e : End) (steps : ℕ) (m : Masks) → Picks problem w plan found e steps m
@@ -51,7 +50,7 @@ module _ (s : List ℕ) (K : Keeps layout s) where
       → (b₂ ≡ written d 0 (plannedLines s)) × (r ≡ length (plannedLines s))
   unfolding pickLines
   picked-put w plan found e steps m R d b₁ b₂ p r x y l =
-      let t : runLines problem ++ foundLine found plan ≡ plannedLines s = (λ i. runLines problem ++ foundLine (R .some i) (R .is i)) ∙ read-lines in
+      let t : runLines problem ++ foundLine found plan ≡ plannedLines s = (λ i. runLines problem ++ foundLine (R .some i) (R .is i)) ∙ kept-lines in
       let u = after d b₁ b₂ 0 p r _ _ (x .0, x .1 ∙ sym (zero-add _)) y l in
       (u .0 ∙ ap (written d 0) t, u .1 ∙ zero-add _ ∙ ap length t)
 

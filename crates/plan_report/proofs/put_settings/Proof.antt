@@ -3,7 +3,6 @@ use Prim.Native.Nat.{_-_}
 use native.Mathlib.Omega.{arith}
 use lib.ListN.{length}
 use Rattle.plan_report.proofs.Lines.{Putting, putting-start, kept-length, field-room, putting-next, all-put}
-use borrow.Author.Needs.{needs}
 use Rattle.plan_report.proofs.put_settings.Statement.{statement}
 use Rattle.plan_report.proofs.put_settings.Tie as tie
 
