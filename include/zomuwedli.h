@@ -22,7 +22,7 @@
  *     zomuwedli_start        ZOMUWEDLI_START_STACK       40 KiB
  *     zomuwedli_hand_call    ZOMUWEDLI_HAND_CALL_STACK   40 KiB
  *     zomuwedli_put_back     ZOMUWEDLI_PUT_BACK_STACK   320 KiB, since it keeps a state for each record of the trace
- *     zomuwedli_pick         ZOMUWEDLI_PICK_STACK       320 KiB, since its search is a call deeper for each setting tried on its way
+ *     zomuwedli_pick         ZOMUWEDLI_PICK_STACK       320 KiB, since it puts back inside
  *     zomuwedli_colour       ZOMUWEDLI_COLOUR_STACK      40 KiB
  */
 #ifndef ZOMUWEDLI_H

@@ -249,8 +249,7 @@ pub const STACK: usize = 40 * 1024;
 /// ```
 pub const PUT_BACK_STACK: usize = 320 * 1024;
 
-/// The stack that is enough for picking, in bytes: its search is a call deeper for each setting that it tries on its way, and it puts back
-/// inside.
+/// The stack that is enough for picking, in bytes: it puts back inside.
 ///
 /// ```
 /// assert!(zomuwedli::PICK_STACK >= zomuwedli::PUT_BACK_STACK);
