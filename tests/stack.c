@@ -65,8 +65,8 @@ static unsigned is_of_unlike_parity_round(unsigned i, unsigned a, unsigned j, un
 }
 
 /* Each item but the last two has setting 15 in the first plan, and each lower setting fails at once: it leaves both of the last two setting 0
- * alone, and these are unequal. So the search is as deep as it gets, in settings and in items. What is barred between the others lets no
- * setting cover another; the run takes the last two down to settings 0 and 15, and no other item. */
+ * alone, and these are unequal. No search is deeper: once two items are left, each setting with a partner is in a plan. What is barred
+ * between the others lets no setting cover another; the run takes the last two down to settings 0 and 15, and no other item. */
 static unsigned is_deep(unsigned i, unsigned a, unsigned j, unsigned b)
 {
     if (i >= ITEMS - 2) {

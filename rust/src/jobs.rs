@@ -267,8 +267,8 @@ pub struct Picked {
 /// The trace buffer is that of [`run`], and holds the run's trace afterwards, with a plan and without. The plan has a byte for each item; it
 /// is written where there is one, and what it holds before is not read. That there is none is an answer, and no error.
 ///
-/// The time has no bound but the sheet: in the worst case it is exponential in the number of items left. The call puts back inside, for
-/// which [`PICK_STACK`](crate::PICK_STACK) bytes of stack are enough.
+/// The time has no bound but the sheet: in the worst case it is exponential in the number of items left.
+/// [`PICK_STACK`](crate::PICK_STACK) bytes of stack are enough for the search, and for putting back inside.
 ///
 /// ```
 /// use zomuwedli::{pick, Refusal, MAX_TRACE};
