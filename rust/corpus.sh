@@ -26,4 +26,10 @@ elif command -v minisat >/dev/null; then
 else
     echo "neither CaDiCaL nor MiniSat is at hand" >&2
 fi
-"$program" ${gecode:+"$gecode"} ${sat:+"$sat"} "$@"
+own=
+if [ -x ../target/bin/plan_sheet ]; then
+    own=program=../target/bin/plan_sheet
+else
+    echo "target/bin/plan_sheet is not built: rt check plan_sheet" >&2
+fi
+"$program" ${own:+"$own"} ${gecode:+"$gecode"} ${sat:+"$sat"} "$@"

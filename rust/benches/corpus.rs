@@ -1,8 +1,8 @@
 //! Times picking a plan over the corpus of 200 sheets (src/corpus.rs): the proved library, the fast implementation and, where they are given,
 //! Gecode and a SAT solver, one after the other on each sheet. Each runs in a process of its own, which is ended where it takes too long.
 //!
-//! `corpus [gecode=PROGRAM] [sat=COMMAND] [limit=SECONDS] [only=WHICH]` prints the tables, in Markdown; corpus.sh calls it so. WHICH is
-//! `held`, the sheets that are held to the bar, `reported`, the others, or the front of names.
+//! `corpus [program=PLAN_SHEET] [gecode=PROGRAM] [sat=COMMAND] [limit=SECONDS] [only=WHICH]` prints the tables, in Markdown; corpus.sh calls
+//! it so. WHICH is `held`, the sheets that are held to the bar, `reported`, the others, or the front of names.
 //! `corpus --write FOLDER` writes every sheet, and for the SAT solver its clauses. `corpus --pick IMPLEMENTATION NAME` is one such process.
 
 #[path = "../tests/support/mod.rs"]
@@ -113,20 +113,25 @@ enum Who {
     Sat,
     First,
     Any,
+    Program,
+    Process,
 }
 
-const ALL: [(Who, &str); 6] = [
+const ALL: [(Who, &str); 8] = [
     (Who::Library, "library"),
     (Who::Run, "its run alone"),
     (Who::Fast, "fast"),
     (Who::Sat, "SAT solver"),
     (Who::First, "Gecode, same order"),
     (Who::Any, "Gecode, any order"),
+    (Who::Program, "process of plan_sheet"),
+    (Who::Process, "process of Gecode, same order"),
 ];
 
 /// What is timed, and how.
 struct Setting {
     folder: PathBuf,
+    program: Option<String>,
     gecode: Option<String>,
     sat: Option<String>,
     limit: String,
@@ -145,12 +150,17 @@ impl Setting {
             Who::Run => own("run"),
             Who::Fast => own("fast"),
             Who::Sat => self.sat.as_ref().map(|command| command.split(' ').map(String::from).chain([file("cnf")]).collect()),
-            Who::First => self.gecode.as_ref().map(|program| vec![program.clone(), "first".into(), file("sheet")]),
+            Who::First | Who::Process => self.gecode.as_ref().map(|program| vec![program.clone(), "first".into(), file("sheet")]),
             Who::Any => self.gecode.as_ref().map(|program| vec![program.clone(), "any".into(), file("sheet")]),
+            Who::Program => self
+                .program
+                .as_ref()
+                .map(|program| vec!["sh".into(), "-c".into(), "exec \"$0\" <\"$1\"".into(), program.clone(), file("sheet")]),
         }
     }
 
-    /// A SAT solver tells by its status, and its time is that of the process. The others print their own times, posting and search apart.
+    /// A SAT solver tells by its status, plan_sheet by its last line, and their time is that of the process. The others print their own
+    /// times, posting and search apart.
     fn timed(&self, who: Who, name: &str) -> Option<Outcome> {
         let command = self.command(who, name)?;
         let before = Instant::now();
@@ -164,6 +174,8 @@ impl Setting {
             (Who::Sat, Some(10), _) => Some((elapsed, Some(true))),
             (Who::Sat, Some(20), _) => Some((elapsed, Some(false))),
             (Who::Library | Who::Run | Who::Fast, Some(0), [time, plan]) => Some((number(time), told(plan))),
+            (Who::Program, Some(0), _) => Some((elapsed, Some(text.lines().last().is_some_and(|line| line.starts_with("plan "))))),
+            (Who::Process, Some(0), [_, _, plan]) => Some((elapsed, told(plan))),
             (Who::First | Who::Any, Some(0), [posting, search, plan]) => Some(((number(posting) + number(search)) / 1_000.0, told(plan))),
             (_, None | Some(124 | 137), _) => None,
             (_, status, _) => panic!("{command:?} ended with {status:?}: {text}{}", String::from_utf8_lossy(&output.stderr)),
@@ -190,9 +202,13 @@ impl Row {
         self.of(who).map(|outcome| outcome.map_or(f64::INFINITY, |(time, _)| time))
     }
 
-    /// The library's time over another's. Where the other was ended, it is none to speak of; where the library was, it is without bound.
+    /// One's time over another's. Where the other was ended, it is none to speak of; where the one was, it is without bound.
+    fn ratio(&self, one: Who, other: Who) -> Option<f64> {
+        Some(self.time(one)?.max(LEAST) / self.time(other)?.max(LEAST)).filter(|ratio| !ratio.is_nan())
+    }
+
     fn over(&self, who: Who) -> Option<f64> {
-        Some(self.time(Who::Library)?.max(LEAST) / self.time(who)?.max(LEAST)).filter(|ratio| !ratio.is_nan())
+        self.ratio(Who::Library, who)
     }
 
     /// Whether there is a plan, as all say that came to an end.
@@ -263,6 +279,7 @@ fn print_bar(rows: &[Row], limit: &str) {
         println!("Over {BAR} times Gecode in {order}: {}.", over(&|row| row.over(who), BAR));
         println!("Among them over {NOTICED} ms: {}.", over(&noticed, BAR));
     }
+    println!("As processes, over {BAR} times Gecode in the same order: {}.", over(&|row| row.ratio(Who::Program, Who::Process), BAR));
     println!("Over a second: {}.", over(&|row| row.time(Who::Library), SECOND));
     for (who, name) in [(Who::Library, "the library"), (Who::Fast, "the fast implementation")] {
         if let Some((time, row)) = worst(&held, |row| row.time(who)) {
@@ -279,7 +296,7 @@ fn compare(setting: &Setting, only: &str) {
     write(&setting.folder);
     println!("Milliseconds, median and worst. Library and fast: the whole call, from the sheet to the plan, best of up to {CALLS}. Gecode: posting and");
     println!("search, measured inside its process. SAT solver: the process, its start and the reading of the clauses included; any plan. Both get");
-    println!("the full sheet.");
+    println!("the full sheet. The last two columns: from the start of the process to its end, the sheet read and the plan printed.");
     println!("Each is ended after {} s. Where two are compared, less than {LEAST} ms counts as that.\n", setting.limit);
     let mut rows = Vec::new();
     let wanted = |entry: &Entry| match only {
@@ -313,8 +330,13 @@ fn main() {
             let given = |name: &str| words.iter().find_map(|word| word.strip_prefix(name)?.strip_prefix('=').map(String::from));
             let folder = std::env::temp_dir().join(format!("corpus-{}", std::process::id()));
             fs::create_dir_all(&folder).expect("a folder for the sheets");
-            let setting =
-                Setting { folder, gecode: given("gecode"), sat: given("sat"), limit: given("limit").unwrap_or_else(|| "60".into()) };
+            let setting = Setting {
+                folder,
+                program: given("program"),
+                gecode: given("gecode"),
+                sat: given("sat"),
+                limit: given("limit").unwrap_or_else(|| "60".into()),
+            };
             compare(&setting, &given("only").unwrap_or_default());
             fs::remove_dir_all(&setting.folder).expect("the folder of the sheets");
         }
