@@ -1,6 +1,5 @@
 // The lines of a bench program: a text is read in pieces, a line is fields with a space between them, a field is a word or hexadecimal
 // digits. And what an answer is written with: words, numbers, bytes and states. A line ends with a newline, or where the input ends.
-ghost use mathlib.Core.Path.{_≡_};
 ghost use Prim.Native.Nat.{_<_, _≤_};
 ghost use lib.ListN.{length};
 ghost use Rattle.io.specs.Counts.{Counts};

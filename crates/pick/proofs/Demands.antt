@@ -1,34 +1,34 @@
 -- What picking comes to, over the definitions that its contracts cite: the plan that is picked, what "none" says, and that the rest is the
 -- run's. Assumes nothing.
 use mathlib.Core.Path.{_≡_, refl, sym, ap, _∙_, subst}
-use mathlib.Core.Bool.{Bool, true, false, cond}
+use mathlib.Core.Bool.{Bool, true, false}
 use mathlib.Core.List.{List}
-use mathlib.Core.Logic.{_↔_}
-use Prim.Native.Nat.{ℕ, _+_, _*_, _≤_}
-use native.Mathlib.Omega.{arith}
+use mathlib.Core.Logic.{_⊎_, inl, inr, _≢_, _↔_}
+use Prim.Native.Nat.{ℕ, _+_, _*_, _≤_, _<_}
 use lib.Dec.{T}
 use lib.ListN.{length, take, drop}
 use lib.Seq.{take-append-seam}
-use Rattle.bounded.proofs.Truth.{T-true, T-false}
+use Rattle.bounded.proofs.Truth.{T-true, T-false, lt-dec, eq-dec}
 use Rattle.problem.specs.Problem.{Problem, full, sizeSum}
-use Rattle.problem.specs.Reduce.{run, afterTrace}
+use Rattle.problem.specs.Reduce.{run}
 use Rattle.problem.specs.Extend.{solves, solvesWhole, planOf}
 use Rattle.problem.specs.declared.End.{End}
-use Rattle.sheet.specs.Sheet.{layout, Keeps}
+use Rattle.sheet.specs.Sheet.{layout, readSheet, Keeps}
 use Rattle.sheet.specs.Relation.{problemOf}
+use Rattle.sheet.specs.declared.SheetRefusal.{SheetRefusal}
+use Rattle.sheet.specs.declared.SheetRead.the-variants as read
 use Rattle.sheet.proofs.Accepted.{problem-bounded}
 use Rattle.jobs.specs.Run.{RunResult, runDoneBy, runJob}
 use Rattle.jobs.specs.PutBack.{PutBackResult, planFits, putBackOver, putBackJob}
 use Rattle.jobs.specs.declared.Extended.the-variants.{Done}
 use Rattle.jobs.specs.declared.ReduceOutcome.the-variants as reduced
-use Rattle.jobs.proofs.Opened.{run-accepted, put-back-kept}
+use Rattle.jobs.proofs.Opened.{sheet-or, run-accepted, put-back-kept}
 use Rattle.first_plan.specs.First.{NotAfter}
 use Rattle.extend.proofs.Demands.{put-back-accepted-over, put-back-plan}
-use Rattle.pick.specs.Pick.{leftBy, runTrace, firstLeft, leftPlan, PickResult, outcomeOf, planLeft, pickDone, pickJob}
-use Rattle.pick.specs.declared.PickOutcome.{PickOutcome}
-use Rattle.pick.specs.declared.PickOutcome.the-variants.{Plan, None, Refused}
-use Rattle.pick.proofs.Left.{HasPlan, found-iff, plan-with, plan-without, left-plan, left-least, left-back}
-use Rattle.pick.proofs.Causes.{pick-accepted-over, pick-kept, pick-iff, RunsOwn}
+use Rattle.pick.specs.Pick.{leftBy, runTrace, firstLeft, leftPlan, PickResult, outcomeOf, pickDone, pickOver, pickJob}
+use Rattle.pick.specs.declared.PickOutcome.the-variants.{Plan, None}
+use Rattle.pick.proofs.Left.{found-iff, plan-with, plan-without, left-plan, left-least, left-back, plan-not-read}
+use Rattle.pick.proofs.Causes.{pick-buffer-over, pick-length-over, pick-accepted-over, pick-sheet-refused, pick-kept, pick-iff, RunsOwn}
 
 -- the trace stands at the buffer's front
 trace-front : (P : Problem) (b p : List ℕ) (w : ℕ) → w ≡ length (runTrace P) → take w ((pickDone P b p) .trace) ≡ runTrace P
@@ -130,3 +130,44 @@ module _ (s b p : List ℕ) where
       let A = answers false e k w o .0 in
       let h = pick-iff s b p (None e k w) .0 o .1 .1 .1 in
       ap (λ (z : PickResult). z .plan) (done A) ∙ plan-without problem p (T-false ((firstLeft problem) .ok) (λ t. h (found-iff problem (problem-bounded s (A .keeps)) .0 t)))
+
+-- ---- what is not read
+
+-- two results with the same answer and the same trace
+abbrev pub Alike : PickResult → PickResult → Type 0
+Alike x y = (x .answer ≡ y .answer) × (x .trace ≡ y .trace)
+
+module _ (P : Problem) (b p q : List ℕ) (same : length p ≡ length q) where
+  not-read-over : Alike (pickOver P b p) (pickOver P b q)
+  unfolding pickDone
+  not-read-over = by-buffer (lt-dec (length b) (1 + 5 * sizeSum P))
+    where
+      by-length : 1 + 5 * sizeSum P ≤ length b → (length p ≡ P .n) ⊎ (length p ≢ P .n) → Alike (pickOver P b p) (pickOver P b q)
+      by-length l (inl e) = rw (pick-accepted-over P b p l e, pick-accepted-over P b q l (sym same ∙ e)) (refl, refl)
+      by-length l (inr d) = rw (pick-length-over P b p l d, pick-length-over P b q l (λ e. d (same ∙ e))) (refl, refl)
+
+      by-buffer : (length b < 1 + 5 * sizeSum P) ⊎ (1 + 5 * sizeSum P ≤ length b) → Alike (pickOver P b p) (pickOver P b q)
+      by-buffer (inl l) = rw (pick-buffer-over P b p l, pick-buffer-over P b q l) (refl, refl)
+      by-buffer (inr l) = by-length l (eq-dec (length p) (P .n))
+
+module _ (s b p q : List ℕ) (same : length p ≡ length q) where
+  -- "what they are before the call is never read": with other bytes lent for the plan the answer and the trace are the same
+  pub pick-not-read : Alike (pickJob s b p) (pickJob s b q)
+  pick-not-read = go (sheet-or s)
+    where
+      go : ((r : SheetRefusal) × (readSheet layout s ≡ read.Refused r)) ⊎ Keeps layout s → Alike (pickJob s b p) (pickJob s b q)
+      go (inl (r, e)) = rw (pick-sheet-refused s b p r e, pick-sheet-refused s b q r e) (refl, refl)
+      go (inr K) = rw (pick-kept s b p K, pick-kept s b q K) (not-read-over (problemOf layout s) b p q same)
+
+  -- and so is a plan that is picked
+  pub plan-alike : (e : End) (k w : ℕ) → (pickJob s b p) .answer .outcome ≡ Plan e k w → (pickJob s b p) .plan ≡ (pickJob s b q) .plan
+  unfolding pickDone
+  plan-alike e k w o =
+      let x = answers s b p true e k w o in
+      let A = x .0 in
+      let P = problemOf layout s in
+      let B = problem-bounded s (A .keeps) in
+      let ok = T-true ((firstLeft P) .ok) (found-iff P B .1 (pick-iff s b p (Plan e k w) .0 o .1 .1 .1)) in
+      let m : length q ≡ P .n = sym same ∙ A .sized in
+      ap (λ (z : PickResult). z .plan) (done s b p A) ∙ plan-not-read P B ok p q (A .sized) m
+      ∙ sym (ap (λ (z : PickResult). z .plan) (done s b q (record { keeps = A .keeps; room = A .room; sized = m })))

@@ -26,7 +26,7 @@ use Rattle.trace.proofs.Written.{length-fronted}
 use Rattle.first_plan.specs.First.{firstPlan}
 use Rattle.first_plan.specs.declared.Found.{Found}
 use Rattle.first_plan.proofs.Meaning.{first-long}
-use Rattle.pick.specs.Pick.{leftBy, runTrace, blank, firstLeft, planLeft, PickResult, outcomeOf, pickDone}
+use Rattle.pick.specs.Pick.{leftBy, runTrace, blank, firstLeft, planLeft, outcomeOf, pickDone}
 use Rattle.pick.proofs.Left.{left-ready, left-found, plan-with, plan-without}
 
 -- ---- the first plan put back

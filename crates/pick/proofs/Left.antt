@@ -3,7 +3,7 @@ use mathlib.Core.Path.{_≡_, sym, ap, _∙_, subst}
 use mathlib.Core.Bool.{true, false, _||_}
 use mathlib.Core.List.{List}
 use mathlib.Core.Logic.{_↔_, inl, inr, _⊎_}
-use Prim.Native.Nat.{ℕ, _≤_, _<_}
+use Prim.Native.Nat.{ℕ, _<_}
 use native.Mathlib.Omega.{arith}
 use lib.Dec.{T, eqb}
 use lib.ListN.{length, getD-replicate}
@@ -17,13 +17,13 @@ use Rattle.problem.specs.Extend.{solves, solvesWhole, planOf}
 use Rattle.problem.specs.Held.{Bounded, held, RowTable}
 use Rattle.problem.specs.Masks.{stateOf, masksOf}
 use Rattle.problem.specs.declared.Masks.{Masks}
-use Rattle.problem.proofs.Reflect.{Active, Live, Allowed, Fits, full-fits}
+use Rattle.problem.proofs.Reflect.{Active, Live, Fits, full-fits}
 use Rattle.problem.proofs.Sound.{Solution, solves-iff, solvesWhole-iff}
 use Rattle.problem.proofs.Trace.{trace-fits, trace-solvable}
 use Rattle.problem.proofs.Run.{run-lawful}
 use Rattle.held.specs.Ready.{Ready}
 use Rattle.held.proofs.After.{state-held, ready-held}
-use Rattle.jobs.specs.PutBack.{planFits, putBackDone, putBackOver}
+use Rattle.jobs.specs.PutBack.{PutBackResult, planFits, putBackDone, putBackOver}
 use Rattle.first_plan.specs.First.{firstPlan, NotAfter}
 use Rattle.first_plan.proofs.Meaning.{first-is-plan, first-is-least, first-iff, first-keeps, first-long}
 use Rattle.extend.proofs.Demands.{run-put-back-over}
@@ -112,6 +112,10 @@ module _ (P : Problem) (B : Bounded P) where
     pub left-back : (p : List ℕ) → length p ≡ P .n → putBackOver P (runTrace P) (leftPlan P) p ≡ putBackDone P (run P (full P)) (leftPlan P)
     unfolding leftBy
     left-back p l = run-put-back-over P (leftPlan P) p left-long l left-plan
+
+    -- "what they are before the call is never read": with other bytes lent the same plan comes
+    pub plan-not-read : (p q : List ℕ) → length p ≡ P .n → length q ≡ P .n → planLeft P p ≡ planLeft P q
+    plan-not-read p q l m = plan-with P p ok ∙ ap (λ (x : PutBackResult). x .result) (left-back p l ∙ sym (left-back q m)) ∙ sym (plan-with P q ok)
 
 -- ---- over a table
 

@@ -8,7 +8,6 @@ use Rattle.problem.specs.Problem.{Problem, State, full}
 use Rattle.problem.specs.Reduce.{run, afterTrace, endOf}
 use Rattle.problem.specs.Masks.{masksOf, emptyMasks}
 use Rattle.problem.specs.declared.End.{End}
-use Rattle.problem.specs.declared.Record.{Record}
 use Rattle.sheet.specs.Sheet.{sheetNumber}
 use Rattle.jobs.specs.Trace.{traceBytes, fronted}
 use Rattle.jobs.specs.WithSheet.{withSheet}

@@ -5,7 +5,7 @@ use Prim.Native.Nat.{ℕ, _-_}
 use lib.ListN.{length}
 use Rattle.problem.specs.declared.End.the-variants.{Impossible, Solved, Rest}
 use Rattle.jobs.specs.Starred.{lent, sheetB, sheetC, sheetD, sheetL}
-use Rattle.pick.specs.Pick.{PickResult, pickJob}
+use Rattle.pick.specs.Pick.{pickJob}
 use Rattle.pick.specs.declared.PickRefusal.the-variants as refusal
 use Rattle.pick.specs.declared.PickOutcome.{PickOutcome}
 use Rattle.pick.specs.declared.PickOutcome.the-variants.{Plan, None, Refused}

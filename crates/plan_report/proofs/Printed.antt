@@ -1,27 +1,23 @@
 -- What plan_sheet prints, beside what reduce_sheet prints and what picking answers. Assumes nothing.
 use mathlib.Core.Path.{_≡_, sym, ap, _∙_}
-use mathlib.Core.Bool.{true, false}
 use mathlib.Core.List.{List, _++_}
 use Prim.Native.Nat.{ℕ}
 use native.Mathlib.Omega.{arith}
-use lib.ListN.{length, replicate, length-replicate}
+use lib.ListN.{replicate, length-replicate}
 use lib.Seq.{take-all}
 use Rattle.bounded.proofs.Truth.{T-true, T-false}
-use Rattle.problem.specs.Problem.{Problem}
-use Rattle.problem.specs.Held.{Bounded}
 use Rattle.problem.specs.declared.End.{End}
 use Rattle.sheet.specs.Sheet.{layout, readSheet, Keeps}
 use Rattle.sheet.specs.Relation.{problemOf}
 use Rattle.sheet.specs.declared.SheetRefusal.{SheetRefusal}
 use Rattle.sheet.specs.declared.SheetRead.the-variants as read
 use Rattle.sheet.proofs.Accepted.{problem-bounded, longest-sheet}
-use Rattle.jobs.specs.PutBack.{PutBackResult}
 use Rattle.jobs.specs.Print.{inputLimit, sheetLines}
 use Rattle.jobs.proofs.Opened.{sheet-refused}
 use Rattle.report.proofs.Text.{read-lines}
 use Rattle.pick.specs.Pick.{firstLeft, planLeft, PickResult, pickDone, pickJob}
 use Rattle.pick.specs.declared.PickOutcome.the-variants.{Plan, None}
-use Rattle.pick.proofs.Left.{found-iff, plan-with, left-back}
+use Rattle.pick.proofs.Left.{found-iff, plan-not-read}
 use Rattle.pick.proofs.Causes.{pick-kept, pick-accepted-over, pick-iff}
 use Rattle.plan_report.specs.Planned.{noPlanLine, planLine, foundLine, pickedPlan, pickLines, plannedLines, planned}
 use Rattle.plan_report.proofs.Text.{refused-lines, kept-lines}
@@ -35,11 +31,6 @@ one-more : (s : List ℕ) → Keeps layout s → plannedLines s ≡ sheetLines s
 unfolding pickLines
 one-more s K = sym (kept-lines s K) ∙ ap (λ (l : List ℕ). l ++ foundLine ((firstLeft (problemOf layout s)) .ok) (pickedPlan (problemOf layout s))) (sym (read-lines s K))
 
--- the plan that is picked is the same whatever the buffer held before
-alike : (P : Problem) (B : Bounded P) → (firstLeft P) .ok ≡ true → (p q : List ℕ) → length p ≡ P .n → length q ≡ P .n → planLeft P p ≡ planLeft P q
-alike P B ok p q l m =
-    plan-with P p ok ∙ ap (λ (x : PutBackResult). x .result) (left-back P B ok p l ∙ sym (left-back P B ok q m)) ∙ sym (plan-with P q ok)
-
 -- "prints what reduce_sheet prints and then one line more": what picking answers, with any buffers that it does not refuse
 module _ (s b p : List ℕ) (e : End) (k w : ℕ) where
   pub planned-plan : (pickJob s b p) .answer .outcome ≡ Plan e k w → plannedLines s ≡ sheetLines s ++ planLine ((pickJob s b p) .plan)
@@ -50,7 +41,7 @@ module _ (s b p : List ℕ) (e : End) (k w : ℕ) where
       let B = problem-bounded s (x .0) in
       let ok = T-true ((firstLeft P) .ok) (found-iff P B .1 (x .1 .1 .1)) in
       let j : (pickJob s b p) .plan ≡ planLeft P p = ap (λ (z : PickResult). z .plan) (pick-kept s b p (x .0) ∙ pick-accepted-over P b p (x .1 .0 .0) (x .1 .0 .1)) in
-      let a = alike P B ok p (replicate (P .n) 255) (x .1 .0 .1) (length-replicate (P .n) 255) in
+      let a = plan-not-read P B ok p (replicate (P .n) 255) (x .1 .0 .1) (length-replicate (P .n) 255) in
       one-more s (x .0) ∙ (λ i. sheetLines s ++ foundLine (ok i) ((sym (j ∙ a)) i))
 
   pub planned-none : (pickJob s b p) .answer .outcome ≡ None e k w → plannedLines s ≡ sheetLines s ++ noPlanLine

@@ -1,5 +1,5 @@
 -- `pick::put_first`: the first plan of what the run left, and that put back. Assumes nothing.
-use mathlib.Core.Path.{sym, _∙_}
+use mathlib.Core.Path.{sym}
 use borrow.Author.Tests.{not-true, not-false}
 use lib.Seq.{length-take-le}
 use Rattle.pick.proofs.Left.{left-ready}
