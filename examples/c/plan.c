@@ -5,16 +5,13 @@
  */
 #include "example.h"
 
-/* The plan has a byte for each item, so that their number is asked for first. "no plan" is an answer, and no refusal. */
+/* Byte 5 of a sheet counts its items, and the plan has a byte for each; where it is missing or counts too many, the call refuses the sheet.
+ * "no plan" is an answer, and no refusal. */
 static int print_finished(const char *name, const uint8_t *sheet, size_t length)
 {
     uint8_t trace[ZOMUWEDLI_MAX_TRACE], plan[ZOMUWEDLI_MAX_ITEMS], state[ZOMUWEDLI_STATE_LENGTH];
-    uint64_t answer = zomuwedli_read(sheet, length);
-    if (zomuwedli_number(answer) != 0) {
-        return refuse(name, zomuwedli_number(answer));
-    }
-    unsigned n = zomuwedli_items(answer);
-    answer = zomuwedli_pick(sheet, length, trace, sizeof trace, plan, n, state, sizeof state);
+    unsigned n = length > 5 && sheet[5] <= ZOMUWEDLI_MAX_ITEMS ? sheet[5] : 0;
+    uint64_t answer = zomuwedli_pick(sheet, length, trace, sizeof trace, plan, n, state, sizeof state);
     if (zomuwedli_number(answer) != 0) {
         return refuse(name, zomuwedli_number(answer));
     }

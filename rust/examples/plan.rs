@@ -8,12 +8,12 @@ use std::ffi::OsString;
 use std::process::ExitCode;
 
 use common::{line, read_sheet, refuse, usage, Status};
-use zomuwedli::{pick, read, Refusal, MAX_ITEMS, MAX_TRACE};
+use zomuwedli::{pick, Refusal, MAX_ITEMS, MAX_TRACE};
 
 /// A plan of the sheet, if there is one. The tests find plans by it too (tests/colour.rs).
 pub fn plan_of(sheet: &[u8]) -> Result<Option<Vec<u8>>, Refusal> {
-    // The plan has a byte for each item, so that their number is asked for first.
-    let items = read(sheet)?.items;
+    // Byte 5 of a sheet counts its items, and the plan has a byte for each; where it is missing or counts too many, the sheet is refused.
+    let items = sheet.get(5).map_or(0, |&items| usize::from(items).min(MAX_ITEMS));
     let mut plan = [0; MAX_ITEMS];
     let picked = pick(sheet, &mut [0; MAX_TRACE], &mut plan[..items])?;
     Ok(picked.has_plan.then(|| plan[..items].to_vec()))
