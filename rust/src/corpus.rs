@@ -152,29 +152,16 @@ fn latin(random: &mut Random, rows: usize, columns: usize, filled: usize) -> Dra
 
 // ---- Pigeonholes --------------------------------------------------------------------------------------------------------------------
 
-/// Pigeons and holes, and whether it is held to the bar: each hole more than one too few multiplies the search by as many.
-const PIGEONS: [(usize, usize, bool); 13] = [
-    (3, 2, true),
-    (4, 3, true),
-    (5, 4, true),
-    (6, 5, true),
-    (7, 6, true),
-    (8, 7, true),
-    (9, 8, true),
-    (10, 9, true),
-    (11, 10, false),
-    (12, 11, false),
-    (8, 8, true),
-    (12, 12, true),
-    (16, 16, true),
-];
+/// Pigeons and holes.
+const PIGEONS: [(usize, usize); 13] =
+    [(3, 2), (4, 3), (5, 4), (6, 5), (7, 6), (8, 7), (9, 8), (10, 9), (11, 10), (12, 11), (8, 8), (12, 12), (16, 16)];
 
 fn pigeonholes() -> Vec<Entry> {
-    let holes = |(pigeons, holes, held): (usize, usize, bool)| Entry {
+    let holes = |(pigeons, holes): (usize, usize)| Entry {
         name: format!("pigeons-{pigeons:02}-{holes:02}"),
         family: "pigeonholes",
         sheet: Draft::new(vec![holes as u8; pigeons], |_, a, _, b| a != b).bytes(),
-        held,
+        held: true,
         solvable: Some(pigeons <= holes),
     };
     PIGEONS.into_iter().map(holes).collect()

@@ -714,6 +714,25 @@ fn items_of(highest: u64) -> u32 {
     ((highest >> 15).wrapping_mul(TOGETHER) >> 48) as u32 & 15
 }
 
+/// Whether some items that must all differ are more than the values that they have together: then there is no plan, and no search would see
+/// it in time. From each item on, those are taken, lowest first, that allow no equal value with any taken before.
+fn crowded(table: &Table, state: &State) -> bool {
+    let State { items, settings } = state;
+    let apart = |i: usize, j: usize| j != i && values(settings[i] & settings[j]).all(|a| table.rows[i][a][j] >> a & 1 == 0);
+    let far: [u32; MAX_ITEMS] = std::array::from_fn(|i| match has(*items, i) {
+        true => members(*items).filter(|&j| apart(i, j)).fold(0, |far, j| far | 1 << j),
+        false => 0,
+    });
+    members(*items).any(|first| {
+        let (mut rest, mut together, mut count) = (far[first], settings[first], 1);
+        while rest != 0 && count <= together.count_ones() {
+            let j = rest.trailing_zeros() as usize;
+            (rest, together, count) = (rest & far[j], together | settings[j], count + 1);
+        }
+        count > together.count_ones()
+    })
+}
+
 /// The search for the first plan of a state. It asks whether there is any plan with the values fixed so far, and looks for it in the order
 /// that serves it best; what is answered is the first plan all the same.
 struct Search {
@@ -915,7 +934,8 @@ impl Workspace {
         });
         state.copy_from_slice(&self.reduction.state.to_bytes());
         let left = &self.reduction.state;
-        let first = if self.reduction.emptied { None } else { self.search.first_plan(&self.table, left) };
+        let none = self.reduction.emptied || crowded(&self.table, left);
+        let first = if none { None } else { self.search.first_plan(&self.table, left) };
         if let Some(sets) = first {
             let value = |i: usize| if has(left.items, i) { set_of(&sets, i).trailing_zeros() as u8 } else { OUT };
             plan.iter_mut().enumerate().for_each(|(i, byte)| *byte = value(i));
