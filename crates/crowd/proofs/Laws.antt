@@ -89,6 +89,7 @@ zeros zero k = refl
 zeros (suc n) zero = refl
 zeros (suc n) (suc k) = zeros n k
 
+-- an entry that is not yet written has no variable
 pub record Written (P : Problem) (far : List ℕ) : Type 0 where
   pub long : length far ≡ 32
   pub rows : Rows P far
