@@ -14,13 +14,13 @@ use Rattle.bounded.proofs.Truth.{T-not, eq-dec}
 use Rattle.bounded.proofs.Bounded.{lowest-least, lowest-passes}
 use Rattle.bounded.proofs.Mask.{bit-none}
 use Rattle.bounded.proofs.Members.{lowest-member, part-le, part-lt}
-use Rattle.problem.specs.Problem.{State, remove}
+use Rattle.problem.specs.Problem.{Problem, State, remove}
 use Rattle.problem.specs.Held.{held, RowTable}
 use Rattle.problem.specs.Masks.{stateOf, masksOf}
 use Rattle.problem.specs.declared.Masks.{Masks}
 use Rattle.problem.proofs.Reflect.{Active, Live, Fits, remove-live, remove-fits}
 use Rattle.problem.proofs.HeldTable.{held-few}
-use Rattle.problem.proofs.Sound.{Solution}
+use Rattle.problem.proofs.Sound.{Solution, Solvable}
 use Rattle.held.specs.Ready.{Ready}
 use Rattle.held.proofs.Laws.{active-32}
 use Rattle.held.proofs.After.{state-held}
@@ -30,6 +30,11 @@ use Rattle.first_plan.specs.declared.Found.{Found}
 use Rattle.first_plan.specs.declared.Opened.{Opened}
 use Rattle.first_plan.proofs.Meaning.{first-none-keeps}
 use Rattle.first_plan.proofs.Prune.{first-unsolved, first-narrowed, first-refuted, first-done, first-taken, never, choose-active, choose-fits, choose-keeps}
+
+-- ---- a state without a solution
+
+pub unsolved-first : {P : Problem} {s : State} → Fits P s → (Solvable P s → ⊥) → (w : List ℕ) → none w ≡ firstPlan P s w
+unsolved-first F h w = sym (first-unsolved F (λ q A. h (q, A)) w)
 
 -- ---- a state narrowed
 

@@ -291,6 +291,10 @@ pub fn first_plan(t: &[u16], m: Masks, plan: [u8; 32]) -> Found
     requires { ⌜ Ready (now t) m ⌝ }
     ensures { λ r. ⌜ r ≡ firstPlan (held (now (t .entry))) (stateOf m) plan ⌝ }
 {
+    // narrowing sees no crowd, and the search would go through every order of its values
+    if crowd::crowded(t, m.active, &m.domains) {
+        return Found { ok: false, plan };
+    }
     let near = neighbours(t, m.active, &m.domains);
     let o = narrow(t, &near, m, m.active);
     if !o.open {
