@@ -9,7 +9,6 @@ ghost use Rattle.graph.specs.Graph.{fileLimit};
 ghost use Rattle.colour_sheet.specs.Argument.{channelsOf};
 use colour::Coloured;
 use libc::STDIN_FILENO;
-use libc::STDOUT_FILENO;
 use read_graph::Field;
 
 // The channels that an argument names: it is a number and nothing else.
@@ -41,23 +40,10 @@ fn argument() -> u64 {
     channels_of(&word[..n])
 }
 
-fn show_refused(number: u8) {
-    io::write_all(STDOUT_FILENO, b"refused ");
-    io::print_decimal(STDOUT_FILENO, number as u64);
-    io::write_all(STDOUT_FILENO, b"\n");
-}
-
-// The first bytes of the buffer. That it has so many needs no proof here, since it is asked.
-fn show_sheet(sheet: &[u8], n: usize) {
-    if n <= sheet.len() {
-        io::write_all(STDOUT_FILENO, &sheet[..n]);
-    }
-}
-
-fn show(a: Coloured, sheet: &[u8]) {
+fn show_coloured(a: Coloured, sheet: &[u8]) {
     match a {
-        Coloured::Written(n) => show_sheet(sheet, n),
-        Coloured::Refused(r) => show_refused(colour::colour_number(r)),
+        Coloured::Written(n) => show::show_sheet(sheet, n),
+        Coloured::Refused(r) => show::show_refused(colour::colour_number(r)),
     }
 }
 
@@ -68,7 +54,7 @@ fn print_sheet(channels: u64, file: &mut [u8])
     let n = io::read_full(STDIN_FILENO, file);
     let mut sheet = [0u8; 16904];
     let a = colour::colour(&file[..n], channels, &mut sheet);
-    show(a, &sheet);
+    show_coloured(a, &sheet);
 }
 
 fn main() {

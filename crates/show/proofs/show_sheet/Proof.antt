@@ -1,9 +1,9 @@
--- `colour_sheet::show_sheet`: the buffer has as many bytes as are written. Assumes nothing.
+-- `show::show_sheet`: the buffer has as many bytes as are written. Assumes nothing.
 use native.Mathlib.Omega.{arith}
 use lib.ListN.{length-take}
 use borrow.Author.Needs.{needs}
-use Rattle.colour_sheet.proofs.show_sheet.Statement.{statement}
-use Rattle.colour_sheet.proofs.show_sheet.Tie as tie
+use Rattle.show.proofs.show_sheet.Statement.{statement}
+use Rattle.show.proofs.show_sheet.Tie as tie
 
 slice-aggregate-write-all : tie.Need-slice-aggregate-write-all
 slice-aggregate-write-all c =
