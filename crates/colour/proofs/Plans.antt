@@ -25,7 +25,7 @@ use Rattle.graph.proofs.Sentences.{anyLine-iff}
 use Rattle.graph.proofs.Turned.{BadFile, bad-file-iff, there}
 use Rattle.compose.specs.Compose.{sheetBytes}
 use Rattle.compose.proofs.Written.{written-keeps, written-problem, written-short}
-use Rattle.compose.proofs.Blocks.{roomy-today, row-allows, block-bars}
+use Rattle.compose.proofs.Blocks.{layout-roomy, row-allows, block-bars}
 use Rattle.colour.specs.Colour.{colouredNumber, verticesOf, graphProblem, graphSheet, colourJob}
 use Rattle.colour.specs.declared.Coloured.the-variants.{Written}
 use Rattle.colour.proofs.Filling.{joinedPair, allows, colouring-size, colouring-vertices, colouring-bounded}
@@ -218,7 +218,7 @@ module _ (f : List ℕ) (k : ℕ) (R : InRange (verticesOf f) k) where
 
   graph-short : length (graphSheet f k) ≤ 16904
   unfolding graphSheet
-  graph-short = written-short layout 1 (graphProblem f k) roomy-today refl bounded some
+  graph-short = written-short layout 1 (graphProblem f k) layout-roomy refl bounded some
 
 -- a buffer of as many bytes is never too short
 pub colour-room : (f : List ℕ) (k : ℕ) (b : List ℕ) → 16904 ≤ length b → colouredNumber ((colourJob f k b) .answer) ≢ 25
@@ -238,12 +238,12 @@ module _ (f : List ℕ) (k : ℕ) (b : List ℕ) (w : ℕ) (e : (colourJob f k b
   -- it keeps the layout, so that every job takes it
   pub colour-keeps : Keeps layout (take w ((colourJob f k b) .buffer))
   unfolding graphSheet
-  colour-keeps = rw sheet-is (written-keeps layout 1 (graphProblem f k) roomy-today refl (bounded f k range) (some f k range))
+  colour-keeps = rw sheet-is (written-keeps layout 1 (graphProblem f k) layout-roomy refl (bounded f k range) (some f k range))
 
   -- it is the colouring problem of the file
   pub colour-problem : problemOf layout (take w ((colourJob f k b) .buffer)) ≡ graphProblem f k
   unfolding graphSheet
-  colour-problem = ap (problemOf layout) sheet-is ∙ written-problem layout 1 (graphProblem f k) roomy-today refl (bounded f k range) (some f k range)
+  colour-problem = ap (problemOf layout) sheet-is ∙ written-problem layout 1 (graphProblem f k) layout-roomy refl (bounded f k range) (some f k range)
 
   -- it is no longer than the longest sheet
   pub colour-longest : w ≤ 16904

@@ -20,37 +20,6 @@ use Rattle.sheet.specs.declared.Rows.the-variants.{Unconstrained}
 use Rattle.sheet.proofs.Accepted.{Good, here, is-pair, rows-miss, rows-end}
 use Rattle.compose.specs.Compose.{rowNumber, rowBars, pairBars, hasBlock}
 
--- ---- the reader's tests of k rows, row by row
-module _ (L : Layout) (s : List ℕ) (w z : ℕ) where
-  pub none-beyond : (k p : ℕ) → ((a : ℕ) → a < k → numberAt s w (p + a * w) < 2 ^ z) → beyond L s w z k p ≡ false
-  unfolding beyond
-  none-beyond zero p h = refl
-  none-beyond (suc k) p h =
-      let q : p + zero * w ≡ p = omega arith in
-      let l : numberAt s w p < 2 ^ z = rw q at (h 0 (omega arith)) in
-      simp (lt-leb _ _ l) (none-beyond k (p + w) (λ a m. let e = suc-mul a w in let u : p + suc a * w ≡ p + w + a * w = omega arith in rw u at (h (suc a) (omega arith))))
-
-  pub all-full : (k p : ℕ) → ((a : ℕ) → a < k → numberAt s w (p + a * w) + 1 ≡ 2 ^ z) → allowsAll L s w z k p ≡ true
-  unfolding allowsAll
-  all-full zero p h = refl
-  all-full (suc k) p h =
-      let q : p + zero * w ≡ p = omega arith in
-      let l : numberAt s w p + 1 ≡ 2 ^ z = rw q at (h 0 (omega arith)) in
-      simp (eq-eqb _ _ l) (all-full k (p + w) (λ a m. let e = suc-mul a w in let u : p + suc a * w ≡ p + w + a * w = omega arith in rw u at (h (suc a) (omega arith))))
-
-  pub full-rows : (k p : ℕ) → allowsAll L s w z k p ≡ true → (a : ℕ) → a < k → numberAt s w (p + a * w) + 1 ≡ 2 ^ z
-  unfolding allowsAll
-  full-rows zero p e a h = absurd (omega arith)
-  full-rows (suc k) p e zero h =
-      let f = both (eqb (numberAt s w p + 1) (2 ^ z)) (allowsAll L s w z k (p + w)) e in
-      let q : p + zero * w ≡ p = omega arith in
-      rw q (eqb-true (numberAt s w p + 1) (2 ^ z) (f .0))
-  full-rows (suc k) p e (suc a) h =
-      let f = both (eqb (numberAt s w p + 1) (2 ^ z)) (allowsAll L s w z k (p + w)) e in
-      let m = suc-mul a w in
-      let q : p + suc a * w ≡ p + w + a * w = omega arith in
-      rw q (full-rows k (p + w) (f .1) a (omega arith))
-
 module _ (L : Layout) (s : List ℕ) where
   -- sizes that are good
   pub none-bad : (k p : ℕ) → ((i : ℕ) → i < k → (1 ≤ byteAt s (p + i)) × (byteAt s (p + i) ≤ 16)) → badSizes L s k p ≡ false
@@ -130,6 +99,10 @@ module _ (P : Problem) where
       let f = both (ltb (x / 32) (x % 32)) _ e in
       let g = both (ltb (x % 32) (P .n)) _ (f .1) in
       record { rises = ltb-true _ _ (f .0); ends = ltb-true _ _ (g .0); bar = g .1 }
+
+  pub block-has : (x : ℕ) → Block x → hasBlock P x ≡ true
+  unfolding hasBlock
+  block-has x b = simp (lt-ltb _ _ (b .rises), lt-ltb _ _ (b .ends), b .bar)
 
   -- a pair with no block bars nothing
   pub no-block : (x : ℕ) → hasBlock P x ≡ false → x / 32 < x % 32 → x % 32 < P .n → pairBars P (x / 32) (x % 32) ≡ false

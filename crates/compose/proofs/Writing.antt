@@ -9,7 +9,7 @@ use native.Mathlib.Omega.{arith}
 use lib.ListN.{length, getD, set, length-append, List·getD-append}
 use lib.Pow.{pow-pos}
 use lib.Seq.{sets}
-use borrow.Author.Tests.{lt-ltb, le-ltb, eqb-true}
+use borrow.Author.Tests.{lt-ltb, le-ltb}
 use Rattle.bounded.specs.Bounded.{oneIf}
 use Rattle.bounded.specs.Table.{tab, filled}
 use Rattle.bounded.proofs.Truth.{lt-dec}
@@ -18,6 +18,7 @@ use Rattle.problem.specs.Problem.{Problem}
 use Rattle.problem.specs.Held.{held, RowTable}
 use Rattle.sheet.specs.Bytes.{numberBytes}
 use Rattle.sheet.specs.Sheet.{Layout, layout}
+use Rattle.sheet.proofs.Versions.{test-taken}
 use Rattle.trace.specs.Written.{written}
 use Rattle.trace.proofs.Written.{sets-written, word-put, written-nil, written-one, written-more, written-front, length-written}
 use Rattle.jobs.specs.Trace.{fronted}
@@ -230,7 +231,7 @@ tab-next b p f i h =
 
 -- a version is a byte
 pub version-byte : (v : ℕ) → layout .takes v ≡ true → v < 256
-version-byte v t = let e = eqb-true v 1 t in omega arith
+version-byte v t = ⊎-elim (λ (e : v ≡ 1). omega arith) (λ (e : v ≡ 2). omega arith) (test-taken v t)
 
 -- the front, the sizes and the blocks make the sheet
 module _ (L : Layout) (v : ℕ) (P : Problem) (b : List ℕ) where

@@ -23,11 +23,11 @@ use Rattle.sheet.specs.Relation.{rowsFrom, rowsOf, rowIn, rowsAllow, sizeOf, al
 use Rattle.sheet.specs.declared.Rows.{Rows}
 use Rattle.sheet.specs.declared.Rows.the-variants.{At}
 use Rattle.sheet.specs.declared.Block.the-variants.{Next}
-use Rattle.sheet.proofs.Laws.{block-there, block-next, blocks-next, blocks-end, sheet-blocks}
+use Rattle.sheet.proofs.Laws.{none-beyond, full-rows, block-there, block-next, blocks-next, blocks-end, sheet-blocks}
 use Rattle.sheet.proofs.Accepted.{Good, is-pair, rows-hit, rows-miss, rows-of, size-in, size-out, listed-of, allowed-listed, pair-up, pair-down, bounded, longest}
 use Rattle.compose.specs.Compose.{rowNumber, pairBars, hasBlock, blockCount, rowsBytes, blockBytes, blocksBytes, sheetLength, sheetBytes, Roomy}
 use Rattle.compose.proofs.Stands.{Stands, length-number, stands-all, stands-at, stands-byte, stands-over, stands-next, stands-number}
-use Rattle.compose.proofs.Rows.{none-beyond, full-rows, none-bad, rows-passed, mask-full, bars-none, none-bars, Block, has-block, no-block}
+use Rattle.compose.proofs.Rows.{none-bad, rows-passed, mask-full, bars-none, none-bars, Block, has-block, no-block}
 use Rattle.compose.proofs.Lengths.{count-hit, count-miss, count-few, blocks-hit, blocks-miss, length-block, blocks-short}
 
 module _ (L : Layout) (v : ℕ) (P : Problem) (R : Roomy L) (taken : L .takes v ≡ true) (B : Bounded P) (s : List ℕ) where

@@ -90,13 +90,15 @@ abbrev pub AllMeet : List ℕ → List Claim → Type 0
 AllMeet s [] = Unit {0}
 AllMeet s (c ∷ l) = Meets s c × AllMeet s l
 
+-- a sheet, the same sheet in version 2, and what is claimed of both
 pub record Row : Type 0 where
   pub sheet : List ℕ
+  pub shorter : List ℕ
   pub claims : List Claim
 
 abbrev pub AllRows : List Row → Type 0
 AllRows [] = Unit {0}
-AllRows (r ∷ l) = AllMeet (r .sheet) (r .claims) × AllRows l
+AllRows (r ∷ l) = AllMeet (r .sheet) (r .claims) × (AllMeet (r .shorter) (r .claims) × AllRows l)
 
 -- ---- the sheets
 
@@ -182,13 +184,58 @@ sheetFold = 1 ∷ 0 ∷ 0 ∷ 0 ∷ 23 ∷ 3 ∷ 0 ∷ 2 ∷ 2 ∷ 2 ∷ 2 ∷ 0
 abbrev pub sheetElsewhere : List ℕ
 sheetElsewhere = 1 ∷ 0 ∷ 0 ∷ 0 ∷ 14 ∷ 2 ∷ 0 ∷ 1 ∷ 1 ∷ 2 ∷ 0 ∷ 1 ∷ 0 ∷ 1 ∷ []
 
+-- ---- the sheets in version 2: items have 8 settings or fewer, and a row one byte
+
+abbrev pub shortA : List ℕ
+shortA = 2 ∷ 0 ∷ 0 ∷ 0 ∷ 9 ∷ 1 ∷ 0 ∷ 0 ∷ 2 ∷ []
+
+abbrev pub shortB : List ℕ
+shortB = 2 ∷ 0 ∷ 0 ∷ 0 ∷ 14 ∷ 2 ∷ 0 ∷ 1 ∷ 2 ∷ 2 ∷ 0 ∷ 1 ∷ 2 ∷ 1 ∷ []
+
+abbrev pub shortC : List ℕ
+shortC = 2 ∷ 0 ∷ 0 ∷ 0 ∷ 23 ∷ 3 ∷ 0 ∷ 3 ∷ 2 ∷ 2 ∷ 2 ∷ 0 ∷ 1 ∷ 2 ∷ 1 ∷ 0 ∷ 2 ∷ 2 ∷ 1 ∷ 1 ∷ 2 ∷ 2 ∷ 1 ∷ []
+
+abbrev pub shortD : List ℕ
+shortD = 2 ∷ 0 ∷ 0 ∷ 0 ∷ 13 ∷ 2 ∷ 0 ∷ 1 ∷ 1 ∷ 1 ∷ 0 ∷ 1 ∷ 0 ∷ []
+
+abbrev pub shortE : List ℕ
+shortE = 2 ∷ 0 ∷ 0 ∷ 0 ∷ 24 ∷ 4 ∷ 0 ∷ 3 ∷ 2 ∷ 2 ∷ 2 ∷ 2 ∷ 0 ∷ 1 ∷ 2 ∷ 1 ∷ 0 ∷ 2 ∷ 2 ∷ 1 ∷ 0 ∷ 3 ∷ 2 ∷ 1 ∷ []
+
+abbrev pub shortF : List ℕ
+shortF = 2 ∷ 0 ∷ 0 ∷ 0 ∷ 26 ∷ 3 ∷ 0 ∷ 3 ∷ 3 ∷ 3 ∷ 3 ∷ 0 ∷ 1 ∷ 6 ∷ 5 ∷ 3 ∷ 0 ∷ 2 ∷ 6 ∷ 5 ∷ 3 ∷ 1 ∷ 2 ∷ 1 ∷ 3 ∷ 7 ∷ []
+
+abbrev pub shortG : List ℕ
+shortG = 2 ∷ 0 ∷ 0 ∷ 0 ∷ 28 ∷ 4 ∷ 0 ∷ 4 ∷ 2 ∷ 2 ∷ 2 ∷ 2 ∷ 0 ∷ 1 ∷ 2 ∷ 1 ∷ 0 ∷ 2 ∷ 2 ∷ 1 ∷ 0 ∷ 3 ∷ 1 ∷ 2 ∷ 1 ∷ 2 ∷ 2 ∷ 1 ∷ []
+
+abbrev pub shortH : List ℕ
+shortH = 2 ∷ 0 ∷ 0 ∷ 0 ∷ 25 ∷ 3 ∷ 0 ∷ 3 ∷ 3 ∷ 2 ∷ 2 ∷ 0 ∷ 1 ∷ 2 ∷ 1 ∷ 2 ∷ 0 ∷ 2 ∷ 2 ∷ 1 ∷ 2 ∷ 1 ∷ 2 ∷ 2 ∷ 1 ∷ []
+
+abbrev pub shortSlide : List ℕ
+shortSlide = 2 ∷ 0 ∷ 0 ∷ 0 ∷ 14 ∷ 2 ∷ 0 ∷ 1 ∷ 2 ∷ 2 ∷ 0 ∷ 1 ∷ 3 ∷ 2 ∷ []
+
+abbrev pub shortK : List ℕ
+shortK = 2 ∷ 0 ∷ 0 ∷ 0 ∷ 25 ∷ 3 ∷ 0 ∷ 3 ∷ 3 ∷ 2 ∷ 2 ∷ 0 ∷ 1 ∷ 1 ∷ 2 ∷ 1 ∷ 0 ∷ 2 ∷ 2 ∷ 1 ∷ 1 ∷ 1 ∷ 2 ∷ 2 ∷ 3 ∷ []
+
+abbrev pub shortL : List ℕ
+shortL = 2 ∷ 0 ∷ 0 ∷ 0 ∷ 26 ∷ 3 ∷ 0 ∷ 3 ∷ 3 ∷ 3 ∷ 2 ∷ 0 ∷ 1 ∷ 6 ∷ 1 ∷ 4 ∷ 0 ∷ 2 ∷ 1 ∷ 1 ∷ 3 ∷ 1 ∷ 2 ∷ 1 ∷ 3 ∷ 2 ∷ []
+
+abbrev pub shortChoice : List ℕ
+shortChoice = 2 ∷ 0 ∷ 0 ∷ 0 ∷ 15 ∷ 2 ∷ 0 ∷ 1 ∷ 3 ∷ 3 ∷ 0 ∷ 1 ∷ 6 ∷ 5 ∷ 3 ∷ []
+
+abbrev pub shortFold : List ℕ
+shortFold = 2 ∷ 0 ∷ 0 ∷ 0 ∷ 19 ∷ 3 ∷ 0 ∷ 2 ∷ 2 ∷ 2 ∷ 2 ∷ 0 ∷ 1 ∷ 1 ∷ 2 ∷ 1 ∷ 2 ∷ 1 ∷ 3 ∷ []
+
+abbrev pub shortElsewhere : List ℕ
+shortElsewhere = 2 ∷ 0 ∷ 0 ∷ 0 ∷ 13 ∷ 2 ∷ 0 ∷ 1 ∷ 1 ∷ 2 ∷ 0 ∷ 1 ∷ 1 ∷ []
+
 -- ---- the table
 
 abbrev pub rows : List Row
 rows =
-    record { sheet = sheetA; claims = Runs 11 (1 ∷ 3 ∷ 2 ∷ 0 ∷ 0 ∷ []) Solved 1 (masks 0 []) ∷ HasPlan true ∷ [] }
+    record { sheet = sheetA; shorter = shortA; claims = Runs 11 (1 ∷ 3 ∷ 2 ∷ 0 ∷ 0 ∷ []) Solved 1 (masks 0 []) ∷ HasPlan true ∷ [] }
     ∷ record {
       sheet = sheetB;
+      shorter = shortB;
       claims =
           Runs 21 (1 ∷ 3 ∷ 2 ∷ 0 ∷ 0 ∷ 3 ∷ 2 ∷ 1 ∷ 0 ∷ []) Solved 2 (masks 0 [])
           ∷ NotRun 20 10
@@ -202,6 +249,7 @@ rows =
     -- C, and I and J, which are jobs on C
     ∷ record {
       sheet = sheetC;
+      shorter = shortC;
       claims =
           Runs 31 (1 ∷ []) Rest 0 (masks 7 (3 ∷ 3 ∷ 3 ∷ []))
           ∷ HasPlan false
@@ -213,10 +261,12 @@ rows =
     }
     ∷ record {
       sheet = sheetD;
+      shorter = shortD;
       claims = Runs 11 (1 ∷ 4 ∷ 1 ∷ 0 ∷ 0 ∷ 1 ∷ []) Impossible 1 (masks 3 (0 ∷ 1 ∷ [])) ∷ HasPlan false ∷ NotTaken true 0 13 ∷ [];
     }
     ∷ record {
       sheet = sheetE;
+      shorter = shortE;
       claims =
           Runs 41 (1 ∷ 3 ∷ 2 ∷ 0 ∷ 0 ∷ 3 ∷ 2 ∷ 1 ∷ 0 ∷ 3 ∷ 2 ∷ 2 ∷ 0 ∷ 3 ∷ 2 ∷ 3 ∷ 0 ∷ []) Solved 4 (masks 0 [])
           ∷ Plans [] 2
@@ -225,17 +275,19 @@ rows =
     }
     ∷ record {
       sheet = sheetF;
+      shorter = shortF;
       claims =
           Runs 46 (1 ∷ 3 ∷ 2 ∷ 0 ∷ 1 ∷ 3 ∷ 2 ∷ 1 ∷ 0 ∷ 3 ∷ 2 ∷ 2 ∷ 0 ∷ []) Solved 3 (masks 0 [])
           ∷ Serves 0 0 false
           ∷ PutBack (1 ∷ 3 ∷ 2 ∷ 0 ∷ 1 ∷ 3 ∷ 2 ∷ 1 ∷ 0 ∷ 3 ∷ 2 ∷ 2 ∷ 0 ∷ []) (255 ∷ 255 ∷ 255 ∷ []) (1 ∷ 0 ∷ 0 ∷ [])
           ∷ [];
     }
-    ∷ record { sheet = sheetG; claims = Runs 41 (1 ∷ 3 ∷ 3 ∷ 3 ∷ 0 ∷ []) Rest 1 (masks 7 (3 ∷ 3 ∷ 3 ∷ [])) ∷ HasPlan false ∷ [] }
-    ∷ record { sheet = sheetH; claims = Runs 36 (1 ∷ 4 ∷ 4 ∷ 0 ∷ 0 ∷ 2 ∷ []) Rest 1 (masks 7 (6 ∷ 3 ∷ 3 ∷ [])) ∷ HasPlan false ∷ [] }
-    ∷ record { sheet = sheetSlide; claims = PutBack (1 ∷ 4 ∷ 5 ∷ 0 ∷ 0 ∷ 1 ∷ []) (1 ∷ 1 ∷ []) (1 ∷ 1 ∷ []) ∷ [] }
+    ∷ record { sheet = sheetG; shorter = shortG; claims = Runs 41 (1 ∷ 3 ∷ 3 ∷ 3 ∷ 0 ∷ []) Rest 1 (masks 7 (3 ∷ 3 ∷ 3 ∷ [])) ∷ HasPlan false ∷ [] }
+    ∷ record { sheet = sheetH; shorter = shortH; claims = Runs 36 (1 ∷ 4 ∷ 4 ∷ 0 ∷ 0 ∷ 2 ∷ []) Rest 1 (masks 7 (6 ∷ 3 ∷ 3 ∷ [])) ∷ HasPlan false ∷ [] }
+    ∷ record { sheet = sheetSlide; shorter = shortSlide; claims = PutBack (1 ∷ 4 ∷ 5 ∷ 0 ∷ 0 ∷ 1 ∷ []) (1 ∷ 1 ∷ []) (1 ∷ 1 ∷ []) ∷ [] }
     ∷ record {
       sheet = sheetK;
+      shorter = shortK;
       claims =
           Runs 36 (1 ∷ 4 ∷ 5 ∷ 0 ∷ 2 ∷ 0 ∷ 3 ∷ 3 ∷ 1 ∷ 0 ∷ 3 ∷ 2 ∷ 0 ∷ 0 ∷ 3 ∷ 2 ∷ 2 ∷ 0 ∷ []) Solved 4 (masks 0 [])
           ∷ RanBefore 36 (1 ∷ [])
@@ -244,6 +296,7 @@ rows =
     }
     ∷ record {
       sheet = sheetL;
+      shorter = shortL;
       claims =
           Runs 41 (1 ∷ 4 ∷ 5 ∷ 0 ∷ 1 ∷ 0 ∷ 4 ∷ 1 ∷ 1 ∷ 0 ∷ 0 ∷ []) Rest 2 (masks 7 (5 ∷ 6 ∷ 3 ∷ []))
           ∷ RanBefore 41 (1 ∷ [])
@@ -251,6 +304,7 @@ rows =
     }
     ∷ record {
       sheet = sheetChoice;
+      shorter = shortChoice;
       claims =
           PutBack (1 ∷ 3 ∷ 2 ∷ 0 ∷ 0 ∷ []) (255 ∷ 0 ∷ []) (0 ∷ 1 ∷ [])
           ∷ PutBack (1 ∷ 3 ∷ 3 ∷ 0 ∷ 1 ∷ []) (255 ∷ 0 ∷ []) (1 ∷ 0 ∷ [])
@@ -258,6 +312,7 @@ rows =
     }
     ∷ record {
       sheet = sheetFold;
+      shorter = shortFold;
       claims =
           PutBack (1 ∷ 3 ∷ 2 ∷ 2 ∷ 0 ∷ 3 ∷ 3 ∷ 1 ∷ 0 ∷ []) (0 ∷ 255 ∷ 255 ∷ []) (0 ∷ 0 ∷ 0 ∷ [])
           ∷ NotLawful (1 ∷ 3 ∷ 3 ∷ 1 ∷ 0 ∷ []) (0 ∷ 255 ∷ 0 ∷ []) 0 255 255
@@ -265,6 +320,7 @@ rows =
     }
     ∷ record {
       sheet = sheetElsewhere;
+      shorter = shortElsewhere;
       claims = NotPutBack (1 ∷ 3 ∷ 2 ∷ 0 ∷ 0 ∷ []) (255 ∷ 1 ∷ []) 19 ∷ Taken 0 0 (masks 2 (0 ∷ 1 ∷ [])) ∷ [];
     }
     ∷ []

@@ -5,14 +5,15 @@ use mathlib.Core.Bool.{Bool, true, false, cond, _&&_, _||_}
 use mathlib.Core.List.{List}
 use mathlib.Core.Logic.{_⊎_, inl, inr, _≢_, _↔_}
 use Prim.Native.Nat.{ℕ, zero, suc, _+_, _-_, _*_, _^_, _≤_, _<_}
+use native.Mathlib.Nat.{suc-mul}
 use native.Mathlib.Omega.{arith}
 use lib.Dec.{eqb, leb}
 use lib.ListN.{length}
-use borrow.Author.Tests.{lt-ltb, le-ltb, le-leb, leb-true, eqb-true, eq-eqb, ne-eqb}
+use borrow.Author.Tests.{lt-ltb, le-ltb, le-leb, leb-true, eq-eqb, ne-eqb}
 use Rattle.bounded.proofs.Causes.{cause-iff, number-iff}
-use Rattle.bounded.proofs.Truth.{T-true, T-false, split, clash, both, eq-dec, lt-dec}
+use Rattle.bounded.proofs.Truth.{T-true, T-false, split, clash, eq-dec, lt-dec}
 use Rattle.sheet.specs.Bytes.{byteAt, numberAt}
-use Rattle.sheet.specs.Sheet.{layout, sheetNumber, versionOf, lengthOf, variablesOf, blocksOf, sizeAt, rowBytes, inOrder, beyond, allowsAll, blockOf, blockAt, blocksFrom, badSizes, readSheet}
+use Rattle.sheet.specs.Sheet.{layout, sheetNumber, versionOf, lengthOf, variablesOf, blocksOf, sizeAt, rowWidth, rowBytes, inOrder, beyond, allowsAll, blockOf, blockAt, blocksFrom, badSizes, readSheet}
 use Rattle.sheet.specs.Relation.{rowIn}
 use Rattle.sheet.specs.Refusals.{readingNumber}
 use Rattle.sheet.specs.declared.SheetRefusal.{SheetRefusal}
@@ -22,7 +23,8 @@ use Rattle.sheet.specs.declared.Block.the-variants.{Next, Fault}
 use Rattle.sheet.specs.declared.SheetRead.{SheetRead}
 use Rattle.sheet.specs.declared.SheetRead.the-variants.{Accepted, Refused}
 use Rattle.sheet.proofs.Refusals.{sheet-number}
-use Rattle.sheet.proofs.Laws.{good-sizes, good-rows, in-order, block-order, block-cut, block-beyond, block-bars-nothing, block-next, block-missing, block-there, blocks-fault, blocks-next, blocks-over, blocks-end, sheet-short, sheet-version, sheet-length, sheet-none, sheet-many, sheet-sizes-missing, sheet-sizes, sheet-blocks}
+use Rattle.sheet.proofs.Versions.{Taken, Untaken, taken-or, taken-test, untaken-test}
+use Rattle.sheet.proofs.Laws.{good-sizes, good-rows, none-beyond, all-full, full-rows, in-order, block-order, block-cut, block-beyond, block-bars-nothing, block-next, block-missing, block-there, blocks-fault, blocks-next, blocks-over, blocks-end, sheet-short, sheet-version, sheet-length, sheet-none, sheet-many, sheet-sizes-missing, sheet-sizes, sheet-blocks}
 
 not-false-true : (b : Bool) → (b ≡ false → ⊥) → b ≡ true
 not-false-true true h = refl
@@ -31,57 +33,40 @@ not-false-true false h = absurd (h refl)
 module _ (s : List ℕ) where
   -- ---- tests over rows and sizes, and what is found where they fail
 
-  module _ (z : ℕ) where
-    row-next : (p a : ℕ) → numberAt s 2 (p + 2 + a * 2) ≡ numberAt s 2 (p + suc a * 2)
-    row-next p a = let q : p + 2 + a * 2 ≡ p + suc a * 2 = omega arith in ap (numberAt s 2) q
+  module _ (w z : ℕ) where
+    row-next : (p a : ℕ) → numberAt s w (p + w + a * w) ≡ numberAt s w (p + suc a * w)
+    row-next p a = let m = suc-mul a w in let q : p + w + a * w ≡ p + suc a * w = omega arith in ap (numberAt s w) q
 
-    row-first : (p : ℕ) → numberAt s 2 p ≡ numberAt s 2 (p + 0 * 2)
-    row-first p = let q : p ≡ p + 0 * 2 = omega arith in ap (numberAt s 2) q
+    row-first : (p : ℕ) → numberAt s w p ≡ numberAt s w (p + 0 * w)
+    row-first p = let q : p ≡ p + 0 * w = omega arith in ap (numberAt s w) q
 
-    beyond-found : (k p : ℕ) → beyond layout s 2 z k p ≡ true → (a : ℕ) × (a < k) × (2 ^ z ≤ numberAt s 2 (p + a * 2))
+    beyond-found : (k p : ℕ) → beyond layout s w z k p ≡ true → (a : ℕ) × (a < k) × (2 ^ z ≤ numberAt s w (p + a * w))
     unfolding beyond
     beyond-found zero p e = absurd (clash e refl)
-    beyond-found (suc k) p e = go (split (leb (2 ^ z) (numberAt s 2 p))) (beyond-found k (p + 2))
+    beyond-found (suc k) p e = go (split (leb (2 ^ z) (numberAt s w p))) (beyond-found k (p + w))
       where
         Found : Type 0
-        Found = (a : ℕ) × (a < suc k) × (2 ^ z ≤ numberAt s 2 (p + a * 2))
+        Found = (a : ℕ) × (a < suc k) × (2 ^ z ≤ numberAt s w (p + a * w))
 
-        go : (leb (2 ^ z) (numberAt s 2 p) ≡ true) ⊎ (leb (2 ^ z) (numberAt s 2 p) ≡ false)
-            → (beyond layout s 2 z k (p + 2) ≡ true → (a : ℕ) × (a < k) × (2 ^ z ≤ numberAt s 2 (p + 2 + a * 2))) → Found
-        go (inl h) ih = (0, omega arith, subst (λ (x : ℕ). 2 ^ z ≤ x) (row-first p) (leb-true (2 ^ z) (numberAt s 2 p) h))
+        go : (leb (2 ^ z) (numberAt s w p) ≡ true) ⊎ (leb (2 ^ z) (numberAt s w p) ≡ false)
+            → (beyond layout s w z k (p + w) ≡ true → (a : ℕ) × (a < k) × (2 ^ z ≤ numberAt s w (p + w + a * w))) → Found
+        go (inl h) ih = (0, omega arith, subst (λ (x : ℕ). 2 ^ z ≤ x) (row-first p) (leb-true (2 ^ z) (numberAt s w p) h))
         go (inr h) ih =
-            let x = ih (sym (ap (λ (b : Bool). b || beyond layout s 2 z k (p + 2)) h) ∙ e) in
+            let x = ih (sym (ap (λ (b : Bool). b || beyond layout s w z k (p + w)) h) ∙ e) in
             (suc (x .0), omega (arith, x .1), subst (λ (y : ℕ). 2 ^ z ≤ y) (row-next p (x .0)) (x .2))
 
-    all-rows : (k p : ℕ) → ((a : ℕ) → a < k → numberAt s 2 (p + a * 2) + 1 ≡ 2 ^ z) → allowsAll layout s 2 z k p ≡ true
-    unfolding allowsAll
-    all-rows zero p h = refl
-    all-rows (suc k) p h =
-        let e : numberAt s 2 p + 1 ≡ 2 ^ z = ap (λ (x : ℕ). x + 1) (row-first p) ∙ h 0 (omega arith) in
-        (λ i. eq-eqb (numberAt s 2 p + 1) (2 ^ z) e i && all-rows k (p + 2) (λ a l. ap (λ (x : ℕ). x + 1) (row-next p a) ∙ h (suc a) (omega arith)) i)
-
-    each-row : (k p : ℕ) → allowsAll layout s 2 z k p ≡ true → (a : ℕ) → a < k → numberAt s 2 (p + a * 2) + 1 ≡ 2 ^ z
-    unfolding allowsAll
-    each-row zero p e a l = absurd (omega arith)
-    each-row (suc k) p e zero l =
-        let f = both (eqb (numberAt s 2 p + 1) (2 ^ z)) (allowsAll layout s 2 z k (p + 2)) e in
-        ap (λ (x : ℕ). x + 1) (sym (row-first p)) ∙ eqb-true (numberAt s 2 p + 1) (2 ^ z) (f .0)
-    each-row (suc k) p e (suc a) l =
-        let f = both (eqb (numberAt s 2 p + 1) (2 ^ z)) (allowsAll layout s 2 z k (p + 2)) e in
-        ap (λ (x : ℕ). x + 1) (sym (row-next p a)) ∙ each-row k (p + 2) (f .1) a (omega arith)
-
-    bar-found : (k p : ℕ) → allowsAll layout s 2 z k p ≡ false → (a : ℕ) × (a < k) × (numberAt s 2 (p + a * 2) + 1 ≢ 2 ^ z)
+    bar-found : (k p : ℕ) → allowsAll layout s w z k p ≡ false → (a : ℕ) × (a < k) × (numberAt s w (p + a * w) + 1 ≢ 2 ^ z)
     unfolding allowsAll
     bar-found zero p e = absurd (clash refl e)
-    bar-found (suc k) p e = go (eq-dec (numberAt s 2 p + 1) (2 ^ z)) (bar-found k (p + 2))
+    bar-found (suc k) p e = go (eq-dec (numberAt s w p + 1) (2 ^ z)) (bar-found k (p + w))
       where
         Found : Type 0
-        Found = (a : ℕ) × (a < suc k) × (numberAt s 2 (p + a * 2) + 1 ≢ 2 ^ z)
+        Found = (a : ℕ) × (a < suc k) × (numberAt s w (p + a * w) + 1 ≢ 2 ^ z)
 
-        go : (numberAt s 2 p + 1 ≡ 2 ^ z) ⊎ (numberAt s 2 p + 1 ≢ 2 ^ z)
-            → (allowsAll layout s 2 z k (p + 2) ≡ false → (a : ℕ) × (a < k) × (numberAt s 2 (p + 2 + a * 2) + 1 ≢ 2 ^ z)) → Found
+        go : (numberAt s w p + 1 ≡ 2 ^ z) ⊎ (numberAt s w p + 1 ≢ 2 ^ z)
+            → (allowsAll layout s w z k (p + w) ≡ false → (a : ℕ) × (a < k) × (numberAt s w (p + w + a * w) + 1 ≢ 2 ^ z)) → Found
         go (inl h) ih =
-            let x = ih (sym (ap (λ (b : Bool). b && allowsAll layout s 2 z k (p + 2)) (eq-eqb (numberAt s 2 p + 1) (2 ^ z) h)) ∙ e) in
+            let x = ih (sym (ap (λ (b : Bool). b && allowsAll layout s w z k (p + w)) (eq-eqb (numberAt s w p + 1) (2 ^ z) h)) ∙ e) in
             (suc (x .0), omega (arith, x .1), λ q. x .2 (ap (λ (y : ℕ). y + 1) (row-next p (x .0)) ∙ q))
         go (inr d) ih = (0, omega arith, λ q. d (ap (λ (x : ℕ). x + 1) (row-first p) ∙ q))
 
@@ -158,19 +143,20 @@ module _ (s : List ℕ) where
         go (inl a) (inl b) (inl c) = inr (inr (inr c))
         go (inl a) (inl b) (inr c) = inl (a, b, c)
 
-    none-beyond : ((a : ℕ) → a < sizeAt s i → rowIn layout s j (p + 2) a < 2 ^ sizeAt s j) → beyond layout s 2 (sizeAt s j) (sizeAt s i) (p + 2) ≡ false
-    none-beyond h = T-false _ (λ t. let x = beyond-found (sizeAt s j) (sizeAt s i) (p + 2) (T-true _ t) in let l = h (x .0) (x .1) in let m = x .2 in omega arith)
+    none-over : ((a : ℕ) → a < sizeAt s i → rowIn layout s j (p + 2) a < 2 ^ sizeAt s j) → beyond layout s (rowWidth layout s j) (sizeAt s j) (sizeAt s i) (p + 2) ≡ false
+    none-over h = none-beyond layout s (rowWidth layout s j) (sizeAt s j) (sizeAt s i) (p + 2) h
 
     pair-answers : (b : Block) → PairCause least p i j b → blockOf layout s least p i j ≡ b
     pair-answers (Fault PairOrder) x = block-order layout s least p i j (unordered x)
     pair-answers (Fault RowsCut) (o, h) = block-cut layout s least p i j (ordered o) h
     pair-answers (Fault RowBeyond) (o, (w, x)) =
         block-beyond layout s least p i j (ordered o) w
-        (not-false-true _ (λ f. let l = good-rows layout s 2 (sizeAt s j) (sizeAt s i) (p + 2) f (x .0) (x .1) in let m = x .2 in omega arith))
+        (not-false-true _ (λ f. let l = good-rows layout s (rowWidth layout s j) (sizeAt s j) (sizeAt s i) (p + 2) f (x .0) (x .1) in let m = x .2 in omega arith))
     pair-answers (Fault BarsNothing) (o, (w, h)) =
-        block-bars-nothing layout s least p i j (ordered o) w (none-beyond (λ a l. let e = h a l in omega arith)) (all-rows (sizeAt s j) (sizeAt s i) (p + 2) h)
+        block-bars-nothing layout s least p i j (ordered o) w (none-over (λ a l. let e = h a l in omega arith)) (all-full layout s (rowWidth layout s j) (sizeAt s j) (sizeAt s i) (p + 2) h)
     pair-answers (Next l q) (o, (w, (low, (x, (el, eq))))) =
-        block-next layout s least p i j (ordered o) w (none-beyond low) (T-false _ (λ t. x .2 (each-row (sizeAt s j) (sizeAt s i) (p + 2) (T-true _ t) (x .0) (x .1))))
+        block-next layout s least p i j (ordered o) w (none-over low)
+        (T-false _ (λ t. x .2 (full-rows layout s (rowWidth layout s j) (sizeAt s j) (sizeAt s i) (p + 2) (T-true _ t) (x .0) (x .1))))
         ∙ (λ t. Next (sym el t) (sym eq t))
     pair-answers (Fault TooShort) x = absurd x
     pair-answers (Fault Version) x = absurd x
@@ -186,15 +172,15 @@ module _ (s : List ℕ) where
         Some : Type 0
         Some = (b : Block) × PairCause least p i j b
 
-        by-bars : InOrder least i j → RowsWhole p i j → beyond layout s 2 (sizeAt s j) (sizeAt s i) (p + 2) ≡ false
-            → (allowsAll layout s 2 (sizeAt s j) (sizeAt s i) (p + 2) ≡ true) ⊎ (allowsAll layout s 2 (sizeAt s j) (sizeAt s i) (p + 2) ≡ false) → Some
-        by-bars o w l (inl e) = (Fault BarsNothing, (o, (w, each-row (sizeAt s j) (sizeAt s i) (p + 2) e)))
+        by-bars : InOrder least i j → RowsWhole p i j → beyond layout s (rowWidth layout s j) (sizeAt s j) (sizeAt s i) (p + 2) ≡ false
+            → (allowsAll layout s (rowWidth layout s j) (sizeAt s j) (sizeAt s i) (p + 2) ≡ true) ⊎ (allowsAll layout s (rowWidth layout s j) (sizeAt s j) (sizeAt s i) (p + 2) ≡ false) → Some
+        by-bars o w l (inl e) = (Fault BarsNothing, (o, (w, full-rows layout s (rowWidth layout s j) (sizeAt s j) (sizeAt s i) (p + 2) e)))
         by-bars o w l (inr e) =
-            (Next (32 * i + j + 1) (p + 2 + rowBytes layout s i j), (o, (w, (good-rows layout s 2 (sizeAt s j) (sizeAt s i) (p + 2) l, (bar-found (sizeAt s j) (sizeAt s i) (p + 2) e, (refl, refl))))))
+            (Next (32 * i + j + 1) (p + 2 + rowBytes layout s i j), (o, (w, (good-rows layout s (rowWidth layout s j) (sizeAt s j) (sizeAt s i) (p + 2) l, (bar-found (rowWidth layout s j) (sizeAt s j) (sizeAt s i) (p + 2) e, (refl, refl))))))
 
         by-beyond : InOrder least i j → RowsWhole p i j
-            → (beyond layout s 2 (sizeAt s j) (sizeAt s i) (p + 2) ≡ true) ⊎ (beyond layout s 2 (sizeAt s j) (sizeAt s i) (p + 2) ≡ false) → Some
-        by-beyond o w (inl e) = (Fault RowBeyond, (o, (w, beyond-found (sizeAt s j) (sizeAt s i) (p + 2) e)))
+            → (beyond layout s (rowWidth layout s j) (sizeAt s j) (sizeAt s i) (p + 2) ≡ true) ⊎ (beyond layout s (rowWidth layout s j) (sizeAt s j) (sizeAt s i) (p + 2) ≡ false) → Some
+        by-beyond o w (inl e) = (Fault RowBeyond, (o, (w, beyond-found (rowWidth layout s j) (sizeAt s j) (sizeAt s i) (p + 2) e)))
         by-beyond o w (inr e) = by-bars o w e (split _)
 
         by-rows : InOrder least i j → (length s < p + 2 + rowBytes layout s i j) ⊎ RowsWhole p i j → Some
@@ -238,7 +224,7 @@ module _ (s : List ℕ) where
 
   -- the rows of the front, passed
   abbrev pub Stated : Type 0
-  Stated = (8 ≤ length s) × (versionOf s ≡ 1) × (lengthOf s ≡ length s)
+  Stated = (8 ≤ length s) × Taken (versionOf s) × (lengthOf s ≡ length s)
 
   abbrev pub Counted : Type 0
   Counted = Stated × ((1 ≤ variablesOf s) × (variablesOf s ≤ 32))
@@ -254,10 +240,10 @@ module _ (s : List ℕ) where
   abbrev pub ReadCause : SheetRead → Type 0
   -- 1: "fewer than 8 bytes"
   ReadCause (Refused TooShort) = length s < 8
-  -- 2: "byte 0 is not 1"
-  ReadCause (Refused Version) = (8 ≤ length s) × (versionOf s ≢ 1)
+  -- 2: "byte 0 is neither 1 nor 2"
+  ReadCause (Refused Version) = (8 ≤ length s) × Untaken (versionOf s)
   -- 3: "stated length is not the length lent"
-  ReadCause (Refused Length) = (8 ≤ length s) × (versionOf s ≡ 1) × (lengthOf s ≢ length s)
+  ReadCause (Refused Length) = (8 ≤ length s) × Taken (versionOf s) × (lengthOf s ≢ length s)
   -- 4: "n is 0 or above 32"
   ReadCause (Refused Variables) = Stated × ((variablesOf s ≡ 0) ⊎ (32 < variablesOf s))
   -- 5: "a size is missing, 0 or above 16"
@@ -278,8 +264,8 @@ module _ (s : List ℕ) where
   size-good i g (inl e) = let a = g .0 in omega arith
   size-good i g (inr l) = let b = g .1 in omega arith
 
-  versioned : versionOf s ≡ 1 → layout .takes (versionOf s) ≡ true
-  versioned e = eq-eqb (versionOf s) 1 e
+  versioned : Taken (versionOf s) → layout .takes (versionOf s) ≡ true
+  versioned = taken-test (versionOf s)
 
   opened : SizesGood → readSheet layout s ≡ blocksFrom layout s (blocksOf s) 0 (8 + variablesOf s)
   opened (((h1, h2, h3), (one, few)), (room, sizes)) =
@@ -295,7 +281,7 @@ module _ (s : List ℕ) where
 
   cause-answers : (x : SheetRead) → ReadCause x → readSheet layout s ≡ x
   cause-answers (Refused TooShort) h = sheet-short layout s h
-  cause-answers (Refused Version) (h1, d) = sheet-version layout s h1 (ne-eqb (versionOf s) 1 d)
+  cause-answers (Refused Version) (h1, d) = sheet-version layout s h1 (untaken-test (versionOf s) d)
   cause-answers (Refused Length) (h1, h2, d) = sheet-length layout s h1 (versioned h2) d
   cause-answers (Refused Variables) ((h1, h2, h3), inl z) = sheet-none layout s h1 (versioned h2) h3 z
   cause-answers (Refused Variables) ((h1, h2, h3), inr l) = sheet-many layout s h1 (versioned h2) h3 l
@@ -357,17 +343,17 @@ module _ (s : List ℕ) where
       by-count S (inr d) (inl m) = (Refused Variables, (S, inr m))
       by-count S (inr d) (inr m) = by-sizes (S, (omega arith, m)) (lt-dec _ _) (split _)
 
-      by-length : 8 ≤ length s → versionOf s ≡ 1 → (lengthOf s ≡ length s) ⊎ (lengthOf s ≢ length s) → (x : SheetRead) × ReadCause x
+      by-length : 8 ≤ length s → Taken (versionOf s) → (lengthOf s ≡ length s) ⊎ (lengthOf s ≢ length s) → (x : SheetRead) × ReadCause x
       by-length h v (inl e) = by-count (h, v, e) (eq-dec _ _) (lt-dec _ _)
       by-length h v (inr d) = (Refused Length, (h, v, d))
 
-      by-version : 8 ≤ length s → (versionOf s ≡ 1) ⊎ (versionOf s ≢ 1) → (x : SheetRead) × ReadCause x
+      by-version : 8 ≤ length s → Taken (versionOf s) ⊎ Untaken (versionOf s) → (x : SheetRead) × ReadCause x
       by-version h (inl v) = by-length h v (eq-dec _ _)
       by-version h (inr d) = (Refused Version, (h, d))
 
       by-eight : (length s < 8) ⊎ (8 ≤ length s) → (x : SheetRead) × ReadCause x
       by-eight (inl h) = (Refused TooShort, h)
-      by-eight (inr h) = by-version h (eq-dec _ _)
+      by-eight (inr h) = by-version h (taken-or (versionOf s))
 
   -- Reading a sheet answers as it does for its cause and for no other.
   pub read-iff : (x : SheetRead) → (readSheet layout s ≡ x) ↔ ReadCause x

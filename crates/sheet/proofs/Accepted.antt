@@ -1,9 +1,10 @@
 -- What an accepted sheet shows, for whoever goes through it. Assumes nothing.
 use mathlib.Core.Path.{_≡_, refl, sym, ap, _∙_}
 use mathlib.Core.Bool.{Bool, true, false, not, cond, _&&_, _||_}
-use mathlib.Core.Logic.{_≢_}
+use mathlib.Core.Logic.{_≢_, _⊎_, inl, inr, ⊎-elim}
 use mathlib.Core.List.{List}
 use Prim.Native.Nat.{ℕ, zero, suc, _+_, _-_, _*_, _/_, _%_, _^_, _≤_, _<_}
+use native.Mathlib.Nat.{mul-le-mul-left, mul-suc, mul-comm}
 use native.Mathlib.Omega.{arith}
 use lib.ListN.{length}
 use lib.Dec.{T, eqb, ltb, leb}
@@ -14,7 +15,7 @@ use Rattle.bounded.proofs.Bounded.{count-lt}
 use Rattle.problem.specs.Held.{Bounded}
 use Rattle.problem.proofs.BothWays.{both-up, both-down, both-same}
 use Rattle.sheet.specs.Bytes.{byteAt}
-use Rattle.sheet.specs.Sheet.{Layout, layout, versionOf, lengthOf, variablesOf, blocksOf, sizeAt, rowWidth, rowBytes, allowsAll, blockAt, refuseIf, afterBlock, blocksFrom, badCount, badSizes, readSheet, Keeps, Front}
+use Rattle.sheet.specs.Sheet.{Layout, oneByte, layout, versionOf, lengthOf, variablesOf, blocksOf, sizeAt, rowWidth, rowBytes, allowsAll, blockAt, refuseIf, afterBlock, blocksFrom, badCount, badSizes, readSheet, Keeps, Front}
 use Rattle.sheet.specs.Relation.{rowsFrom, rowsOf, rowIn, rowsAllow, pairAllowed, sizeOf, listed, allowedOf, problemOf}
 use Rattle.sheet.specs.Parts.{BlockAt}
 use Rattle.sheet.specs.declared.SheetRefusal.{SheetRefusal}
@@ -324,8 +325,9 @@ all-remain : remaining 0 ≡ 496
 unfolding countBelow sumTo
 all-remain = refl
 
-module _ (L : Layout) (s : List ℕ) (narrow : (v z : ℕ) → L .width v z ≤ 2) where
-  longest-from : Front s → (k least p : ℕ) → Good L s k least p → length s ≤ p + 34 * remaining least
+-- where the rows of a block have at most c bytes
+module _ (L : Layout) (s : List ℕ) (c : ℕ) (small : (i j : ℕ) → i < variablesOf s → j < variablesOf s → rowBytes L s i j ≤ c) where
+  longest-from : Front s → (k least p : ℕ) → Good L s k least p → length s ≤ p + (2 + c) * remaining least
   longest-from f zero least p g = let e = at-end L s least p g in omega arith
   longest-from f (suc k) least p g =
       let h = here L s (suc k) least p (omega arith) g in
@@ -334,24 +336,41 @@ module _ (L : Layout) (s : List ℕ) (narrow : (v z : ℕ) → L .width v z ≤ 
       let few = f .few in
       let r = h .block .rises in
       let e = h .block .ends in
-      let c = f .sizes i (omega arith) .1 in
-      let m = rows-small (sizeAt s i) (rowWidth L s j) c (narrow (versionOf s) (sizeAt s j)) in
+      let b = small i j (omega arith) e in
       let l = fewer least i j r (omega arith) (h .after) in
+      let m : (2 + c) * suc (remaining (32 * i + j + 1)) ≤ (2 + c) * remaining least = mul-le-mul-left (2 + c) l in
+      let n = mul-suc (2 + c) (remaining (32 * i + j + 1)) in
       let less : suc k - 1 ≡ k = omega arith in
       let ih = longest-from f k (32 * i + j + 1) (p + 2 + rowBytes L s i j) (rw less at (h .rest)) in
       omega arith
 
-  pub longest : Keeps L s → length s ≤ 16904
-  longest y =
+  -- the sheet has at most 8 bytes in front, 32 sizes, and a block for each of 496 pairs
+  pub longest-of : Keeps L s → length s ≤ 8 + 32 + 496 * (2 + c)
+  longest-of y =
       let f = facts L s y .front in
       let g = longest-from f (blocksOf s) 0 (8 + variablesOf s) (facts L s y .laid) in
       let few = f .few in
-      let e = all-remain in
+      let e = ap (λ (x : ℕ). (2 + c) * x) all-remain in
+      let m = mul-comm (2 + c) 496 in
       omega arith
 
--- "one 2-byte row for each setting of i"
+-- rows of at most two bytes, and at most 16 of them
+pub longest : (L : Layout) (s : List ℕ) → ((v z : ℕ) → L .width v z ≤ 2) → Keeps L s → length s ≤ 16904
+longest L s narrow y =
+    longest-of L s 32
+    (λ i j h l. rows-small (sizeAt s i) (rowWidth L s j) (facts L s y .front .sizes i h .1) (narrow (versionOf s) (sizeAt s j)))
+    y
+
+-- a row has one byte or two
+pub row-widths : (v z : ℕ) → (layout .width v z ≡ 1) ⊎ (layout .width v z ≡ 2)
+row-widths v z = go (oneByte v z)
+  where
+    go : (t : Bool) → (_≡_ {A = ℕ} (cond t 1 2) 1) ⊎ (_≡_ {A = ℕ} (cond t 1 2) 2)
+    go true = inl refl
+    go false = inr refl
+
 pub rows-narrow : (v z : ℕ) → layout .width v z ≤ 2
-rows-narrow v z = omega arith
+rows-narrow v z = ⊎-elim (λ (e : layout .width v z ≡ 1). omega arith) (λ (e : layout .width v z ≡ 2). omega arith) (row-widths v z)
 
 -- "The longest sheet is 8 + 32 + 496 × 34 = 16,904 bytes."
 pub longest-sheet : (s : List ℕ) → Keeps layout s → length s ≤ 16904

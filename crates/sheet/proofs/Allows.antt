@@ -1,21 +1,20 @@
 -- What a sheet allows, sentence by sentence, and that a block may bar everything. Assumes nothing.
 use mathlib.Core.Path.{_≡_, refl, ap, _∙_}
-use mathlib.Core.Bool.{Bool, true, false, not, _&&_, _||_}
+use mathlib.Core.Bool.{true}
 use mathlib.Core.List.{List}
-use Prim.Native.Nat.{ℕ, zero, suc, _+_, _-_, _*_, _^_, _≤_, _<_}
+use Prim.Native.Nat.{ℕ, zero, suc, _+_, _*_, _^_, _≤_, _<_}
 use native.Mathlib.Omega.{arith}
 use lib.ListN.{length}
 use lib.Pow.{pow-pos, pow-mono}
-use borrow.Author.Tests.{le-ltb, lt-leb, ne-eqb}
 use Rattle.bounded.specs.Mask.{bit}
+use Rattle.bounded.proofs.Truth.{T-true, T-false}
 use Rattle.sheet.specs.Bytes.{byteAt, numberAt}
-use Rattle.sheet.specs.Sheet.{Layout, layout, sizeAt, rowBytes, inOrder, beyond, allowsAll, faultIf, blockOf}
+use Rattle.sheet.specs.Sheet.{Layout, sizeAt, rowWidth, rowBytes, inOrder, blockOf}
 use Rattle.sheet.specs.Relation.{rowsOf, rowIn, rowsAllow, listed, allowedOf}
-use Rattle.sheet.specs.declared.SheetRefusal.the-variants.{PairOrder, RowsCut, RowBeyond, BarsNothing}
 use Rattle.sheet.specs.declared.Block.the-variants.{Next}
 use Rattle.sheet.specs.declared.Rows.{Rows}
 use Rattle.sheet.specs.declared.Rows.the-variants.{At, Unconstrained}
-use Rattle.sheet.proofs.Laws.{pos}
+use Rattle.sheet.proofs.Laws.{row-within, none-beyond, full-rows, block-next}
 use Rattle.sheet.proofs.Accepted.{allowed-listed, pair-up}
 
 -- That a setting which is not listed is allowed with nothing, and two settings of one item neither: `allowed-left`, `allowed-right` and
@@ -34,42 +33,25 @@ module _ (L : Layout) (s : List ℕ) (i a j b : ℕ) (rises : i < j) (one : list
 
 -- ---- "A block that bars everything is accepted"
 
-module _ (s : List ℕ) (z : ℕ) where
-  -- k rows from p, all of whose bytes are 0
-  abbrev pub Barred : (k p : ℕ) → Type 0
-  Barred k p = (q : ℕ) → p ≤ q → q < p + k * 2 → byteAt s q ≡ 0
-
-  row-barred : (k p : ℕ) → Barred (suc k) p → numberAt s 2 p ≡ 0
-  row-barred k p h = let x = h p (omega arith) (omega arith) in let y = h (p + 1) (omega arith) (omega arith) in omega arith
-
-  none-beyond : (k p : ℕ) → Barred k p → beyond layout s 2 z k p ≡ false
-  unfolding beyond
-  none-beyond zero p h = refl
-  none-beyond (suc k) p h =
-      let q = pow-pos z in
-      let e = row-barred k p h in
-      λ t. lt-leb (2 ^ z) (numberAt s 2 p) (omega arith) t || none-beyond k (p + 2) (λ q l m. h q (omega arith) (omega arith)) t
-
-  some-barred : 1 ≤ z → (k p : ℕ) → Barred (suc k) p → allowsAll layout s 2 z (suc k) p ≡ false
-  unfolding allowsAll
-  some-barred l k p h =
-      let q : 2 ≤ 2 ^ z = pow-mono {i = 1} l in
-      let e = row-barred k p h in
-      ap (λ (x : Bool). x && allowsAll layout s 2 z k (p + 2)) (ne-eqb (numberAt s 2 p + 1) (2 ^ z) (λ d. omega arith))
+-- the number of bytes that are all 0
+zeros : (s : List ℕ) (w p : ℕ) → ((q : ℕ) → p ≤ q → q < p + w → byteAt s q ≡ 0) → numberAt s w p ≡ 0
+zeros s zero p h = refl
+zeros s (suc w) p h =
+    let e = h p (omega arith) (omega arith) in
+    let f = zeros s w (p + 1) (λ q l m. h q (omega arith) (omega arith)) in
+    ap (λ (x : ℕ). x * 256 ^ w + numberAt s w (p + 1)) e ∙ omega arith
 
 -- a block in order whose rows are whole and bar everything is good
-pub barred-good : (s : List ℕ) (least p i j : ℕ) → inOrder layout s least i j ≡ true → p + 2 + rowBytes layout s i j ≤ length s
-    → 1 ≤ sizeAt s i → 1 ≤ sizeAt s j → Barred s (sizeAt s j) (sizeAt s i) (p + 2)
-    → blockOf layout s least p i j ≡ Next (32 * i + j + 1) (p + 2 + rowBytes layout s i j)
-unfolding blockOf
-barred-good s least p i j o w zi zj h =
-    (λ t. faultIf layout s (not (o t)) PairOrder
-    (faultIf layout s (le-ltb (length s) (p + 2 + rowBytes layout s i j) w t) RowsCut
-    (faultIf layout s (none-beyond s (sizeAt s j) (sizeAt s i) (p + 2) h t) RowBeyond
-    (faultIf layout s (bars t) BarsNothing
-    (Next (32 * i + j + 1) (p + 2 + rowBytes layout s i j))))))
+pub barred-good : (L : Layout) (s : List ℕ) (least p i j : ℕ) → inOrder L s least i j ≡ true → p + 2 + rowBytes L s i j ≤ length s
+    → 1 ≤ sizeAt s i → 1 ≤ sizeAt s j → ((q : ℕ) → p + 2 ≤ q → q < p + 2 + rowBytes L s i j → byteAt s q ≡ 0)
+    → blockOf L s least p i j ≡ Next (32 * i + j + 1) (p + 2 + rowBytes L s i j)
+barred-good L s least p i j o whole zi zj h =
+    block-next L s least p i j o whole
+    (none-beyond L s w (sizeAt s j) (sizeAt s i) (p + 2) (λ a l. let e = row a l in let q = pow-pos (sizeAt s j) in omega arith))
+    (T-false _ (λ t. let e = row 0 zi in let f = full-rows L s w (sizeAt s j) (sizeAt s i) (p + 2) (T-true _ t) 0 zi in let q : 2 ≤ 2 ^ sizeAt s j = pow-mono {i = 1} zj in omega arith))
   where
-    bars : allowsAll layout s 2 (sizeAt s j) (sizeAt s i) (p + 2) ≡ false
-    bars =
-        ap (λ (k : ℕ). allowsAll layout s 2 (sizeAt s j) k (p + 2)) (pos zi)
-        ∙ some-barred s (sizeAt s j) zj (sizeAt s i - 1) (p + 2) (λ q l m. h q l (omega arith))
+    w : ℕ
+    w = rowWidth L s j
+
+    row : (a : ℕ) → a < sizeAt s i → numberAt s (rowWidth L s j) (p + 2 + a * rowWidth L s j) ≡ 0
+    row a l = zeros s (rowWidth L s j) (p + 2 + a * rowWidth L s j) (λ q m n. let x = row-within a (sizeAt s i) (rowWidth L s j) l in h q (omega arith) (omega arith))

@@ -7,7 +7,7 @@ use native.Mathlib.Nat.{add-zero, suc-mul, mul-le-mul, mul-le-mul-right}
 use native.Mathlib.Omega.{arith}
 use lib.ListN.{length}
 use lib.Dec.{eqb, ltb, leb}
-use borrow.Author.Tests.{ltb-true, ltb-false, leb-true, leb-false, eqb-false, lt-ltb, le-ltb, le-leb, lt-leb, eq-eqb, ne-eqb, not-false}
+use borrow.Author.Tests.{ltb-true, ltb-false, leb-true, leb-false, eqb-true, eqb-false, lt-ltb, le-ltb, le-leb, lt-leb, eq-eqb, ne-eqb, not-false}
 use Rattle.bounded.proofs.Truth.{both, neither}
 use Rattle.sheet.specs.Bytes.{byteAt, numberAt}
 use Rattle.sheet.specs.Sheet.{Layout, versionOf, lengthOf, variablesOf, blocksOf, sizeAt, rowWidth, rowBytes, inOrder, beyond, allowsAll, faultIf, blockOf, blockAt, afterBlock, blocksFrom, badCount, badSizes, readSheet}
@@ -108,6 +108,37 @@ module _ (L : Layout) (s : List ℕ) where
         let m = suc-mul a w in
         let q : p + suc a * w ≡ p + w + a * w = omega arith in
         rw q (good-rows k (p + w) (f .1) a (omega arith))
+
+    -- and the other way round
+    pub none-beyond : (k p : ℕ) → ((a : ℕ) → a < k → numberAt s w (p + a * w) < 2 ^ z) → beyond L s w z k p ≡ false
+    unfolding beyond
+    none-beyond zero p h = refl
+    none-beyond (suc k) p h =
+        let q : p + zero * w ≡ p = omega arith in
+        let l : numberAt s w p < 2 ^ z = rw q at (h 0 (omega arith)) in
+        simp (lt-leb _ _ l) (none-beyond k (p + w) (λ a m. let e = suc-mul a w in let u : p + suc a * w ≡ p + w + a * w = omega arith in rw u at (h (suc a) (omega arith))))
+
+    -- a block bars nothing where each row has all z bits
+    pub all-full : (k p : ℕ) → ((a : ℕ) → a < k → numberAt s w (p + a * w) + 1 ≡ 2 ^ z) → allowsAll L s w z k p ≡ true
+    unfolding allowsAll
+    all-full zero p h = refl
+    all-full (suc k) p h =
+        let q : p + zero * w ≡ p = omega arith in
+        let l : numberAt s w p + 1 ≡ 2 ^ z = rw q at (h 0 (omega arith)) in
+        simp (eq-eqb _ _ l) (all-full k (p + w) (λ a m. let e = suc-mul a w in let u : p + suc a * w ≡ p + w + a * w = omega arith in rw u at (h (suc a) (omega arith))))
+
+    pub full-rows : (k p : ℕ) → allowsAll L s w z k p ≡ true → (a : ℕ) → a < k → numberAt s w (p + a * w) + 1 ≡ 2 ^ z
+    unfolding allowsAll
+    full-rows zero p e a h = absurd (omega arith)
+    full-rows (suc k) p e zero h =
+        let f = both (eqb (numberAt s w p + 1) (2 ^ z)) (allowsAll L s w z k (p + w)) e in
+        let q : p + zero * w ≡ p = omega arith in
+        rw q (eqb-true (numberAt s w p + 1) (2 ^ z) (f .0))
+    full-rows (suc k) p e (suc a) h =
+        let f = both (eqb (numberAt s w p + 1) (2 ^ z)) (allowsAll L s w z k (p + w)) e in
+        let m = suc-mul a w in
+        let q : p + suc a * w ≡ p + w + a * w = omega arith in
+        rw q (full-rows k (p + w) (f .1) a (omega arith))
 
     all-step : (k p : ℕ) → 0 < k → allowsAll L s w z k p ≡ (eqb (numberAt s w p + 1) (2 ^ z) && allowsAll L s w z (k - 1) (p + w))
     unfolding allowsAll

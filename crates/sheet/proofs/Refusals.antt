@@ -9,7 +9,7 @@ use Rattle.sheet.specs.Refusals.{AllNumbered, rows}
 
 pub numbered : AllNumbered rows
 unfolding beyond allowsAll blockOf blockAt blocksFrom badSizes readSheet
-numbered = (refl, (refl, (refl, (refl, (refl, (refl, (refl, (refl, (refl, (refl, (refl, (refl, (refl, (refl, (refl, (refl, (refl, (refl, (refl, tt)))))))))))))))))))
+numbered = (refl, (refl, (refl, (refl, (refl, (refl, (refl, (refl, (refl, (refl, (refl, (refl, (refl, (refl, (refl, (refl, (refl, (refl, (refl, (refl, (refl, (refl, (refl, (refl, (refl, (refl, (refl, (refl, tt))))))))))))))))))))))))))))
 
 -- a sheet's number is one of 1 to 9
 pub sheet-number : (r : SheetRefusal) → (1 ≤ sheetNumber r) × (sheetNumber r ≤ 9)

@@ -1,9 +1,10 @@
 -- The row of a setting towards another item: what the bytes of an accepted sheet say of it. Assumes nothing.
 use mathlib.Core.Path.{_≡_, refl, sym, ap, _∙_}
 use mathlib.Core.Bool.{true, false}
-use mathlib.Core.Logic.{⊎-elim, _≢_}
+use mathlib.Core.Logic.{_⊎_, inl, inr, ⊎-elim, _≢_}
 use mathlib.Core.List.{List}
 use Prim.Native.Nat.{ℕ, _+_, _-_, _*_, _^_, _≤_, _<_}
+use native.Mathlib.Nat.{mul-comm}
 use native.Mathlib.Omega.{arith}
 use lib.Pow.{pow-mono, pow-pos}
 use borrow.Author.Tests.{lt-ltb, le-ltb}
@@ -14,13 +15,13 @@ use Rattle.problem.specs.Problem.{Problem}
 use Rattle.problem.specs.Held.{rowWord}
 use Rattle.problem.proofs.HeldTable.{row-only, row-none, row-word}
 use Rattle.sheet.specs.Bytes.{numberAt}
-use Rattle.sheet.specs.Sheet.{Layout, layout, variablesOf, sizeAt, Keeps}
+use Rattle.sheet.specs.Sheet.{Layout, layout, versionOf, variablesOf, sizeAt, rowWidth, Keeps}
 use Rattle.sheet.specs.Relation.{rowsFrom, rowsOf, rowIn, rowsAllow, pairAllowed, listed, allowedOf, problemOf}
 use Rattle.sheet.specs.Parts.{pairRows}
-use Rattle.sheet.specs.Row.{twoBytes, ownRow, turnedRow, sheetRow, AllRows, sampleRows}
+use Rattle.sheet.specs.Row.{wordAt, blockRow, ownRow, turnedRow, sheetRow, sampleSheet, sampleShorter, sampleMixed, AllRows, sampleRows, mixedRows}
 use Rattle.sheet.specs.declared.Rows.{Rows}
 use Rattle.sheet.specs.declared.Rows.the-variants.{At, Unconstrained}
-use Rattle.sheet.proofs.Accepted.{facts, found, size-in, listed-in, listed-of, listed-out, allowed-listed, allowed-right, pair-up, pair-down, problem-bounded}
+use Rattle.sheet.proofs.Accepted.{row-widths, facts, found, size-in, listed-in, listed-of, listed-out, allowed-listed, allowed-right, pair-up, pair-down, problem-bounded}
 
 module _ (L : Layout) (s : List ℕ) where
   pub rows-up : (i j : ℕ) → i < j → pairRows L s i j ≡ rowsOf L s i j
@@ -76,8 +77,16 @@ module _ (L : Layout) (s : List ℕ) where
 
 -- ---- down to the bytes
 
-two-bytes : (s : List ℕ) (p q : ℕ) → p ≡ q → numberAt s 2 p ≡ twoBytes s q
-two-bytes s p q e = ap (λ (x : ℕ). numberAt s 2 x) e ∙ omega arith
+-- a row of one byte, or two, is the number that stands there
+word-number : (s : List ℕ) (w p : ℕ) → (w ≡ 1) ⊎ (w ≡ 2) → numberAt s w p ≡ wordAt s w p
+word-number s w p (inl e) = rw e (omega arith)
+word-number s w p (inr e) = rw e (omega arith)
+
+-- a row of a block, read in one go
+row-word-at : (s : List ℕ) (j r a : ℕ) → rowIn layout s j r a ≡ blockRow s j r a
+row-word-at s j r a =
+    let w = rowWidth layout s j in
+    word-number s w (r + a * w) (row-widths (versionOf s) (sizeAt s j)) ∙ ap (λ (x : ℕ). wordAt s w (r + x)) (mul-comm a w)
 
 -- setting a of item i, and another item j
 module _ (s : List ℕ) (y : Keeps layout s) (i j a : ℕ) (one : i < variablesOf s) (value : a < sizeAt s i) (other : j < variablesOf s) (apart : j ≢ i) where
@@ -88,18 +97,18 @@ module _ (s : List ℕ) (y : Keeps layout s) (i j a : ℕ) (one : i < variablesO
   on = listed-of layout s i a one value
 
   own : (x : Rows) → rowsOf layout s i j ≡ x → i < j → rowWord P i j a ≡ ownRow s x j a
-  own (At r) e h = sym (row-up layout s y i a j on other r h e) ∙ two-bytes s (r + a * 2) (r + 2 * a) (omega arith)
+  own (At r) e h = sym (row-up layout s y i a j on other r h e) ∙ row-word-at s j r a
   own Unconstrained e h = sym (row-free layout s y i a j on other (λ q. apart (sym q)) (rows-up layout s i j h ∙ e))
 
-  turned : (x : Rows) → rowsOf layout s j i ≡ x → j < i → rowWord P i j a ≡ turnedRow s x j a
+  turned : (x : Rows) → rowsOf layout s j i ≡ x → j < i → rowWord P i j a ≡ turnedRow s x i j a
   turned (At r) e h =
       sym (row-down layout s y i a j on other r h e)
-      ∙ (λ t. maskOf (sizeAt s j) (λ c. bit (two-bytes s (r + c * 2) (r + 2 * c) (omega arith) t) a))
+      ∙ (λ t. maskOf (sizeAt s j) (λ c. bit (row-word-at s i r c t) a))
   turned Unconstrained e h = sym (row-free layout s y i a j on other (λ q. apart (sym q)) (rows-down layout s i j (omega arith) ∙ e))
 
-  -- The row of a towards j is what the bytes of the sheet say: the two bytes of the block's row read in one go, the first worth the most,
-  -- where i < j; the rows of the block turned where j < i; all ones below the size of j where there is no block. Where a block's rows
-  -- start: `found`, Accepted.antt.
+  -- The row of a towards j is what the bytes of the sheet say: the byte of the block's row, or its two bytes read in one go, the first worth
+  -- the most, where i < j; the rows of the block turned where j < i; all ones below the size of j where there is no block. Where a block's
+  -- rows start: `found`, Accepted.antt.
   pub row-sheet : rowWord P i j a ≡ sheetRow s i j a
   unfolding sheetRow
   row-sheet =
@@ -112,7 +121,15 @@ module _ (s : List ℕ) (y : Keeps layout s) (i j a : ℕ) (one : i < variablesO
   pub row-sheet-bits : (c : ℕ) → bit (sheetRow s i j a) c ≡ P .allowed i a j c
   row-sheet-bits c = ap (λ (w : ℕ). bit w c) (sym row-sheet) ∙ row-word (problem-bounded s y) i j a c
 
--- the rows of a small sheet: each is computed
-pub rows-sampled : AllRows sampleRows
+-- the rows of small sheets: each is computed
+pub rows-sampled : AllRows sampleSheet sampleRows
 unfolding rowsFrom rowsOf sheetRow maskOf
 rows-sampled = (refl, (refl, (refl, (refl, (refl, (refl, (refl, (refl, (refl, (refl, tt))))))))))
+
+pub rows-sampled-shorter : AllRows sampleShorter sampleRows
+unfolding rowsFrom rowsOf sheetRow maskOf
+rows-sampled-shorter = (refl, (refl, (refl, (refl, (refl, (refl, (refl, (refl, (refl, (refl, tt))))))))))
+
+pub rows-sampled-mixed : AllRows sampleMixed mixedRows
+unfolding rowsFrom rowsOf sheetRow maskOf
+rows-sampled-mixed = (refl, (refl, (refl, (refl, (refl, (refl, (refl, (refl, tt))))))))

@@ -18,6 +18,10 @@ abbrev pub numberBytes : ℕ → ℕ → List ℕ
 numberBytes zero x = []
 numberBytes (suc w) x = x / 256 ^ w % 256 ∷ numberBytes w x
 
+-- each number of a list is a byte's: so it is of every list that is lent
+abbrev pub AreBytes : List ℕ → Type 0
+AreBytes s = (k : ℕ) → byteAt s k < 256
+
 -- r is the number x, and is below lim
 pub record Is (x lim r : ℕ) : Type 0 where
   pub is : r ≡ x

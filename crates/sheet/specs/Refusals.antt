@@ -25,8 +25,9 @@ rows =
     -- fewer than 8 bytes: none, and seven
     record { number = 1; sheet = [] }
     ∷ record { number = 1; sheet = 1 ∷ 0 ∷ 0 ∷ 0 ∷ 7 ∷ 1 ∷ 0 ∷ [] }
-    -- byte 0 is not 1
-    ∷ record { number = 2; sheet = 2 ∷ 0 ∷ 0 ∷ 0 ∷ 9 ∷ 1 ∷ 0 ∷ 0 ∷ 2 ∷ [] }
+    -- byte 0 is neither 1 nor 2
+    ∷ record { number = 2; sheet = 0 ∷ 0 ∷ 0 ∷ 0 ∷ 9 ∷ 1 ∷ 0 ∷ 0 ∷ 2 ∷ [] }
+    ∷ record { number = 2; sheet = 3 ∷ 0 ∷ 0 ∷ 0 ∷ 9 ∷ 1 ∷ 0 ∷ 0 ∷ 2 ∷ [] }
     -- the stated length is one more than the length lent
     ∷ record { number = 3; sheet = 1 ∷ 0 ∷ 0 ∷ 0 ∷ 10 ∷ 1 ∷ 0 ∷ 0 ∷ 2 ∷ [] }
     -- no item, and 33 items
@@ -52,4 +53,15 @@ rows =
     -- "A block that bars everything is accepted"
     ∷ record { number = 0; sheet = 1 ∷ 0 ∷ 0 ∷ 0 ∷ 16 ∷ 2 ∷ 0 ∷ 1 ∷ 2 ∷ 2 ∷ 0 ∷ 1 ∷ 0 ∷ 0 ∷ 0 ∷ 0 ∷ [] }
     ∷ record { number = 0; sheet = 1 ∷ 0 ∷ 0 ∷ 0 ∷ 16 ∷ 2 ∷ 0 ∷ 1 ∷ 2 ∷ 2 ∷ 0 ∷ 1 ∷ 0 ∷ 2 ∷ 0 ∷ 1 ∷ [] }
+    -- version 2: "a row has one byte when item j has 8 settings or fewer", so that the rows above are two bytes too long; cut short; a bit for
+    -- a setting that j lacks; a block that bars nothing; and one that is accepted
+    ∷ record { number = 6; sheet = 2 ∷ 0 ∷ 0 ∷ 0 ∷ 16 ∷ 2 ∷ 0 ∷ 1 ∷ 2 ∷ 2 ∷ 0 ∷ 1 ∷ 2 ∷ 1 ∷ 0 ∷ 1 ∷ [] }
+    ∷ record { number = 6; sheet = 2 ∷ 0 ∷ 0 ∷ 0 ∷ 13 ∷ 2 ∷ 0 ∷ 1 ∷ 2 ∷ 2 ∷ 0 ∷ 1 ∷ 2 ∷ [] }
+    ∷ record { number = 8; sheet = 2 ∷ 0 ∷ 0 ∷ 0 ∷ 14 ∷ 2 ∷ 0 ∷ 1 ∷ 2 ∷ 2 ∷ 0 ∷ 1 ∷ 2 ∷ 4 ∷ [] }
+    ∷ record { number = 9; sheet = 2 ∷ 0 ∷ 0 ∷ 0 ∷ 14 ∷ 2 ∷ 0 ∷ 1 ∷ 2 ∷ 2 ∷ 0 ∷ 1 ∷ 3 ∷ 3 ∷ [] }
+    ∷ record { number = 0; sheet = 2 ∷ 0 ∷ 0 ∷ 0 ∷ 14 ∷ 2 ∷ 0 ∷ 1 ∷ 2 ∷ 2 ∷ 0 ∷ 1 ∷ 2 ∷ 1 ∷ [] }
+    -- version 2, 8 settings of j: one byte a row, and no bit is beyond; 9: two bytes, of which one is missing, and both
+    ∷ record { number = 0; sheet = 2 ∷ 0 ∷ 0 ∷ 0 ∷ 13 ∷ 2 ∷ 0 ∷ 1 ∷ 1 ∷ 8 ∷ 0 ∷ 1 ∷ 254 ∷ [] }
+    ∷ record { number = 6; sheet = 2 ∷ 0 ∷ 0 ∷ 0 ∷ 13 ∷ 2 ∷ 0 ∷ 1 ∷ 1 ∷ 9 ∷ 0 ∷ 1 ∷ 254 ∷ [] }
+    ∷ record { number = 0; sheet = 2 ∷ 0 ∷ 0 ∷ 0 ∷ 14 ∷ 2 ∷ 0 ∷ 1 ∷ 1 ∷ 9 ∷ 0 ∷ 1 ∷ 1 ∷ 254 ∷ [] }
     ∷ []

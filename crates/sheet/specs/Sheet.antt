@@ -27,14 +27,19 @@ sheetNumber RowBeyond = 8
 sheetNumber BarsNothing = 9
 sheetNumber LeftOver = 6
 
--- What a later layout may change: which versions are taken, and how many bytes a row has, from the version and the size of j.
+-- What the version decides: whether it is taken, and how many bytes a row has, from the version and the size of j.
 pub record Layout : Type 0 where
   pub takes : ℕ → Bool
   pub width : ℕ → ℕ → ℕ
 
--- "version, 1" and "one 2-byte row for each setting of i"
+-- whether a row has one byte: "In version 1 every row has two bytes."; in version 2 "a row has one byte when item j has 8 settings or fewer, two
+-- otherwise". z is the size of j
+abbrev pub oneByte : (v z : ℕ) → Bool
+oneByte v z = eqb v 2 && leb z 8
+
+-- "version, 1 or 2", and the rows of each
 abbrev pub layout : Layout
-layout = record { takes = λ v. eqb v 1; width = λ v z. 2 }
+layout = record { takes = λ v. eqb v 1 || eqb v 2; width = λ v z. cond (oneByte v z) 1 2 }
 
 -- ---- the fields
 

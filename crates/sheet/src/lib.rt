@@ -87,20 +87,20 @@ pub fn four(s: &[u8], k: usize) -> usize
     two(s, k) * 65536 + two(s, k + 2)
 }
 
-// ---- what a later layout changes
+// ---- what the version decides
 
 // Whether a version is taken.
 pub fn takes(v: usize) -> bool
     ensures { λ r. ⌜ r ≡ layout .takes v ⌝ }
 {
-    v == 1
+    (v == 1) | (v == 2)
 }
 
 // The bytes of a row, of a version v, for an item of z settings.
 pub fn row_width(v: usize, z: usize) -> usize
     ensures { λ r. ⌜ Width (layout .width v z) r ⌝ }
 {
-    2
+    if (v == 2) & (z <= 8) { 1 } else { 2 }
 }
 
 // ---- rows

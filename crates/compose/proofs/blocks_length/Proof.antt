@@ -9,7 +9,7 @@ use Rattle.problem.proofs.HeldTable.{held-few, held-bounded}
 use Rattle.sheet.specs.Sheet.{layout}
 use Rattle.compose.specs.Compose.{blocksBytes}
 use Rattle.compose.proofs.Lengths.{blocks-short}
-use Rattle.compose.proofs.Blocks.{roomy-today}
+use Rattle.compose.proofs.Blocks.{layout-roomy}
 use Rattle.compose.proofs.Writing.{length-step, blocks-beyond}
 use borrow.Author.Needs.{needs}
 use Rattle.compose.proofs.blocks_length.Statement.{statement}
@@ -39,7 +39,7 @@ add-sum c =
     let s = length-step layout (a .v) P (l .x) (omega arith) in
     let e = c .place-length .ensures in
     let f = l .inv .1 in
-    let m = blocks-short layout (a .v) P roomy-today (held-bounded (c .before .before .before .before .before .pre .0 .table)) 1024 0 in
+    let m = blocks-short layout (a .v) P layout-roomy (held-bounded (c .before .before .before .before .before .pre .0 .table)) 1024 0 in
     omega arith
 
 add-x : tie.Need-add-x Inv-loop μ-loop

@@ -55,7 +55,7 @@ returns-2 c =
     let P = held (now (a .t)) in
     let W = layout .width (a .v) (P .size (a .x % 32)) in
     let e : c .before .before .size .result * c .row-width .result ≡ P .size (a .x / 32) * W =
-    ap (λ (y : ℕ). y * c .row-width .result) (c .before .before .size .ensures) ∙ ap (λ (y : ℕ). P .size (a .x / 32) * y) (c .row-width .ensures .is) in
+    ap (λ (y : ℕ). y * c .row-width .result) (c .before .before .size .ensures) ∙ ap (λ (y : ℕ). P .size (a .x / 32) * y) (c .row-width .ensures .is ∙ ap (layout .width (a .v)) (c .before .size2 .ensures)) in
     ap (λ (y : ℕ). 2 + y) e
     ∙ sym (ap length (place-hit layout (a .v) P (a .x) (marked-true (hasBlock P (a .x)) (λ q. c .before .before .before .if1 .left (p .0 .says (a .x) (p .1) ∙ q)))) ∙ length-block layout (a .v) P (a .x / 32) (a .x % 32))
 

@@ -1,5 +1,5 @@
 -- `compose::put_rows`: the rows so far are written, and the rest is underway. Assumes nothing.
-use mathlib.Core.Path.{_≡_, ap}
+use mathlib.Core.Path.{_≡_, ap, _∙_}
 use mathlib.Core.List.{_++_}
 use Prim.Native.Nat.{ℕ, _+_, _-_, _^_, _≤_}
 use native.Mathlib.Omega.{arith}
@@ -11,7 +11,8 @@ use Rattle.sheet.specs.Bytes.{numberBytes}
 use Rattle.sheet.specs.Sheet.{layout}
 use Rattle.compose.specs.Compose.{rowNumber, rowsBytes}
 use Rattle.compose.specs.Parts.{Underway}
-use Rattle.compose.proofs.Blocks.{roomy-today}
+use Rattle.compose.proofs.Stands.{length-number}
+use Rattle.compose.proofs.Blocks.{layout-roomy}
 use Rattle.compose.proofs.Writing.{begins, writes, part-room, ends, wrote-number, rows-step, rows-none}
 use borrow.Author.Needs.{needs}
 use Rattle.compose.proofs.put_rows.Statement.{statement}
@@ -42,18 +43,31 @@ loop-holds c =
 row-number-requires : tie.Need-row-number-requires Inv-loop μ-loop
 row-number-requires c κs = let e = c .before .before .before .before .size .ensures in (c .before .before .before .before .before .before .before .pre .0, omega arith)
 
+-- the bytes of a row
+abbrev widthOf : (c : tie.In-loop Inv-loop μ-loop) → ℕ
+widthOf c = let a = c .before .before .before .before .before .before .before .args in layout .width (a .v) ((held (now (a .t))) .size (a .j))
+
+width-is : (c : tie.In-loop Inv-loop μ-loop) → c .before .before .row-width .result ≡ widthOf c
+width-is c = c .before .before .row-width .ensures .is ∙ ap (layout .width (c .before .before .before .before .before .before .before .args .v)) (c .before .before .before .size2 .ensures)
+
 -- the row of a is the next part
 next : (c : tie.In-loop Inv-loop μ-loop) → let a = c .before .before .before .before .before .before .before .args in let l = c .before .loop in let P = held (now (a .t)) in
     Underway (a .out .now) (a .at) (rowsBytes layout (a .v) P (a .i) (a .j) (P .size (a .i)) 0) (l .out) (l .p)
-    (numberBytes 2 (rowNumber P (a .i) (a .j) (l .a)) ++ rowsBytes layout (a .v) P (a .i) (a .j) (P .size (a .i) - (l .a + 1)) (l .a + 1))
+    (numberBytes (widthOf c) (rowNumber P (a .i) (a .j) (l .a)) ++ rowsBytes layout (a .v) P (a .i) (a .j) (P .size (a .i) - (l .a + 1)) (l .a + 1))
 next c =
     let a = c .before .before .before .before .before .before .before .args in
     let l = c .before .loop in
     let e = c .before .before .before .before .size .ensures in
     rw (rows-step layout (a .v) (held (now (a .t))) (a .i) (a .j) ((held (now (a .t))) .size (a .i)) (l .a) (omega arith)) at (l .inv .1)
 
-room : (c : tie.In-loop Inv-loop μ-loop) → c .before .loop .p + 2 ≤ length (c .before .loop .out)
-room c = part-room _ _ _ _ _ (numberBytes 2 _) _ (next c)
+room : (c : tie.In-loop Inv-loop μ-loop) → c .before .loop .p + c .before .before .row-width .result ≤ length (c .before .loop .out)
+room c =
+    let a = c .before .before .before .before .before .before .before .args in
+    let x = rowNumber (held (now (a .t))) (a .i) (a .j) (c .before .loop .a) in
+    let l = length-number (widthOf c) x in
+    let w = width-is c in
+    let r = part-room _ _ _ _ _ (numberBytes (widthOf c) x) _ (next c) in
+    omega arith
 
 put-row-requires : tie.Need-put-row-requires Inv-loop μ-loop
 put-row-requires c κs =
@@ -62,12 +76,12 @@ put-row-requires c κs =
     let w = c .before .before .before .before .row-width .ensures in
     let m = room (c .before .before) in
     let r = c .before .row-number .ensures .below in
-    let x = roomy-today .room (a .v) (P .size (a .j)) (c .before .before .before .before .before .before .before .before .before .pre .1 .0 .taken) (held-narrow (c .before .before .before .before .before .before .before .before .before .pre .0 .table) (a .j)) in
-    let g : 256 ^ c .before .before .before .before .row-width .result ≡ 256 ^ 2 = ap (λ (y : ℕ). 256 ^ y) (w .is) in
+    let x = layout-roomy .room (a .v) (P .size (a .j)) (c .before .before .before .before .before .before .before .before .before .pre .1 .0 .taken) (held-narrow (c .before .before .before .before .before .before .before .before .before .pre .0 .table) (a .j)) in
+    let g = ap (λ (y : ℕ). 256 ^ y) (width-is (c .before .before)) in
     (w .some, (w .few, (omega arith, omega arith)))
 
 add-p : tie.Need-add-p Inv-loop μ-loop
-add-p c = let m = room (c .before .before .before .before .before) in let w = c .before .before .before .before .before .before .before .row-width .ensures .is in omega arith
+add-p c = let m = room (c .before .before .before .before .before) in let w = c .before .before .before .before .before .before .before .row-width .ensures .few in omega arith
 
 add-a : tie.Need-add-a Inv-loop μ-loop
 add-a c = search needs
@@ -79,8 +93,8 @@ loop-again : tie.Need-loop-again Inv-loop μ-loop
 loop-again c =
     let a = c .before .before .before .before .before .before .before .before .before .before .before .before .args in
     let e = c .before .before .before .before .before .before .before .before .before .size .ensures in
-    let o = wrote-number _ _ _ (c .before .before .before .before .before .before .before .row-width .result) 2 (c .before .before .before .before .row-number .result) (rowNumber (held (now (a .t))) (a .i) (a .j) (c .before .before .before .before .before .before .loop .a)) (c .before .before .before .before .before .before .before .row-width .ensures .is) (c .before .before .before .before .row-number .ensures .is) (c .before .before .put-row .ensures) in
-    (omega arith, writes _ _ _ _ _ (numberBytes 2 (rowNumber (held (now (a .t))) (a .i) (a .j) (c .before .before .before .before .before .before .loop .a))) _ _ _ (next (c .before .before .before .before .before)) o)
+    let o = wrote-number _ _ _ (c .before .before .before .before .before .before .before .row-width .result) (widthOf (c .before .before .before .before .before)) (c .before .before .before .before .row-number .result) (rowNumber (held (now (a .t))) (a .i) (a .j) (c .before .before .before .before .before .before .loop .a)) (width-is (c .before .before .before .before .before)) (c .before .before .before .before .row-number .ensures .is) (c .before .before .put-row .ensures) in
+    (omega arith, writes _ _ _ _ _ (numberBytes (widthOf (c .before .before .before .before .before)) (rowNumber (held (now (a .t))) (a .i) (a .j) (c .before .before .before .before .before .before .loop .a))) _ _ _ (next (c .before .before .before .before .before)) o)
 
 same-length : tie.Need-same-length Inv-loop μ-loop
 same-length c = c .before .loop .inv .1 .same

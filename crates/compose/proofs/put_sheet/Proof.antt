@@ -8,7 +8,7 @@ use Rattle.problem.proofs.HeldTable.{held-few, held-bounded}
 use Rattle.sheet.specs.Sheet.{layout}
 use Rattle.compose.specs.Compose.{sheetLength}
 use Rattle.compose.proofs.Lengths.{count-few, blocks-short}
-use Rattle.compose.proofs.Blocks.{roomy-today}
+use Rattle.compose.proofs.Blocks.{layout-roomy}
 use Rattle.compose.proofs.Writing.{version-byte, sheet-written}
 use borrow.Author.Needs.{needs}
 use Rattle.compose.proofs.put_sheet.Statement.{statement}
@@ -25,7 +25,7 @@ put-front-requires c κs =
     let el = p .1 .1 .1 .0 in
     let h = p .1 .1 .1 .1 .1 in
     let m = count-few P 1024 0 in
-    let b = blocks-short layout (a .v) P roomy-today (held-bounded (p .0 .table)) 1024 0 in
+    let b = blocks-short layout (a .v) P layout-roomy (held-bounded (p .0 .table)) 1024 0 in
     (omega arith, (version-byte (a .v) (p .1 .1 .1 .1 .0 .taken), (omega arith, (omega arith, omega arith))))
 
 put-sizes-requires : tie.Need-put-sizes-requires

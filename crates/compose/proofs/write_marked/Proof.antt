@@ -11,7 +11,7 @@ use Rattle.compose.specs.Compose.{sheetLength, sheetBytes, SheetResult}
 use Rattle.compose.specs.declared.Composed.the-variants.{Written}
 use Rattle.compose.proofs.Lengths.{blocks-short}
 use Rattle.compose.proofs.Written.{written-length}
-use Rattle.compose.proofs.Blocks.{roomy-today}
+use Rattle.compose.proofs.Blocks.{layout-roomy}
 use Rattle.compose.proofs.Over.{sheet-over-short, sheet-over-done}
 use borrow.Author.Needs.{needs}
 use Rattle.compose.proofs.write_marked.Statement.{statement}
@@ -28,7 +28,7 @@ short c =
     let few = held-few (now (a .t)) in
     let en = p .1 .0 in
     let e = c .blocks-length .ensures in
-    let b = blocks-short layout (a .v) (held (now (a .t))) roomy-today (held-bounded (p .0 .table)) 1024 0 in
+    let b = blocks-short layout (a .v) (held (now (a .t))) layout-roomy (held-bounded (p .0 .table)) 1024 0 in
     (omega arith, omega arith)
 
 add-len : tie.Need-add-len
@@ -45,7 +45,7 @@ is-length c =
     let en = p .1 .0 in
     let e = c .blocks-length .ensures in
     let f : 8 + (a .n + c .blocks-length .result) ≡ sheetLength layout (a .v) (held (now (a .t))) = omega arith in
-    f ∙ sym (written-length layout (a .v) (held (now (a .t))) roomy-today (p .1 .1 .1 .taken) (held-bounded (p .0 .table)))
+    f ∙ sym (written-length layout (a .v) (held (now (a .t))) layout-roomy (p .1 .1 .1 .taken) (held-bounded (p .0 .table)))
 
 returns : tie.Need-returns
 returns c =
