@@ -3,6 +3,9 @@ pub mod Rows
 pub mod Lengths
 pub mod Written
 pub mod Blocks
+pub mod Canonical
+pub mod Longest
+pub mod Widths
 pub mod Writing
 pub mod Over
 pub mod Samples
