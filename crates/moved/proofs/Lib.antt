@@ -1,0 +1,4 @@
+pub mod Job
+pub mod Causes
+pub mod Demands
+pub mod Samples

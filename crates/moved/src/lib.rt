@@ -1,0 +1,77 @@
+// A sheet moved to the other version: it is read, its table filled, and the same problem written in the other version.
+ghost use mathlib.Core.Path.{_≡_};
+ghost use Rattle.problem.specs.Held.{held, RowTable};
+ghost use Rattle.sheet.specs.Sheet.{layout, versionOf, Keeps};
+ghost use Rattle.sheet.specs.Relation.{problemOf};
+ghost use Rattle.compose.specs.Parts.{Version};
+ghost use Rattle.moved.specs.Move.{moveNumber, otherVersion, moveOver, moveJob};
+use compose::Composed;
+use sheet::SheetRead;
+use sheet::SheetRefusal;
+
+// Why a move is turned away: the sheet's own refusals, then the target's.
+pub enum MoveRefusal {
+    Sheet(SheetRefusal),
+    Target,
+}
+
+// The job's answer: the bytes written, or the refusal.
+pub enum Moved {
+    Written(usize),
+    Refused(MoveRefusal),
+}
+
+// The format's number for a refusal.
+pub fn move_number(r: MoveRefusal) -> u8
+    ensures { λ k. ⌜ k ≡ moveNumber r ⌝ }
+{
+    match r {
+        MoveRefusal::Sheet(x) => sheet::sheet_number(x),
+        MoveRefusal::Target => 26,
+    }
+}
+
+// The version that a sheet of version v is moved to.
+fn other_version(v: usize) -> usize
+    ensures { λ r. ⌜ r ≡ otherVersion v ⌝ }
+{
+    if v == 1 { 2 } else { 1 }
+}
+
+// The problem of a filled table, written in version v. A target that is too short stays as it was.
+fn move_over(t: &[u16], v: usize, target: &mut [u8]) -> Moved
+    requires { ⌜ RowTable (now t) × Version v ⌝ }
+    ensures answer { λ r. ⌜ r ≡ (moveOver v (held (now (t .entry))) (now (target .entry))) .answer ⌝ }
+    ensures target { λ _. ⌜ now (target .exit) ≡ (moveOver v (held (now (t .entry))) (now (target .entry))) .target ⌝ }
+{
+    match compose::write_sheet(t, v, target) {
+        Composed::TooShort => Moved::Refused(MoveRefusal::Target),
+        Composed::Written(w) => Moved::Written(w),
+    }
+}
+
+// The move of a sheet that keeps the layout: over its table.
+fn move_kept(s: &[u8], target: &mut [u8]) -> Moved
+    requires { ⌜ Keeps layout (now s) ⌝ }
+    ensures answer { λ r. ⌜ r ≡ (moveOver (otherVersion (versionOf (now (s .entry)))) (problemOf layout (now (s .entry))) (now (target .entry))) .answer ⌝ }
+    ensures target { λ _. ⌜ now (target .exit) ≡ (moveOver (otherVersion (versionOf (now (s .entry)))) (problemOf layout (now (s .entry))) (now (target .entry))) .target ⌝ }
+{
+    let mut t = [0u16; 16416];
+    table::fill_table(s, &mut t);
+    let v = other_version(sheet::byte(s, 0));
+    move_over(&t, v, target)
+}
+
+// Writes the sheet in the other version at the target's front. A refused move leaves the target as it was.
+pub fn move_sheet(sheet: &[u8], target: &mut [u8]) -> Moved
+    ensures answer { λ r. ⌜ r ≡ (moveJob (now (sheet .entry)) (now (target .entry))) .answer ⌝ }
+    ensures target { λ _. ⌜ now (target .exit) ≡ (moveJob (now (sheet .entry)) (now (target .entry))) .target ⌝ }
+{
+    match read_sheet::read_sheet(sheet) {
+        SheetRead::Refused(r) => Moved::Refused(MoveRefusal::Sheet(r)),
+        SheetRead::Accepted {
+            variables: _,
+            blocks: _,
+        } => move_kept(sheet, target),
+    }
+}
