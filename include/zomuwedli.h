@@ -24,6 +24,7 @@
  *     zomuwedli_put_back     ZOMUWEDLI_PUT_BACK_STACK   320 KiB, since it keeps a state for each record of the trace
  *     zomuwedli_pick         ZOMUWEDLI_PICK_STACK       320 KiB, since it puts back inside
  *     zomuwedli_colour       ZOMUWEDLI_COLOUR_STACK      40 KiB
+ *     zomuwedli_move         ZOMUWEDLI_MOVE_STACK        40 KiB
  */
 #ifndef ZOMUWEDLI_H
 #define ZOMUWEDLI_H
@@ -42,7 +43,7 @@ extern "C" {
 #define ZOMUWEDLI_VERSION "0.1.0"
 #define ZOMUWEDLI_VERSION_NUMBER (ZOMUWEDLI_VERSION_MAJOR * 10000 + ZOMUWEDLI_VERSION_MINOR * 100 + ZOMUWEDLI_VERSION_PATCH)
 
-/* The longest sheet, the most items, and the most settings of one item. */
+/* The longest sheet, which has as many bytes in version 1 as in version 2, the most items, and the most settings of one item. */
 #define ZOMUWEDLI_MAX_SHEET 16904
 #define ZOMUWEDLI_MAX_ITEMS 32
 #define ZOMUWEDLI_MAX_SETTINGS 16
@@ -74,6 +75,7 @@ extern "C" {
 #define ZOMUWEDLI_PUT_BACK_STACK (320 * 1024)
 #define ZOMUWEDLI_PICK_STACK (320 * 1024)
 #define ZOMUWEDLI_COLOUR_STACK (40 * 1024)
+#define ZOMUWEDLI_MOVE_STACK (40 * 1024)
 #define ZOMUWEDLI_STACK (40 * 1024)
 
 /* ---- The refusals: the constant, the number and the text of each. The numbers are those of docs/FORMAT.md, "Where each thing is turned
@@ -81,7 +83,7 @@ extern "C" {
 #define ZOMUWEDLI_REFUSALS(ROW) \
     /* the sheet, in every call that is lent one */ \
     ROW(ZOMUWEDLI_REFUSED_SHEET_FRONT, 1, "the sheet has fewer than 8 bytes") \
-    ROW(ZOMUWEDLI_REFUSED_SHEET_VERSION, 2, "byte 0 of the sheet is not 1") \
+    ROW(ZOMUWEDLI_REFUSED_SHEET_VERSION, 2, "byte 0 of the sheet is neither 1 nor 2") \
     ROW(ZOMUWEDLI_REFUSED_SHEET_LENGTH, 3, "the sheet's stated length is not the length lent") \
     ROW(ZOMUWEDLI_REFUSED_ITEM_COUNT, 4, "the number of items is 0 or above 32") \
     ROW(ZOMUWEDLI_REFUSED_ITEM_SIZE, 5, "a size is missing, 0 or above 16") \
@@ -109,6 +111,8 @@ extern "C" {
     ROW(ZOMUWEDLI_REFUSED_EDGE_COUNT, 23, "the e lines are not as many as the p line states") \
     ROW(ZOMUWEDLI_REFUSED_COLOUR_RANGE, 24, "the vertices are not 1 to 32, or the channels not 1 to 16") \
     ROW(ZOMUWEDLI_REFUSED_SHEET_BUFFER, 25, "the sheet buffer is shorter than the sheet") \
+    /* the move */ \
+    ROW(ZOMUWEDLI_REFUSED_TARGET_BUFFER, 26, "the target buffer is shorter than the moved sheet") \
     /* the boundary's own, before every other of their calls */ \
     ROW(ZOMUWEDLI_REFUSED_RUN_STATE_LENGTH, 200, "the buffer for the run's state is not 68 bytes") \
     ROW(ZOMUWEDLI_REFUSED_HAND_STATE_LENGTH, 201, "the buffer for the hand state is not 68 bytes")
@@ -139,7 +143,8 @@ static inline const char *zomuwedli_text(unsigned number)
     }
 }
 
-/* ---- The read check: whether the bytes are a sheet. Refused: 1 to 9. */
+/* ---- The read check: whether the bytes are a sheet, of version 1 or 2. Every call that is lent a sheet takes both, and answers alike on a
+ * sheet and on the same sheet in the other version. Refused: 1 to 9. */
 uint64_t zomuwedli_read(const uint8_t *sheet, size_t sheet_length);
 
 static inline unsigned zomuwedli_items(uint64_t answer) { return (unsigned)(answer >> 8 & 0xff); }
@@ -206,8 +211,15 @@ static inline int zomuwedli_has_plan(uint64_t answer) { return (int)(answer >> 4
  * for every file. */
 uint64_t zomuwedli_colour(const uint8_t *file, size_t file_length, uint64_t channels, uint8_t *sheet, size_t sheet_length);
 
-/* How many bytes of sheet a call wrote. */
+/* How many bytes of sheet a call wrote, this one or the move. */
 static inline unsigned zomuwedli_sheet_written(uint64_t answer) { return (unsigned)(answer >> 8 & 0xffffff); }
+
+/* ---- The move: the sheet in the other version, version 2 of a sheet of version 1 and version 1 of a sheet of version 2. Version 2 has
+ * rows of one byte where item j has 8 settings or fewer. Moved again it is the sheet it was, byte for byte; a trace, a plan or a state that
+ * was made with one version serves with the other. Refused: 1 to 9, then 26.
+ * Writes the moved sheet at the target's front, which keeps its old bytes after that; zomuwedli_sheet_written takes its length out. A target
+ * of ZOMUWEDLI_MAX_SHEET bytes is long enough for every sheet. Sheet and target do not overlap: a sheet is not moved in its place. */
+uint64_t zomuwedli_move(const uint8_t *sheet, size_t sheet_length, uint8_t *target, size_t target_length);
 
 /* ---- What a state's bytes say: which items are in, and which settings of item i (below 32) are on. */
 static inline uint32_t zomuwedli_items_in(const uint8_t *state)

@@ -1,4 +1,4 @@
-//! The seven C functions of the proved library over slices: the one place with unsafe code.
+//! The eight C functions of the proved library over slices: the one place with unsafe code.
 //!
 //! Each function answers one word (docs/FORMAT.md, "The state's bytes and the C boundary"): bits 0 to 7 hold 0 or the number of the
 //! refusal, the bits above what a call that was done answers, or what 17 of putting back carries. Here the word is taken apart and nothing
@@ -37,6 +37,7 @@ extern "C" {
         state_length: usize,
     ) -> u64;
     fn zomuwedli_colour(file: *const u8, file_length: usize, channels: u64, sheet: *mut u8, sheet_length: usize) -> u64;
+    fn zomuwedli_move(sheet: *const u8, sheet_length: usize, target: *mut u8, target_length: usize) -> u64;
 }
 
 /// The number of items and the number of blocks.
@@ -132,6 +133,18 @@ pub fn pick(sheet: &[u8], trace: &mut [u8], plan: &mut [u8], state: &mut [u8]) -
 pub fn colour(file: &[u8], channels: u64, sheet: &mut [u8]) -> Result<u32, u8> {
     // SAFETY: each pointer and length are of one live slice; the one that is written is lent as mutable, so that none overlaps it.
     let word = unsafe { zomuwedli_colour(file.as_ptr(), file.len(), channels, sheet.as_mut_ptr(), sheet.len()) };
+    sheet_written(word)
+}
+
+/// The bytes written.
+pub fn move_sheet(sheet: &[u8], target: &mut [u8]) -> Result<u32, u8> {
+    // SAFETY: each pointer and length are of one live slice; the one that is written is lent as mutable, so that none overlaps it.
+    let word = unsafe { zomuwedli_move(sheet.as_ptr(), sheet.len(), target.as_mut_ptr(), target.len()) };
+    sheet_written(word)
+}
+
+/// The bytes written of an answer of a job that writes a sheet.
+fn sheet_written(word: u64) -> Result<u32, u8> {
     taken(word, 32).map(|fields| fields as u32)
 }
 

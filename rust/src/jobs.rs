@@ -1,4 +1,4 @@
-//! The seven jobs of the proved library.
+//! The eight jobs of the proved library.
 
 use std::fmt;
 
@@ -22,7 +22,10 @@ pub struct Accepted {
     pub blocks: usize,
 }
 
-/// Reads a sheet: whether it keeps the layout. Refused: 1 to 9.
+/// Reads a sheet, of version 1 or 2: whether it keeps the layout. Refused: 1 to 9.
+///
+/// Every job that is lent a sheet takes both versions, and answers alike on a sheet and on the same sheet in the other version
+/// ([`move_sheet`]).
 ///
 /// ```
 /// use zomuwedli::{read, Refusal};
@@ -338,8 +341,45 @@ pub struct Written {
 /// # Ok::<(), Refusal>(())
 /// ```
 pub fn colour(file: &[u8], channels: u64, sheet: &mut [u8]) -> Result<Written, Refusal> {
-    let bytes = boundary::colour(file, channels, sheet).map_err(refusal)?;
-    Ok(Written { bytes: usize::try_from(bytes).expect("no more than the buffer has") })
+    boundary::colour(file, channels, sheet).map(written).map_err(refusal)
+}
+
+/// Moves a sheet to the other version: version 2 of a sheet of version 1, and version 1 of a sheet of version 2. Refused: 1 to 9, then 26.
+///
+/// In version 2 a row has one byte where item j has 8 settings or fewer. Moved again the sheet is what it was, byte for byte; a trace, a plan
+/// or a state that was made with one version serves with the other. The moved sheet goes to the front of the target, which keeps its old
+/// bytes after it. A target of [`MAX_SHEET`](crate::MAX_SHEET) bytes is long enough for every sheet.
+///
+/// ```
+/// use zomuwedli::{move_sheet, put_back, run, Refusal, MAX_SHEET, MAX_TRACE, OUT};
+///
+/// // Sheet B: two items of two settings, unequal.
+/// let sheet = [1, 0, 0, 0, 16, 2, 0, 1, 2, 2, 0, 1, 0, 2, 0, 1];
+/// let mut target = [0; MAX_SHEET];
+/// let written = move_sheet(&sheet, &mut target)?;
+/// let moved = &target[..written.bytes];
+/// assert_eq!(moved, [2, 0, 0, 0, 14, 2, 0, 1, 2, 2, 0, 1, 2, 1]);
+///
+/// let mut back = [0; 16];
+/// assert_eq!(move_sheet(moved, &mut back)?.bytes, 16);
+/// assert_eq!(back, sheet);
+/// assert_eq!(move_sheet(moved, &mut [0; 15]), Err(Refusal::TargetBuffer));
+///
+/// // The trace of the one puts back with the other.
+/// let mut trace = [0; MAX_TRACE];
+/// let run = run(&sheet, &mut trace)?;
+/// let mut plan = [0; 2];
+/// put_back(moved, &trace[..run.written], &[OUT, OUT], &mut plan)?;
+/// assert_eq!(plan, [0, 1]);
+/// # Ok::<(), Refusal>(())
+/// ```
+pub fn move_sheet(sheet: &[u8], target: &mut [u8]) -> Result<Written, Refusal> {
+    boundary::move_sheet(sheet, target).map(written).map_err(refusal)
+}
+
+/// The answer of a job that writes a sheet.
+fn written(bytes: u32) -> Written {
+    Written { bytes: usize::try_from(bytes).expect("no more than the buffer has") }
 }
 
 /// The refusal with this number. The library answers no other: states are lent in their length, so that 200 and 201 do not come up.

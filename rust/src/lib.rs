@@ -13,6 +13,7 @@
 //! | [`put_back`]: from a trace and a plan for the items left, the plan of the full sheet | 1 to 9, 18, 20, 15, 16, 17, 19 |
 //! | [`pick`]: from a sheet to a finished plan, or that it has none | 1 to 9, 10, 20 |
 //! | [`colour`]: from a graph colouring file and a channel count, the sheet of its proper colourings | 21, 22, 23, 24, 25 |
+//! | [`move_sheet`]: from a sheet, the same sheet in the other of its two versions | 1 to 9, 26 |
 //!
 //! Each answers a `Result`, and a refused call changes no byte that was lent to it. The error is a [`Refusal`], and of putting back a
 //! [`PutBackRefusal`], in which 17 tells the record and, where a cover breaks, what spoils it. The library allocates nothing, keeps nothing
@@ -44,7 +45,7 @@
 // reference.rs, fast.rs, generate.rs and corpus.rs beside this file are no part of the library: tests/support has them.
 #[allow(unsafe_code)]
 mod boundary;
-/// An answer that is dropped is warned of, here as an error: each of these seven does not compile.
+/// An answer that is dropped is warned of, here as an error: each of these eight does not compile.
 ///
 /// ```compile_fail
 /// # #![deny(unused_must_use)]
@@ -101,6 +102,14 @@ mod boundary;
 /// # }
 /// ```
 ///
+/// ```compile_fail
+/// # #![deny(unused_must_use)]
+/// # fn dropped() -> Result<(), zomuwedli::Refusal> {
+/// zomuwedli::move_sheet(&[], &mut [])?;
+/// # Ok(())
+/// # }
+/// ```
+///
 /// And each is right but for that:
 ///
 /// ```
@@ -113,6 +122,7 @@ mod boundary;
 /// let _ = zomuwedli::put_back(&[], &[], &[], &mut []);
 /// let _ = zomuwedli::pick(&[], &mut [], &mut [])?;
 /// let _ = zomuwedli::colour(&[], 1, &mut [])?;
+/// let _ = zomuwedli::move_sheet(&[], &mut [])?;
 /// # Ok(())
 /// # }
 /// ```
@@ -126,7 +136,7 @@ mod trace;
 #[doc = include_str!("../README.md")]
 mod readme {}
 
-pub use jobs::{colour, hand_call, pick, put_back, read, run, start, Accepted, End, Picked, Run, Taken, Written};
+pub use jobs::{colour, hand_call, move_sheet, pick, put_back, read, run, start, Accepted, End, Picked, Run, Taken, Written};
 pub use refusal::{PutBackRefusal, Refusal, Unlawful};
 pub use state::{HandState, State};
 pub use trace::{records, trace_of, Record, Records};
@@ -147,7 +157,8 @@ pub const MAX_ITEMS: usize = 32;
 /// ```
 pub const MAX_SETTINGS: usize = 16;
 
-/// The bytes of the longest sheet: its front, a size for each item, and a block of 16 rows for each two items.
+/// The bytes of the longest sheet: its front, a size for each item, and a block of 16 rows for each two items. It has as many in version 1
+/// as in version 2.
 ///
 /// ```
 /// use std::io::Read;

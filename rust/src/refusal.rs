@@ -33,7 +33,7 @@ use crate::NOT_NAMED;
 pub enum Refusal {
     /// The sheet has fewer than 8 bytes.
     SheetFront = 1,
-    /// Byte 0 of the sheet is not 1.
+    /// Byte 0 of the sheet is neither 1 nor 2.
     SheetVersion = 2,
     /// The sheet's stated length is not the length lent.
     SheetLength = 3,
@@ -81,6 +81,8 @@ pub enum Refusal {
     ColourRange = 24,
     /// The sheet buffer is shorter than the sheet.
     SheetBuffer = 25,
+    /// The target buffer is shorter than the moved sheet.
+    TargetBuffer = 26,
 }
 
 impl Refusal {
@@ -88,7 +90,7 @@ impl Refusal {
     ///
     /// ```
     /// let numbers: Vec<u8> = zomuwedli::Refusal::ALL.iter().map(|refusal| refusal.number()).collect();
-    /// assert_eq!(numbers, (1..=25).collect::<Vec<u8>>());
+    /// assert_eq!(numbers, (1..=26).collect::<Vec<u8>>());
     /// ```
     pub const ALL: &'static [Refusal] = &[
         Refusal::SheetFront,
@@ -116,6 +118,7 @@ impl Refusal {
         Refusal::EdgeCount,
         Refusal::ColourRange,
         Refusal::SheetBuffer,
+        Refusal::TargetBuffer,
     ];
 
     /// The number of this refusal.
@@ -150,7 +153,7 @@ impl Refusal {
     pub fn cause(self) -> &'static str {
         match self {
             Refusal::SheetFront => "the sheet has fewer than 8 bytes",
-            Refusal::SheetVersion => "byte 0 of the sheet is not 1",
+            Refusal::SheetVersion => "byte 0 of the sheet is neither 1 nor 2",
             Refusal::SheetLength => "the sheet's stated length is not the length lent",
             Refusal::ItemCount => "the number of items is 0 or above 32",
             Refusal::ItemSize => "a size is missing, 0 or above 16",
@@ -174,6 +177,7 @@ impl Refusal {
             Refusal::EdgeCount => "the e lines are not as many as the p line states",
             Refusal::ColourRange => "the vertices are not 1 to 32, or the channels not 1 to 16",
             Refusal::SheetBuffer => "the sheet buffer is shorter than the sheet",
+            Refusal::TargetBuffer => "the target buffer is shorter than the moved sheet",
         }
     }
 }

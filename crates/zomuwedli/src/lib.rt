@@ -3,7 +3,7 @@ ghost use mathlib.Core.Path.{_≡_};
 ghost use Prim.Native.Nat.{_+_, _*_};
 ghost use Rattle.trace.specs.Written.{written};
 ghost use Rattle.boundary.specs.Calls.{readCall, runCall, startCall, handCall, putBackCall};
-ghost use Rattle.boundary_sheets.specs.Calls.{colourCall};
+ghost use Rattle.boundary_sheets.specs.Calls.{colourCall, moveCall};
 ghost use Rattle.boundary_pick.specs.Calls.{pickCall};
 use boundary::put_back_answer;
 use boundary::put_state;
@@ -16,6 +16,7 @@ use jobs::Extended;
 use jobs::ManualState;
 use jobs::ReduceOutcome;
 use jobs::StartOutcome;
+use moved::Moved;
 use sheet::SheetRead;
 
 // The bytes of a run's state: the active variables in 4, then 32 domains in 2 each, big-endian.
@@ -141,6 +142,19 @@ pub extern "C" fn zomuwedli_colour(file: &[u8], channels: u64, sheet: &mut [u8])
     match colour::colour(file, channels, sheet) {
         Coloured::Refused(r) => colour::colour_number(r) as u64,
         Coloured::Written(w) => 256 * w as u64,
+    }
+}
+
+// A sheet moved to the other version. Bits 0-7: the refusal's number, 0 where the moved sheet was written; bits 8-31: the bytes written. A
+// refused call writes nothing.
+#[no_mangle]
+pub extern "C" fn zomuwedli_move(sheet: &[u8], target: &mut [u8]) -> u64
+    ensures answer { λ r. ⌜ r ≡ (moveCall (now (sheet .entry)) (now (target .entry))) .answer ⌝ }
+    ensures target { λ _. ⌜ now (target .exit) ≡ (moveCall (now (sheet .entry)) (now (target .entry))) .target ⌝ }
+{
+    match moved::move_sheet(sheet, target) {
+        Moved::Refused(r) => moved::move_number(r) as u64,
+        Moved::Written(w) => 256 * w as u64,
     }
 }
 
