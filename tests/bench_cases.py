@@ -3,8 +3,9 @@
 usage: bench_cases.py [DIRECTORY], which writes the files below that directory instead of crates/.
 
 For the read check and the colouring file the answers come from how each case is built (which faults were put in), and are held against the
-readers written here; for the other jobs they come from the jobs written here. All follow docs/FORMAT.md alone. The gate runs the programs
-bench_sheets and bench_jobs on the committed files; tests/tidy compares them with what this script writes."""
+readers written here; for the other jobs they come from the jobs written here. A case on a bench sheet is also one on the moved sheet, and
+the two answers are held against each other. All follow docs/FORMAT.md alone. The gate runs the programs bench_sheets and bench_jobs on the
+committed files; tests/tidy compares them with what this script writes."""
 import itertools
 import os
 import random
@@ -14,10 +15,19 @@ import sys
 ROOT = sys.argv[1] if len(sys.argv) == 2 else os.path.join(os.path.dirname(os.path.abspath(__file__)), "..", "crates")
 
 
+def row_width(version, sizes, j):
+    """How many bytes a row has of a block whose second item is j."""
+    return 1 if version == 2 and j < len(sizes) and sizes[j] <= 8 else 2
+
+
+def row_bytes(version, sizes, j, rows):
+    return b"".join(r.to_bytes(row_width(version, sizes, j), "big") for r in rows)
+
+
 def sheet(sizes, blocks, version=1, stated=None, n=None, m=None, extra=b""):
     body = bytes(sizes)
     for i, j, rows in blocks:
-        body += bytes([i, j]) + b"".join(r.to_bytes(2, "big") for r in rows)
+        body += bytes([i, j]) + row_bytes(version, sizes, j, rows)
     body += extra
     total = 8 + len(body) if stated is None else stated
     n = len(sizes) if n is None else n
@@ -25,11 +35,18 @@ def sheet(sizes, blocks, version=1, stated=None, n=None, m=None, extra=b""):
     return bytes([version]) + total.to_bytes(4, "big") + bytes([n]) + m.to_bytes(2, "big") + body
 
 
+def rows_at(s, p, sizes, i, j):
+    """The rows from byte p on of a block of items i and j, as words, and the place after them; None for rows that are cut short."""
+    width = row_width(s[0], sizes, j)
+    end = p + width * sizes[i]
+    return ([int.from_bytes(s[q:q + width], "big") for q in range(p, end, width)] if end <= len(s) else None), end
+
+
 def read(s):
     """The number of the first refusal, or (n, m)."""
     if len(s) < 8:
         return 1
-    if s[0] != 1:
+    if s[0] not in (1, 2):
         return 2
     if int.from_bytes(s[1:5], "big") != len(s):
         return 3
@@ -47,11 +64,9 @@ def read(s):
         if not (i < j < n) or (before is not None and (i, j) <= before):
             return 7
         before = (i, j)
-        p += 2
-        if len(s) < p + 2 * sizes[i]:
+        rows, p = rows_at(s, p + 2, sizes, i, j)
+        if rows is None:
             return 6
-        rows = [int.from_bytes(s[p + 2 * a:p + 2 * a + 2], "big") for a in range(sizes[i])]
-        p += 2 * sizes[i]
         if any(r >> sizes[j] for r in rows):
             return 8
         if all(r == (1 << sizes[j]) - 1 for r in rows):
@@ -61,20 +76,60 @@ def read(s):
     return (n, m)
 
 
+class Problem:
+    def __init__(self, s):
+        self.n = s[5]
+        self.sizes = list(s[8:8 + self.n])
+        self.rows = {}
+        p = 8 + self.n
+        for _ in range(int.from_bytes(s[6:8], "big")):
+            i, j = s[p], s[p + 1]
+            self.rows[i, j], p = rows_at(s, p + 2, self.sizes, i, j)
+
+    def ok(self, i, a, j, b):
+        if i > j:
+            i, a, j, b = j, b, i, a
+        return (i, j) not in self.rows or bool(self.rows[i, j][a] >> b & 1)
+
+    def full(self):
+        return set(range(self.n)), [set(range(z)) for z in self.sizes]
+
+
+def moved(s):
+    """The sheet in the other version."""
+    P = Problem(s)
+    return sheet(P.sizes, [(i, j, rows) for (i, j), rows in P.rows.items()], 3 - s[0])
+
+
 cases = {"bench_sheets": [], "bench_jobs": []}
 
 
 def case(name, job, expected, *fields):
-    program = "bench_jobs" if job == "colo" else "bench_sheets"
+    program = "bench_jobs" if job in ("colo", "move") else "bench_sheets"
     cases[program].append((name, job, [f.hex() for f in fields], expected))
 
 
+def in_both_versions(give):
+    """Makes of a function that gives a case on a sheet one that gives it on the moved sheet too, where the sheet is one of `bench` or `wide`:
+    every job answers alike on both."""
+    def give_both(name, s, *rest, **more):
+        told = give(name, s, *rest, **more)
+        if s in bench.values() or s in wide.values():
+            answer = cases["bench_sheets"][-1][3]
+            give(f"{name}, version 2", moved(s), *rest, **more)
+            assert cases["bench_sheets"][-1][3] == answer, name
+        return told
+    return give_both
+
+
+@in_both_versions
 def reading(name, s, expected):
     got = read(s)
     assert got == expected, (name, got, expected)
     case(name, "read", f"refused {expected}" if isinstance(expected, int) else "accepted %d %d" % expected, s)
 
 
+X = bytes.fromhex
 NE2 = [2, 1]          # unequal, two settings each
 B = sheet([2, 2], [(0, 1, NE2)])
 C = sheet([2, 2, 2], [(0, 1, NE2), (0, 2, NE2), (1, 2, NE2)])
@@ -90,15 +145,43 @@ bench = {
     "K": sheet([3, 2, 2], [(0, 1, [1, 2, 1]), (0, 2, [2, 1, 1]), (1, 2, [2, 3])]),
     "L": sheet([3, 3, 2], [(0, 1, [6, 1, 4]), (0, 2, [1, 1, 3]), (1, 2, [1, 3, 2])]),
 }
-for name, s in bench.items():
+
+
+def near(i, j):
+    """Rows for items of i and j settings: setting a is allowed with a and a + 1, as far as there are these, or else with 0."""
+    return [((3 << a) & ((1 << j) - 1)) or 1 for a in range(i)]
+
+
+# items of 8 settings and of 9: in version 2 the widths differ by j, and not by i
+wide = {
+    "8 and 9": sheet([8, 9], [(0, 1, near(8, 9))]),
+    "9 and 8": sheet([9, 8], [(0, 1, near(9, 8))]),
+    "8, 9 and 8": sheet([8, 9, 8], [(0, 1, near(8, 9)), (1, 2, [1 << a for a in range(8)] + [1])]),
+    "9, 8 and 9": sheet([9, 8, 9], [(0, 1, near(9, 8)), (0, 2, near(9, 9)), (1, 2, near(8, 9))]),
+    "9 and 16": sheet([9, 16], [(0, 1, near(9, 16))]),
+}
+# version 2 as docs/FORMAT.md has it, "The sheet"
+assert moved(B) == X("02 0000000e 02 0001 0202 0001 02 01")
+assert moved(wide["8, 9 and 8"]) == X("02 00000028 03 0002 080908 0001 0003 0006 000c 0018 0030 0060 00c0 0180"
+                                      "0102 01 02 04 08 10 20 40 80 01")
+for name, s in [*bench.items(), *wide.items()]:
+    assert moved(moved(s)) == s, name
     reading(f"sheet {name}", s, (s[5], int.from_bytes(s[6:8], "big")))
-reading("B with first row 00 04", sheet([2, 2], [(0, 1, [4, 1])]), 8)
-reading("B with both rows 00 03", sheet([2, 2], [(0, 1, [3, 3])]), 9)
-reading("n 33", sheet([2] * 33, []), 4)
-reading("size 17", sheet([17], []), 5)
-reading("a block that bars everything", sheet([2, 2], [(0, 1, [0, 0])]), (2, 1))
-reading("n 32", sheet([2] * 32, []), (32, 0))
-reading("size 16", sheet([16, 16], [(0, 1, [65534] * 16)]), (2, 1))
+
+
+def readings(name, expected, *parts, **more):
+    """The sheet of these parts, by the widths of each version."""
+    for version in (1, 2):
+        reading(name + ", version 2" * (version - 1), sheet(*parts, version=version, **more), expected)
+
+
+readings("B with first row 4", 8, [2, 2], [(0, 1, [4, 1])])
+readings("B with both rows 3", 9, [2, 2], [(0, 1, [3, 3])])
+readings("n 33", 4, [2] * 33, [])
+readings("size 17", 5, [17], [])
+readings("a block that bars everything", (2, 1), [2, 2], [(0, 1, [0, 0])])
+readings("n 32", (32, 0), [2] * 32, [])
+readings("size 16", (2, 1), [16, 16], [(0, 1, [65534] * 16)])
 
 # Faults in the order of the table's rows. Each is a change of the parts that a sheet is made of, so that two can stand together, the later
 # one in a later block. A sheet that ends early (item bytes missing, rows cut) has nothing after that, so it has no later fault.
@@ -106,8 +189,8 @@ ROWS = ["1", "2", "3", "4", "5", "6 item bytes", "7", "6 rows", "8", "9", "6 lef
 NUMBER = [1, 2, 3, 4, 5, 6, 7, 6, 8, 9, 6]
 
 
-def build(faults):
-    """A sheet of three items of two settings and three blocks with these faults (indices into ROWS)."""
+def build(faults, version=1):
+    """A sheet of three items of two settings and three blocks with these faults (indices into ROWS), by the widths of this version."""
     f = set(faults)
     sizes = [2, 2, 2]
     blocks = [[0, 1, [2, 1]], [0, 2, [2, 1]], [1, 2, [2, 1]]]
@@ -133,7 +216,7 @@ def build(faults):
     body = bytes(sizes)
     parts = []
     for i, j, rows in blocks:
-        parts.append((bytes([i, j]), b"".join(r.to_bytes(2, "big") for r in rows)))
+        parts.append((bytes([i, j]), row_bytes(version, sizes, j, rows)))
     if cut:
         kind, b = cut
         body += b"".join(x + y for x, y in parts[:b]) + (parts[b][0][:1] if kind == "items" else parts[b][0] + parts[b][1][:1])
@@ -143,83 +226,112 @@ def build(faults):
         body += b"\0"
     n = 33 if 3 in f else 3
     total = 8 + len(body) + (1 if 2 in f else 0)
-    s = bytes([2 if 1 in f else 1]) + total.to_bytes(4, "big") + bytes([n]) + (3).to_bytes(2, "big") + body
+    s = bytes([3 if 1 in f else version]) + total.to_bytes(4, "big") + bytes([n]) + (3).to_bytes(2, "big") + body
     if 0 in f:
         s = s[:7]
     return s
 
 
 done = set()
-for a in range(len(ROWS)):
-    s = build([a])
-    reading(f"{ROWS[a]} alone", s, NUMBER[a])
-    for b in range(a + 1, len(ROWS)):
-        if a in (5, 7):
-            continue
-        s = build([a, b])
-        assert read(build([b])) == NUMBER[b]
-        reading(f"{ROWS[a]} with {ROWS[b]}", s, NUMBER[a])
-        done.add((a, b))
+for version in (1, 2):
+    suffix = ", version 2" * (version - 1)
+    for a in range(len(ROWS)):
+        s = build([a], version)
+        reading(f"{ROWS[a]} alone{suffix}", s, NUMBER[a])
+        for b in range(a + 1, len(ROWS)):
+            if a in (5, 7):
+                continue
+            s = build([a, b], version)
+            assert read(build([b], version)) == NUMBER[b]
+            reading(f"{ROWS[a]} with {ROWS[b]}{suffix}", s, NUMBER[a])
+            done.add((a, b))
 missing = [(ROWS[a], ROWS[b]) for a in range(11) for b in range(a + 1, 11) if (a, b) not in done]
 print("pairs of faults that no one sheet has:", missing)
 
 # two faults of one block: 7 before cut rows, 8 before 9 (one row beyond, one full), and places of a block
-reading("7 and rows cut in one block", sheet([2, 2], [(1, 0, [2])]), 7)
-reading("7 and 8 in one block", sheet([2, 2], [(1, 0, [4, 1])]), 7)
-reading("7 and 9 in one block", sheet([2, 2], [(1, 0, [3, 3])]), 7)
-reading("rows cut and 8 in one block", sheet([2, 2], [(0, 1, [4])]), 6)
-reading("8 in the second row only", sheet([2, 2], [(0, 1, [3, 7])]), 8)
-reading("9 of a block before 7 of the next", sheet([2, 2, 2], [(0, 1, [3, 3]), (0, 1, NE2)]), 9)
-reading("a pair twice", sheet([2, 2, 2], [(0, 1, NE2), (0, 1, NE2)]), 7)
-reading("pairs falling", sheet([2, 2, 2], [(0, 2, NE2), (0, 1, NE2)]), 7)
-reading("j is n", sheet([2, 2], [(0, 2, NE2)]), 7)
-reading("i is j", sheet([2, 2], [(1, 1, NE2)]), 7)
-reading("i 255", sheet([2, 2], [(255, 1, NE2)]), 7)
-reading("no item byte", sheet([2, 2], [], m=1), 6)
-reading("one item byte", sheet([2, 2], [], m=1, extra=b"\0"), 6)
-reading("no row byte", sheet([2, 2], [], m=1, extra=b"\0\1"), 6)
-reading("one byte left over", sheet([2, 2], [(0, 1, NE2)], extra=b"\0"), 6)
-reading("blocks left over", sheet([2, 2], [(0, 1, NE2)], m=0), 6)
+readings("7 and rows cut in one block", 7, [2, 2], [(1, 0, [2])])
+readings("7 and 8 in one block", 7, [2, 2], [(1, 0, [4, 1])])
+readings("7 and 9 in one block", 7, [2, 2], [(1, 0, [3, 3])])
+readings("rows cut and 8 in one block", 6, [2, 2], [(0, 1, [4])])
+readings("8 in the second row only", 8, [2, 2], [(0, 1, [3, 7])])
+readings("9 of a block before 7 of the next", 9, [2, 2, 2], [(0, 1, [3, 3]), (0, 1, NE2)])
+readings("a pair twice", 7, [2, 2, 2], [(0, 1, NE2), (0, 1, NE2)])
+readings("pairs falling", 7, [2, 2, 2], [(0, 2, NE2), (0, 1, NE2)])
+readings("j is n", 7, [2, 2], [(0, 2, NE2)])
+readings("i is j", 7, [2, 2], [(1, 1, NE2)])
+readings("i 255", 7, [2, 2], [(255, 1, NE2)])
+readings("no item byte", 6, [2, 2], [], m=1)
+readings("one item byte", 6, [2, 2], [], m=1, extra=b"\0")
+readings("no row byte", 6, [2, 2], [], m=1, extra=b"\0\1")
+readings("one byte left over", 6, [2, 2], [(0, 1, NE2)], extra=b"\0")
+readings("blocks left over", 6, [2, 2], [(0, 1, NE2)], m=0)
 reading("no byte", b"", 1)
 reading("seven bytes", B[:7], 1)
-reading("eight bytes, n 1", bytes([1, 0, 0, 0, 8, 1, 0, 0]), 5)
-reading("n 0", bytes([1, 0, 0, 0, 8, 0, 0, 0]), 4)
-reading("size 0", sheet([2, 0], []), 5)
-reading("version 0", sheet([2], [], version=0), 2)
-reading("version 255", sheet([2], [], version=255), 2)
-reading("stated length one more", sheet([2], [], stated=10), 3)
-reading("stated length one less", sheet([2], [], stated=8), 3)
-reading("stated length with a high byte", sheet([2], [], stated=9 + (1 << 24)), 3)
+readings("eight bytes, n 1", 5, [], [], n=1)
+readings("n 0", 4, [], [])
+readings("size 0", 5, [2, 0], [])
+for version in (0, 3, 255):
+    reading(f"version {version}", sheet([2], [], version=version), 2)
+    reading(f"version {version}, rows of two bytes", bytes([version]) + B[1:], 2)
+    reading(f"version {version}, rows of one byte", bytes([version]) + moved(B)[1:], 2)
+readings("stated length one more", 3, [2], [], stated=10)
+readings("stated length one less", 3, [2], [], stated=8)
+readings("stated length with a high byte", 3, [2], [], stated=9 + (1 << 24))
 
-# the longest sheet: 32 items of 16, every pair unequal
-pairs = [(i, j) for i in range(32) for j in range(i + 1, 32)]
-longest = sheet([16] * 32, [(i, j, [65535 - (1 << a) for a in range(16)]) for i, j in pairs])
+# rows by the size of j: one that is full, a block that bars nothing, and a bit beyond where a row has room for one
+for z in range(1, 17):
+    full = (1 << z) - 1
+    for version in (1, 2) if z in (7, 8, 9) else (2,):
+        name, width = f"j of {z} settings, version {version}", 1 if version == 2 and z < 9 else 2
+        accepted = sheet([2, z], [(0, 1, [full, full - 1])], version)
+        assert len(accepted) == 12 + 2 * width
+        reading(f"{name}, a full row", accepted, (2, 1))
+        reading(f"{name}, two full rows", sheet([2, z], [(0, 1, [full, full])], version), 9)
+        if z < 8 * width:
+            reading(f"{name}, a bit beyond", sheet([2, z], [(0, 1, [0, full + 1])], version), 8)
+
+
+def mended(s):
+    """The sheet with its own length stated."""
+    return s[:1] + len(s).to_bytes(4, "big") + s[5:]
+
+
+# a byte less and a byte more, the stated length mended and not
+for name, s in (("B", B), ("F", bench["F"]), *wide.items()):
+    s = moved(s)
+    reading(f"{name} in version 2, a byte less", s[:-1], 3)
+    reading(f"{name} in version 2, a byte less, mended", mended(s[:-1]), 6)
+    reading(f"{name} in version 2, a byte more", s + b"\0", 3)
+    reading(f"{name} in version 2, a byte more, mended", mended(s + b"\0"), 6)
+# The rows of one version under byte 0 of the other. Read as version 2, those of version 1 leave bytes over; where another block is stated,
+# bytes of rows stand in the place of its items. Read as version 1, those of version 2 are cut short, or two make a row with a bit beyond.
+# Where no block's j has 8 settings or fewer there is no fault: the versions differ in byte 0 only.
+AS_OTHER = {
+    "B": (6, 6), "C": (7, 8), "D": (6, 6), "E": (7, 8), "F": (7, 8), "G": (7, 8), "H": (7, 8), "K": (7, 8), "L": (7, 8), "9 and 8": (6, 6),
+    "8, 9 and 8": (6, 6), "9, 8 and 9": (7, 8),
+}
+for name, s in [*bench.items(), *wide.items()]:
+    if name in AS_OTHER:
+        reading(f"{name}, rows of version 1 under version 2", b"\2" + s[1:], AS_OTHER[name][0])
+        reading(f"{name}, rows of version 2 under version 1", b"\1" + moved(s)[1:], AS_OTHER[name][1])
+    else:
+        assert moved(s) == b"\2" + s[1:]
+
+
+
+def unequal(n, z, version=1):
+    """n items of z settings, every pair unequal."""
+    rows = [(1 << z) - 1 - (1 << a) for a in range(z)]
+    return sheet([z] * n, [(i, j, rows) for i in range(n) for j in range(i + 1, n)], version)
+
+
+longest = unequal(32, 16)
 assert len(longest) == 16904
 reading("the longest sheet", longest, (32, 496))
+reading("the longest sheet, version 2", unequal(32, 16, 2), (32, 496))
 reading("the longest sheet and a byte", longest + b"\0", 3)
 
 # ---- The jobs, written here for the expected answers. A state is (set of items in, list of sets of settings on).
-
-
-class Problem:
-    def __init__(self, s):
-        self.n = s[5]
-        self.sizes = list(s[8:8 + self.n])
-        self.rows = {}
-        p = 8 + self.n
-        for _ in range(int.from_bytes(s[6:8], "big")):
-            i, j = s[p], s[p + 1]
-            p += 2
-            self.rows[i, j] = [int.from_bytes(s[p + 2 * a:p + 2 * a + 2], "big") for a in range(self.sizes[i])]
-            p += 2 * self.sizes[i]
-
-    def ok(self, i, a, j, b):
-        if i > j:
-            i, a, j, b = j, b, i, a
-        return (i, j) not in self.rows or bool(self.rows[i, j][a] >> b & 1)
-
-    def full(self):
-        return set(range(self.n)), [set(range(z)) for z in self.sizes]
 
 
 def spoiler(P, st, i, a, j, b, l):
@@ -462,6 +574,7 @@ RUNS = {  # the traces that docs/FORMAT.md gives under "Bench sheets", byte for 
 }
 
 
+@in_both_versions
 def running(name, s, long):
     case(name, "work", run_job(s, pattern(long)), long.to_bytes(2, "big"), s)
 
@@ -474,6 +587,8 @@ for name, s in bench.items():
     running(f"run {name}, a buffer just long enough", s, need)
     running(f"run {name}, a buffer one byte too short", s, need - 1)
 assert trace_bytes(run(Problem(bench["E"]))[0])[:5].hex() == "0103020000"
+for name, s in wide.items():
+    running(f"run {name}", s, 1 + 5 * sum(s[8:8 + s[5]]))
 running("run with no buffer", B, 0)
 running("run of a refused sheet with no buffer", B[:7], 0)
 running("run of a refused sheet", sheet([2, 2], [(0, 1, [4, 1])]), 40)
@@ -532,11 +647,13 @@ while any(wanted.values()):
 # ---- taking out by hand
 
 
+@in_both_versions
 def starting(name, s):
     case(name, "star", start_job(s), s)
     return bytes.fromhex(start_job(s).split()[-1])
 
 
+@in_both_versions
 def hand(name, s, state, item, expected=None):
     answer = hand_job(s, state, item)
     assert expected is None or answer.startswith(expected), (name, answer)
@@ -546,6 +663,8 @@ def hand(name, s, state, item, expected=None):
 
 for name, s in bench.items():
     starting(f"start of {name}", s)
+for name, s in wide.items():
+    hand(f"{name} by hand, the last item", s, starting(f"start of {name}", s), s[5] - 1)
 starting("start of a refused sheet", B[:7])
 starting("one emptied item empties all", sheet([2, 1, 1], [(1, 2, [0])]))
 lone = sheet([1, 2], [(0, 1, [1])])
@@ -602,6 +721,7 @@ for k in range(8):
 # ---- putting back
 
 
+@in_both_versions
 def back(name, s, trace, plan, out=None, expected=None):
     out = pattern(len(plan)) if out is None else out
     answer = put_back_job(s, trace, plan, out)
@@ -613,7 +733,6 @@ def own(s):
     return trace_bytes(run(Problem(s))[0])
 
 
-X = bytes.fromhex
 F = bench["F"]
 back("B", B, own(B), X("ffff"), expected="done 0001")
 back("F", F, own(F), X("ffffff"), expected="done 010000")
@@ -630,6 +749,9 @@ back("a slide that neither allows", C, X("010405000001"), X("010101"), expected=
 back("K", bench["K"], own(bench["K"]), X("ffffff"), expected="done 000001")
 back("L", bench["L"], own(bench["L"]), X("000100"), expected="done 000100")
 back("L, with the setting that was bare after the slide", bench["L"], own(bench["L"]), X("000000"), expected="refused 19")
+for name, s in wide.items():
+    trace, st, _ = run(Problem(s))
+    back(f"{name}, a plan of what is left", s, trace_bytes(trace), bytes(next(plans(Problem(s), st))), expected="done")
 choice = sheet([3, 3], [(0, 1, [6, 5, 3])])
 back("the lowest w'", choice, X("0103020000"), X("ff00"), expected="done 0001")
 back("the lowest u", choice, X("0103030001"), X("ff00"), expected="done 0100")
@@ -789,6 +911,7 @@ for k in range(120):
 # ---- picking a plan
 
 
+@in_both_versions
 def picking(name, s, long=None, plan=None, expected=None):
     """A trace buffer of `long` bytes, or as long as it must be; the lent plan as it is before, or in a pattern."""
     long = 1 + 5 * sum(s[8:8 + s[5]]) if long is None else long
@@ -810,6 +933,8 @@ for name, s in bench.items():
     picking(f"{name}, a buffer one byte too short", s, need - 1, expected="refused 10")
     picking(f"{name}, a plan one byte too long", s, plan=pattern(n + 1), expected="refused 20")
     picking(f"{name}, a plan one byte too short", s, plan=pattern(n - 1), expected="refused 20")
+for name, s in wide.items():
+    picking(name, s, expected="plan")
 # the first plan is first among the items left: by the full sheet's order it would be 0 0 0, and of F 0 1 1
 assert picking("first among the items left", folded, plan=X("ffffff"))[-1] == "010100"
 assert next(plans(Problem(folded), Problem(folded).full())) == (0, 0, 0)
@@ -1176,6 +1301,79 @@ for k in range(160):
     at, change = rng.randrange(len(file)), bytes([rng.choice(b"0123456789 \n\rcep\t-")])
     file = rng.choice([file[:at] + change + file[at:], file[:at] + change + file[at + 1:], file[:at] + file[at + 1:]])
     colouring(f"colour: random {k}, damaged", colour(file, 2, bytes(999))[0] or None, file, 2)
+
+# ---- moving a sheet to the other version
+
+
+def move_job(s, target):
+    got = read(s)
+    if isinstance(got, int):
+        return f"refused {got} {target.hex()}"
+    w = moved(s)
+    if len(target) < len(w):
+        return f"refused 26 {target.hex()}"
+    return f"written {len(w)} {(w + target[len(w):]).hex()}"
+
+
+def moving(name, s, long, expected=None):
+    """A target of `long` bytes. Answers its bytes afterwards."""
+    answer = move_job(s, pattern(long))
+    assert expected is None or answer.startswith(expected + " "), (name, answer)
+    case(f"move: {name}", "move", answer, long.to_bytes(2, "big"), s)
+    return X(answer.split(" ")[-1])
+
+
+def there_and_back(name, s, *more):
+    """The sheet is moved, and what was written moved again, which is the sheet it was: into targets just long enough, one byte too short, and
+    of these lengths beyond that."""
+    here = s
+    for way in ("", ", and back"):
+        need = len(moved(here))
+        moving(f"{name}{way}, a target one byte too short", here, need - 1, "refused 26")
+        for k in more:
+            moving(f"{name}{way}, a target of {k} bytes more", here, need + k, f"written {need}")
+        here = moving(f"{name}{way}", here, need, f"written {need}")
+    assert here == s, name
+
+
+for name, s in [*bench.items(), *wide.items()]:
+    there_and_back(name, s, 1, 9)
+    # 26 goes by the length of what is written, which is not the sheet's own: targets as long as the sheet, as its front and sizes, and empty
+    for here in (s, moved(s)):
+        need = len(moved(here))
+        for long in (len(here), 8 + s[5], 0):
+            moving(f"{name}, version {here[0]}, a target of {long} bytes", here, long, "refused 26" if long < need else f"written {need}")
+
+# the sheet's own refusals come first, whatever the target is
+for version in (1, 2):
+    for a in range(len(ROWS)):
+        for long, name in ((64, "alone"), (len(build([], 3 - version)) - 1, "with a target one byte too short"), (0, "with no target")):
+            moving(f"{ROWS[a]} {name}, version {version}", build([a], version), long, f"refused {NUMBER[a]}")
+for version in (0, 3, 255):
+    moving(f"version {version}", bytes([version]) + B[1:], 64, "refused 2")
+moving("no byte at all", b"", 0, "refused 1")
+
+# without a block; lengths and numbers of blocks above 255, on one side and on both; and the longest sheets
+for sizes in ([1], [8], [9], [16, 8, 9, 1], [16] * 32):
+    there_and_back(f"no block, sizes {sizes}" if len(sizes) < 32 else "32 items and no block", sheet(sizes, []), 3)
+for n, z, lengths in ((6, 8, (284, 164)), (6, 9, (314, 314)), (24, 1, (1136, 860)), (32, 8, (8968, 5000)), (32, 16, (16904, 16904))):
+    s = unequal(n, z)
+    assert (len(s), len(moved(s))) == lengths
+    there_and_back(f"{n} items of {z}, every pair unequal", s)
+assert moved(longest) == b"\2" + longest[1:]
+
+# at random, items of all sizes; and with a byte changed, put in or left out, the stated length mended or not
+rng = random.Random(20270322)
+for k in range(30):
+    sizes = [rng.choice([1, 2, 3, 7, 8, 9, 10, 16]) for _ in range(rng.randint(2, 5))]
+    drawn = [(i, j, [rng.randrange(1 << sizes[j]) for _ in range(sizes[i])]) for i in range(len(sizes)) for j in range(i + 1, len(sizes))]
+    s = sheet(sizes, [b for b in drawn if rng.random() < 0.7 and any(r != (1 << sizes[b[1]]) - 1 for r in b[2])])
+    there_and_back(f"random {k}", s)
+    for here in (s, moved(s)):
+        at, change = rng.randrange(len(here)), bytes([rng.choice([0, 1, 2, 3, 8, 9, 127, 128, 255])])
+        damaged = rng.choice([here[:at] + change + here[at:], here[:at] + change + here[at + 1:], here[:at] + here[at + 1:]])
+        moving(f"random {k}, version {here[0]}, damaged", damaged, 2 * len(here))
+        moving(f"random {k}, version {here[0]}, damaged, its length mended", mended(damaged), 2 * len(here))
 
 for program, of_program in cases.items():
     folder = os.path.join(ROOT, program)

@@ -1,4 +1,4 @@
-// Runs the bench cases of the jobs that are lent no sheet: each line of standard input is a job and its input as hexadecimal digits, and
+// Runs the bench cases of the jobs that write a sheet: each line of standard input is a job and its input as hexadecimal digits, and
 // each answer is one line. A line that starts with # is passed over. What is written is compared with the file stdout.
 //
 // The input is read in pieces into 65,536 bytes, as that of bench_sheets: a longer line ends the program with a line that says so, and that
@@ -7,6 +7,7 @@ ghost use Prim.Native.Nat.{_≤_};
 ghost use lib.ListN.{length};
 ghost use Rattle.io.specs.Counts.{Counts};
 use colour::Coloured;
+use moved::Moved;
 
 // A line `colo CHANNELS LENGTH SIZE HEAD TAIL`: the sheet of a colouring file. The channels are 16 digits, the bytes of the buffer four. The
 // file has SIZE bytes, eight digits: those of HEAD, and then those of TAIL again and again.
@@ -20,7 +21,8 @@ fn do_colour(fields: &[u8]) {
     let n = fill_file(&rest[cases::next_field(rest)..], &mut file, size as usize);
     let mut b = [0u8; 32768];
     cases::fill_pattern(&mut b);
-    colour_part(&file[..n], channels, &mut b, long as usize);
+    let k = cases::lent(long, &b);
+    colour_part(&file[..n], channels, &mut b[..k]);
 }
 
 // The file of two fields: how many bytes it has, as many as there is room for.
@@ -53,13 +55,10 @@ fn least(a: usize, b: usize) -> usize
     if a < b { a } else { b }
 }
 
-// The sheet of a file, into the first bytes of a buffer.
-fn colour_part(file: &[u8], channels: u64, b: &mut [u8], long: usize) {
-    if long <= b.len() {
-        let part = &mut b[..long];
-        let a = colour::colour(file, channels, part);
-        show_coloured(a, part);
-    }
+// The sheet of a file, into a buffer.
+fn colour_part(file: &[u8], channels: u64, b: &mut [u8]) {
+    let a = colour::colour(file, channels, b);
+    show_coloured(a, b);
 }
 
 fn show_coloured(a: Coloured, b: &[u8]) {
@@ -74,6 +73,35 @@ fn show_coloured(a: Coloured, b: &[u8]) {
     cases::show_buffer(b);
 }
 
+// A line `move LENGTH SHEET`: the sheet in the other version. The bytes of the target are four digits.
+fn do_move(fields: &[u8]) {
+    let long = cases::number(fields, 0, 4);
+    let mut sheet = io::large_buffer();
+    let n = cases::bytes(&fields[cases::next_field(fields)..], &mut sheet);
+    let mut b = [0u8; 32768];
+    cases::fill_pattern(&mut b);
+    let k = cases::lent(long, &b);
+    move_part(&sheet[..n], &mut b[..k]);
+}
+
+// The move of a sheet into a target.
+fn move_part(s: &[u8], target: &mut [u8]) {
+    let a = moved::move_sheet(s, target);
+    show_moved(a, target);
+}
+
+fn show_moved(a: Moved, target: &[u8]) {
+    match a {
+        Moved::Refused(r) => {
+            cases::show_number(b"refused ", moved::move_number(r) as usize);
+        }
+        Moved::Written(n) => {
+            cases::show_number(b"written ", n);
+        }
+    }
+    cases::show_buffer(target);
+}
+
 // A line: its first letter names the job, and the fields stand behind the first space. One too short for a job's word is passed over.
 fn line(text: &[u8]) {
     if text.len() < 5 {
@@ -83,6 +111,7 @@ fn line(text: &[u8]) {
     let fields = &text[cases::next_field(text)..];
     match job {
         b'c' => do_colour(fields),
+        b'm' => do_move(fields),
         _ => {}
     }
 }
