@@ -1,14 +1,15 @@
-//! The seven jobs written for speed, from docs/FORMAT.md: sets as bit masks, and the rows of every pair both ways in one dense table. The
+//! The eight jobs written for speed, from docs/FORMAT.md: sets as bit masks, and the rows of every pair both ways in one dense table. The
 //! answers' types and the limits are those of the library; all else is written here. No part of the library: tests/support has it.
 //!
 //! Two facts save most of the work, and neither changes the trace. A state only ever shrinks, so a value that covers another at an item
 //! covers it there for good: for each two values one mark, the lowest item at which the one may fail to cover the other, only moves up
 //! (`Reduction::gap`). And a rule that failed rests on a few items only: it is not tested again before one of them changes (`Failed`).
 //! Slides are looked for last, and all those of one item together, as words (`Reduction::slides_from`): a run that comes to rest has to
-//! test every one. The search for a plan keeps every set arc consistent, four items to a word (`Search`).
+//! test every one. The search for a plan keeps every set arc consistent, four items to a word (`Search`). A move goes over the sheet's bytes
+//! once, and fills no table (`Workspace::move_sheet`).
 
 use zomuwedli::{Accepted, End, Refusal, Taken, Unlawful, Written};
-use zomuwedli::{HAND_STATE_LENGTH, MAX_FILE, MAX_ITEMS, MAX_SETTINGS, NOT_NAMED, OUT, STATE_LENGTH};
+use zomuwedli::{HAND_STATE_LENGTH, MAX_FILE, MAX_ITEMS, MAX_SETTINGS, MAX_SHEET, NOT_NAMED, OUT, STATE_LENGTH};
 
 use super::{Answer, Chosen, Done, Fault};
 
@@ -75,6 +76,7 @@ impl State {
 /// A sheet's table: `rows[i][a][j]` is the set of values of j allowed with value a of i. Where a pair has no block, and for j = i, all
 /// 16 bits are set: every use meets the row with values that are live.
 struct Table {
+    version: u8,
     sizes: [usize; MAX_ITEMS],
     count: usize,
     blocks: usize,
@@ -88,6 +90,7 @@ struct Table {
 impl Table {
     fn new() -> Table {
         Table {
+            version: 1,
             sizes: [0; MAX_ITEMS],
             count: 0,
             blocks: 0,
@@ -104,29 +107,16 @@ impl Table {
         self.rows[..self.count].fill([[u16::MAX; MAX_ITEMS]; MAX_SETTINGS]);
         self.unsupported = [0; MAX_ITEMS];
         self.neighbours = [0; MAX_ITEMS];
-        let mut rest = &sheet[8 + self.count..];
-        let mut before = None;
-        for _ in 0..self.blocks {
-            let [i, j, rows @ ..] = rest else { return Err(Refusal::BlockBytes) };
-            let pair = (usize::from(*i), usize::from(*j));
-            if pair.0 >= pair.1 || pair.1 >= self.count || before >= Some(pair) {
-                return Err(Refusal::BlockOrder);
-            }
-            rest = self.read_block(rows, pair)?;
-            before = Some(pair);
-        }
-        if rest.is_empty() {
-            Ok(())
-        } else {
-            Err(Refusal::BlockBytes)
-        }
+        let (count, blocks) = (self.count, self.blocks);
+        each_block(&sheet[8 + count..], count, blocks, |bytes, pair| self.read_block(bytes, pair))
     }
 
     fn read_front(&mut self, sheet: &[u8]) -> Result<(), Refusal> {
         if sheet.len() < 8 {
             return Err(Refusal::SheetFront);
         }
-        if sheet[0] != 1 {
+        self.version = sheet[0];
+        if !(1..=2).contains(&self.version) {
             return Err(Refusal::SheetVersion);
         }
         if u32::from_be_bytes([sheet[1], sheet[2], sheet[3], sheet[4]]) as usize != sheet.len() {
@@ -155,14 +145,19 @@ impl Table {
     /// Enters one block both ways, and answers what follows it.
     fn read_block<'a>(&mut self, bytes: &'a [u8], (i, j): (usize, usize)) -> Result<&'a [u8], Refusal> {
         let size = self.sizes[i];
-        if bytes.len() < 2 * size {
+        let width = row_bytes(self.version, self.sizes[j]);
+        if bytes.len() < width * size {
             return Err(Refusal::BlockBytes);
         }
-        let (lines, rest) = bytes.split_at(2 * size);
+        let (lines, rest) = bytes.split_at(width * size);
         let all = below(self.sizes[j]);
         let mut block = [0; MAX_SETTINGS];
-        for (row, line) in block.iter_mut().zip(lines.chunks_exact(2)) {
-            *row = u16::from_be_bytes([line[0], line[1]]);
+        if width == 2 {
+            for (row, line) in block.iter_mut().zip(lines.chunks_exact(2)) {
+                *row = u16::from_be_bytes([line[0], line[1]]);
+            }
+        } else {
+            block.iter_mut().zip(lines).for_each(|(row, &line)| *row = line.into());
         }
         if block.iter().any(|row| row & !all != 0) {
             return Err(Refusal::RowBeyond);
@@ -190,6 +185,38 @@ impl Table {
 
     fn trace_length(&self) -> usize {
         1 + 5 * self.sizes[..self.count].iter().sum::<usize>()
+    }
+}
+
+/// How many bytes a row has, by the size of j.
+fn row_bytes(version: u8, size: usize) -> usize {
+    1 + usize::from(version == 1 || size > 8)
+}
+
+/// Goes through the blocks, so many, of a sheet with so many items: `take` is given what follows a block's two items, and answers what
+/// follows the block.
+#[inline(always)]
+fn each_block<'a>(
+    bytes: &'a [u8],
+    count: usize,
+    blocks: usize,
+    mut take: impl FnMut(&'a [u8], (usize, usize)) -> Result<&'a [u8], Refusal>,
+) -> Result<(), Refusal> {
+    let mut rest = bytes;
+    let mut before = None;
+    for _ in 0..blocks {
+        let [i, j, rows @ ..] = rest else { return Err(Refusal::BlockBytes) };
+        let pair = (usize::from(*i), usize::from(*j));
+        if pair.0 >= pair.1 || pair.1 >= count || before >= Some(pair) {
+            return Err(Refusal::BlockOrder);
+        }
+        rest = take(rows, pair)?;
+        before = Some(pair);
+    }
+    if rest.is_empty() {
+        Ok(())
+    } else {
+        Err(Refusal::BlockBytes)
     }
 }
 
@@ -865,6 +892,8 @@ pub struct Workspace {
     table: Box<Table>,
     reduction: Box<Reduction>,
     search: Box<Search>,
+    /// A moved sheet before it is known to be whole.
+    moved: Box<[u8; MAX_SHEET]>,
 }
 
 impl Default for Workspace {
@@ -875,7 +904,12 @@ impl Default for Workspace {
 
 impl Workspace {
     pub fn new() -> Workspace {
-        Workspace { table: Box::new(Table::new()), reduction: Box::new(Reduction::new()), search: Box::new(Search::new()) }
+        Workspace {
+            table: Box::new(Table::new()),
+            reduction: Box::new(Reduction::new()),
+            search: Box::new(Search::new()),
+            moved: Box::new([0; MAX_SHEET]),
+        }
     }
 
     /// Reads a sheet.
@@ -1033,6 +1067,102 @@ impl Workspace {
 fn records_before(trace: &[u8], place: usize) -> u16 {
     let next = |&at: &usize| Some(at + 1 + usize::from(trace[at])).filter(|&next| next <= place);
     (std::iter::successors(Some(1), next).count() - 1) as u16
+}
+
+// ---- Moving -------------------------------------------------------------------------------------------------------------------------
+
+/// The bytes of the longest rows of a block, and how many words these are.
+const ROWS: usize = 2 * MAX_SETTINGS;
+const WORDS: usize = ROWS / 8;
+
+/// The words in which the first bytes, so many, have all their bits.
+const FIRST: [[u64; WORDS]; ROWS + 1] = {
+    let mut words = [[0; WORDS]; ROWS + 1];
+    let mut place = 0;
+    while place < ROWS * (ROWS + 1) {
+        let (count, byte) = (place / ROWS, place % ROWS);
+        words[count][byte / 8] |= if byte < count { 0xff << (byte % 8 * 8) } else { 0 };
+        place += 1;
+    }
+    words
+};
+
+impl Workspace {
+    /// Writes the other version of a sheet. Each block is judged and moved in one go, to memory of our own: a fault may follow.
+    pub fn move_sheet(&mut self, sheet: &[u8], target: &mut [u8]) -> Answer<Written> {
+        let (table, moved) = (&mut *self.table, &mut *self.moved);
+        table.read_front(sheet)?;
+        table.read_sizes(&sheet[8..])?;
+        let (front, blocks) = sheet.split_at(8 + table.count);
+        let mut length = front.len();
+        each_block(blocks, table.count, table.blocks, |bytes, (i, j)| {
+            // As many bytes as a block has at most: what is too much is written over by the next, or is not copied.
+            let (items, rows) = moved[length..length + 2 + ROWS].split_at_mut(2);
+            items.copy_from_slice(&[i as u8, j as u8]);
+            let (written, rest) = table.move_rows(bytes, (i, j), rows.try_into().expect("as many as asked for"))?;
+            length += 2 + written;
+            Ok(rest)
+        })?;
+        moved[..front.len()].copy_from_slice(front);
+        moved[0] = other_version(table.version);
+        moved[1..5].copy_from_slice(&(length as u32).to_be_bytes());
+        target.get_mut(..length).ok_or(Refusal::TargetBuffer)?.copy_from_slice(&moved[..length]);
+        Ok(Written { bytes: length })
+    }
+}
+
+fn other_version(version: u8) -> u8 {
+    3 - version
+}
+
+impl Table {
+    /// Judges the rows at the front and writes them as the other version has them: how many bytes these have, and what follows the rows.
+    #[inline(always)]
+    fn move_rows<'a>(&self, bytes: &'a [u8], (i, j): (usize, usize), place: &mut [u8; ROWS]) -> Result<(usize, &'a [u8]), Refusal> {
+        let [width, other_width] = [self.version, other_version(self.version)].map(|version| row_bytes(version, self.sizes[j]));
+        let length = width * self.sizes[i];
+        if bytes.len() < length {
+            return Err(Refusal::BlockBytes);
+        }
+        let rows = first_rows(bytes);
+        let (beyond, barred) = judged(&rows, length, width, below(self.sizes[j]));
+        if beyond {
+            return Err(Refusal::RowBeyond);
+        }
+        if !barred {
+            return Err(Refusal::BarsNothing);
+        }
+        match (width, other_width) {
+            (2, 1) => place.iter_mut().zip(rows.chunks_exact(2)).for_each(|(byte, row)| *byte = row[1]),
+            (1, 2) => place.chunks_exact_mut(2).zip(rows).for_each(|(row, byte)| row.copy_from_slice(&[0, byte])),
+            _ => *place = rows,
+        }
+        Ok((other_width * self.sizes[i], &bytes[length..]))
+    }
+}
+
+/// As many bytes as rows have at most, zeros after the sheet's end.
+fn first_rows(bytes: &[u8]) -> [u8; ROWS] {
+    let mut rows = [0; ROWS];
+    match bytes.get(..ROWS) {
+        Some(whole) => rows.copy_from_slice(whole),
+        None => rows[..bytes.len()].copy_from_slice(bytes),
+    }
+    rows
+}
+
+/// Whether the first bytes, so many, of these rows have a bit that is not of `all`, and whether they lack one: eight bytes at a time.
+fn judged(rows: &[u8; ROWS], length: usize, width: usize, all: u16) -> (bool, bool) {
+    // A row of two bytes, its first one lowest; or two rows of one.
+    let pair = if width == 2 { all.swap_bytes() } else { all << 8 | all };
+    let all = u64::from(pair) * LOWEST;
+    let (mut beyond, mut barred) = (0, 0);
+    for (bytes, counted) in rows.chunks_exact(8).zip(FIRST[length]) {
+        let word = u64::from_le_bytes(bytes.try_into().expect("eight bytes"));
+        beyond |= word & !all & counted;
+        barred |= !word & all & counted;
+    }
+    (beyond != 0, barred != 0)
 }
 
 // ---- The colouring file -------------------------------------------------------------------------------------------------------------

@@ -76,7 +76,10 @@ pub struct Block {
 /// A sheet before it is written down. The fields that may disagree with the rest are given only where they do.
 #[derive(Clone)]
 pub struct Draft {
+    /// By which version the rows are written.
     pub version: u8,
+    /// What byte 0 says.
+    pub stated_version: Option<u8>,
     pub length: Option<u32>,
     pub items: Option<u8>,
     pub block_count: Option<u16>,
@@ -87,7 +90,7 @@ pub struct Draft {
 }
 
 impl Draft {
-    /// A sheet with a block for each two items that the relation does not allow everything.
+    /// A sheet of version 1 with a block for each two items that the relation does not allow everything.
     pub fn new(sizes: Vec<u8>, mut allowed: impl FnMut(usize, usize, usize, usize) -> bool) -> Draft {
         let mut blocks = Vec::new();
         for i in 0..sizes.len() {
@@ -99,16 +102,43 @@ impl Draft {
                 }
             }
         }
-        Draft { version: 1, length: None, items: None, block_count: None, sizes, blocks, left_over: Vec::new(), cut: 0 }
+        Draft {
+            version: 1,
+            stated_version: None,
+            length: None,
+            items: None,
+            block_count: None,
+            sizes,
+            blocks,
+            left_over: Vec::new(),
+            cut: 0,
+        }
+    }
+
+    /// The same in this version.
+    pub fn in_version(self, version: u8) -> Draft {
+        Draft { version, ..self }
+    }
+
+    /// The same in either version.
+    pub fn in_any_version(self, random: &mut Random) -> Draft {
+        self.in_version(random.pick(&[1, 2]))
+    }
+
+    /// Whether the rows of a block with this j have one byte.
+    fn is_narrow(&self, j: u8) -> bool {
+        self.version == 2 && self.sizes.get(usize::from(j)).is_some_and(|&size| size <= 8)
     }
 
     pub fn bytes(&self) -> Vec<u8> {
-        let mut bytes = vec![self.version, 0, 0, 0, 0, self.items.unwrap_or(self.sizes.len() as u8)];
+        let version = self.stated_version.unwrap_or(self.version);
+        let mut bytes = vec![version, 0, 0, 0, 0, self.items.unwrap_or(self.sizes.len() as u8)];
         bytes.extend(self.block_count.unwrap_or(self.blocks.len() as u16).to_be_bytes());
         bytes.extend(&self.sizes);
         for block in &self.blocks {
             bytes.extend([block.i, block.j]);
-            bytes.extend(block.rows.iter().flat_map(|row| row.to_be_bytes()));
+            let left_out = usize::from(self.is_narrow(block.j));
+            block.rows.iter().for_each(|row| bytes.extend(&row.to_be_bytes()[left_out..]));
         }
         bytes.extend(&self.left_over);
         bytes.truncate(bytes.len().saturating_sub(self.cut));
@@ -172,8 +202,11 @@ impl Network {
     }
 }
 
-/// How many items and how large: mostly small, many middling, some large.
+/// How many items and how large: mostly small, many middling, some large, and some about the size where a row gets its second byte.
 fn random_sizes(random: &mut Random) -> Vec<u8> {
+    if random.chance(9) {
+        return about_eight(random);
+    }
     let (n, most) = match random.below(1000) {
         0..=649 => (random.pick(&[1, 2, 3, 3, 4, 4, 5, 5, 6]), random.pick(&[2, 3, 3, 4])),
         650..=849 => (random.between(2, 6), random.pick(&[3, 5, 6])),
@@ -187,8 +220,20 @@ fn random_sizes(random: &mut Random) -> Vec<u8> {
     (0..n).map(|_| size(random) as u8).collect()
 }
 
+/// A sheet of two or three items of about 8 settings.
+pub fn wider_draft(random: &mut Random) -> Draft {
+    let sizes = about_eight(random);
+    let network = Network::random(random);
+    fill(random, sizes, network)
+}
+
+/// Two or three sizes about 8: in version 2 rows of both widths stand in one sheet.
+fn about_eight(random: &mut Random) -> Vec<u8> {
+    (0..random.between(2, 3)).map(|_| random.pick(&[2, 7, 8, 8, 8, 9, 9, 9, 16])).collect()
+}
+
 /// A relation for each pair of linked items: one known relation for all, one for each, or pairs barred at random. The values may be
-/// taken together in classes, so that some are alike: this is what the cover, the fold and the slide live on.
+/// taken together in classes, so that some are alike: this is what the cover, the fold and the slide live on. In either version.
 fn fill(random: &mut Random, sizes: Vec<u8>, network: Network) -> Draft {
     let style = random.below(3);
     let for_all = random.pick(&RELATIONS);
@@ -208,7 +253,7 @@ fn fill(random: &mut Random, sizes: Vec<u8>, network: Network) -> Draft {
             (0..MAX_SETTINGS * MAX_SETTINGS).map(|entry_of| !linked || entry(entry_of / MAX_SETTINGS, entry_of % MAX_SETTINGS)).collect()
         })
         .collect();
-    Draft::new(sizes, |i, a, j, b| relations[i * n + j][a % classes * MAX_SETTINGS + b % classes])
+    Draft::new(sizes, |i, a, j, b| relations[i * n + j][a % classes * MAX_SETTINGS + b % classes]).in_any_version(random)
 }
 
 /// A sheet that keeps the layout.
@@ -224,6 +269,12 @@ pub fn large_draft(random: &mut Random) -> Draft {
     fill(random, vec![MAX_SETTINGS as u8; MAX_ITEMS], network)
 }
 
+/// A sheet of 32 items of which some have 8 settings or fewer and some more, with a block for each two items.
+pub fn large_mixed_draft(random: &mut Random) -> Draft {
+    let sizes = (0..MAX_ITEMS).map(|_| random.pick(&[1, 8, 8, 9, 9, 16])).collect();
+    fill(random, sizes, Network::Clique)
+}
+
 /// A small sheet of a few items, with a plan more often than not.
 pub fn small_draft(random: &mut Random) -> Draft {
     let n = random.between(2, 5);
@@ -236,7 +287,7 @@ pub fn small_draft(random: &mut Random) -> Draft {
 /// A sheet whose run often takes a slide: 4 to 6 items of 4 settings, every two items linked, and 20 to 40 of 100 pairs of settings barred.
 pub fn sliding_draft(random: &mut Random) -> Draft {
     let (n, barred) = (random.between(4, 6), random.between(20, 40));
-    linked_draft(random, n, 4, barred)
+    linked_draft(random, n, 4, barred).in_any_version(random)
 }
 
 /// A sheet whose run often comes to rest, with a plan and without: 5 to 9 items of 3 to 5 settings, all pairs linked or most of them, and
@@ -248,13 +299,13 @@ pub fn resting_draft(random: &mut Random) -> Draft {
     let degree = percent as f64 / 100.0 * (n - 1) as f64;
     let critical = 1.0 - (size as f64).powf(-2.0 / degree);
     let barred = (critical * random.between(80, 110) as f64) as usize;
-    Draft::new(vec![size as u8; n], |i, _, j, _| !linked[i * n + j] || !random.chance(barred))
+    Draft::new(vec![size as u8; n], |i, _, j, _| !linked[i * n + j] || !random.chance(barred)).in_any_version(random)
 }
 
 /// A larger sheet whose run often takes slides, mostly several: 3 items of 6 to 16 settings; 9 to 16 items of 5 to 8, a few of the pairs
 /// linked; or 2 to 8 groups of 4 items of 4.
 pub fn large_sliding_draft(random: &mut Random) -> Draft {
-    match random.below(10) {
+    let draft = match random.below(10) {
         0..=3 => {
             let (size, barred) = (random.between(6, MAX_SETTINGS) as u8, random.between(30, 80));
             linked_draft(random, 3, size, barred)
@@ -269,10 +320,11 @@ pub fn large_sliding_draft(random: &mut Random) -> Draft {
             let n = 4 * random.between(2, 8);
             Draft::new(vec![4; n], |i, _, j, _| i / 4 != j / 4 || !random.chance(35))
         }
-    }
+    };
+    draft.in_any_version(random)
 }
 
-/// A sheet of n items of one size, every two of them linked, and so many of 100 pairs of settings barred.
+/// A sheet of version 1 of n items of one size, every two of them linked, and so many of 100 pairs of settings barred.
 pub fn linked_draft(random: &mut Random, n: usize, size: u8, barred: usize) -> Draft {
     Draft::new(vec![size; n], |_, _, _, _| !random.chance(barred))
 }
@@ -307,7 +359,11 @@ pub fn damaged(random: &mut Random, mut draft: Draft) -> Vec<u8> {
 /// One fault in a field or a block.
 fn damage_draft(random: &mut Random, draft: &mut Draft) {
     match random.below(15) {
-        0 => draft.version = random.pick(&[0, 2, 255]),
+        0 => {
+            let any = random.byte();
+            // The other version is none to be refused, but the rows are not its own.
+            draft.stated_version = Some(random.pick(&[0, 0, 3, 3, 255, any, 3 - draft.version]));
+        }
         1 => draft.length = Some(random.pick(&[0, 8, 16_904, 16_905, u32::MAX])),
         2 => draft.length = Some((draft.bytes().len() as u32).wrapping_add(random.pick(&[1, 2, u32::MAX, 1 << 16, 1 << 24]))),
         3 => draft.items = Some(random.pick(&[0, 33, 255, 32, 1, 2])),
@@ -334,6 +390,8 @@ fn damage_block(random: &mut Random, draft: &mut Draft) {
     let place = random.below(draft.blocks.len());
     let other = random.below(draft.blocks.len());
     let n = draft.sizes.len() as u8;
+    // The highest bit that a row has.
+    let highest = if draft.is_narrow(draft.blocks[place].j) { 7 } else { MAX_SETTINGS - 1 };
     let block = &mut draft.blocks[place];
     let size = usize::from(*draft.sizes.get(usize::from(block.j)).unwrap_or(&1)).clamp(1, MAX_SETTINGS);
     match random.below(9) {
@@ -343,7 +401,7 @@ fn damage_block(random: &mut Random, draft: &mut Draft) {
         3 => block.rows.iter_mut().for_each(|row| *row = u16::MAX >> (MAX_SETTINGS - size)),
         4 | 5 if !block.rows.is_empty() => {
             let line = random.below(block.rows.len());
-            block.rows[line] |= 1 << random.between(size.min(MAX_SETTINGS - 1), MAX_SETTINGS - 1);
+            block.rows[line] |= 1 << random.between(size.min(highest), highest);
         }
         6 => {
             let repeated = block.clone();
@@ -403,6 +461,32 @@ fn sliding_family() -> Vec<u8> {
     let mut group = || std::iter::repeat_with(|| problem(linked_draft(&mut random, 4, 4, 35))).find(slides).expect("some are");
     let groups: [Problem; 8] = std::array::from_fn(|_| group());
     Draft::new(vec![4; MAX_ITEMS], |i, a, j, b| i / 4 != j / 4 || groups[i / 4].allowed(i % 4, a, j % 4, b)).bytes()
+}
+
+/// The sheets whose moves are timed, with a block for each two of 32 items: each of version 1, to be moved to version 2 and back.
+pub fn timed_moves() -> Vec<(&'static str, Vec<u8>)> {
+    let unequal = |sizes: Vec<u8>| Draft::new(sizes, |_, a, _, b| a != b).bytes();
+    let mixed = (0..MAX_ITEMS).map(|i| 8 + i as u8 % 2).collect();
+    vec![
+        ("32 items of 16", unequal(vec![16; MAX_ITEMS])),
+        ("32 items of 8", unequal(vec![8; MAX_ITEMS])),
+        ("32 items of 8 and 9", unequal(mixed)),
+    ]
+}
+
+/// Sheets of version 1 as mills would have them, one for each day of a year: 8 to 32 items, each a gate, a wheel, a pump or a logger, with
+/// as many settings as such a one has; 5 to 35 of 100 pairs are linked.
+pub fn year_of_sheets() -> Vec<Vec<u8>> {
+    const SETTINGS: [(usize, usize); 4] = [(2, 8), (2, 5), (2, 3), (3, 8)];
+    let mut random = Random::new(365);
+    let mut day = || {
+        let n = random.between(8, MAX_ITEMS);
+        let sizes = (0..n).map(|_| random.pick(&SETTINGS)).collect::<Vec<_>>();
+        let sizes = sizes.into_iter().map(|(least, most)| random.between(least, most) as u8).collect();
+        let network = Network::Sparse(random.between(5, 35));
+        fill(&mut random, sizes, network).in_version(1).bytes()
+    };
+    (0..365).map(|_| day()).collect()
 }
 
 // ---- States -------------------------------------------------------------------------------------------------------------------------

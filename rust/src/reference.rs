@@ -1,11 +1,9 @@
-//! The seven jobs written from docs/FORMAT.md alone, for clarity: lists of items and settings, one function for each rule, and the
+//! The eight jobs written from docs/FORMAT.md alone, for clarity: lists of items and settings, one function for each rule, and the
 //! sentence of that paper over it. The answers' types and the limits are those of the library; all else is written here. No part of the
 //! library: tests/support has it.
 //!
 //! Its words and ours ("Terms" there): item, setting = variable, value; in, on = active, live; partner = support; plan = solution;
 //! covers = has no spoiler; bare, snake, fold, cover, slide = unsupported, snake, triangle, neighbourhood, snake substitution.
-
-use std::collections::BTreeSet;
 
 use zomuwedli::{Accepted, End, Refusal, Taken, Unlawful, Written};
 use zomuwedli::{HAND_STATE_LENGTH, MAX_FILE, MAX_ITEMS, MAX_SETTINGS, NOT_NAMED, OUT, STATE_LENGTH};
@@ -13,7 +11,7 @@ use zomuwedli::{HAND_STATE_LENGTH, MAX_FILE, MAX_ITEMS, MAX_SETTINGS, NOT_NAMED,
 use super::{Answer, Chosen, Done, Fault};
 
 /// What a sheet says: how many values each variable has, and which pairs are allowed.
-#[derive(Clone)]
+#[derive(Clone, PartialEq)]
 pub struct Problem {
     sizes: Vec<usize>,
     /// One entry for every variable and value with every variable and value.
@@ -61,15 +59,25 @@ impl Problem {
 
 // ---- The sheet ----------------------------------------------------------------------------------------------------------------------
 
+/// How many bytes a row has. "In version 1 every row has two bytes"; in version 2 "a row has one byte when item j has 8 settings or fewer,
+/// two otherwise".
+fn row_bytes(version: u8, size_of_j: usize) -> usize {
+    if version == 2 && size_of_j <= 8 {
+        1
+    } else {
+        2
+    }
+}
+
 /// A sheet and its number of blocks, or the first fault: "checks run in the order of the rows".
 pub fn read_sheet(sheet: &[u8]) -> Result<(Problem, usize), Refusal> {
-    let (n, m) = read_front(sheet)?;
+    let (version, n, m) = read_front(sheet)?;
     let mut problem = Problem::without_blocks(read_sizes(&sheet[8..], n)?);
     let mut rest = &sheet[8 + n..];
     let mut before = None;
     for _ in 0..m {
         let pair = read_pair(rest, n, before)?;
-        rest = read_rows(&rest[2..], pair, &mut problem)?;
+        rest = read_rows(&rest[2..], version, pair, &mut problem)?;
         before = Some(pair);
     }
     match rest {
@@ -78,12 +86,12 @@ pub fn read_sheet(sheet: &[u8]) -> Result<(Problem, usize), Refusal> {
     }
 }
 
-/// n and m. "Fewer than 8 bytes; byte 0 is not 1; stated length is not the length lent; n is 0 or above 32."
-fn read_front(sheet: &[u8]) -> Result<(usize, usize), Refusal> {
+/// The version, n and m. "Fewer than 8 bytes; byte 0 is neither 1 nor 2; stated length is not the length lent; n is 0 or above 32."
+fn read_front(sheet: &[u8]) -> Result<(u8, usize, usize), Refusal> {
     let &[version, l0, l1, l2, l3, n, m0, m1, ..] = sheet else {
         return Err(Refusal::SheetFront);
     };
-    if version != 1 {
+    if version != 1 && version != 2 {
         return Err(Refusal::SheetVersion);
     }
     if u64::from(u32::from_be_bytes([l0, l1, l2, l3])) != sheet.len() as u64 {
@@ -92,7 +100,7 @@ fn read_front(sheet: &[u8]) -> Result<(usize, usize), Refusal> {
     if n == 0 || usize::from(n) > MAX_ITEMS {
         return Err(Refusal::ItemCount);
     }
-    Ok((usize::from(n), usize::from(u16::from_be_bytes([m0, m1]))))
+    Ok((version, usize::from(n), usize::from(u16::from_be_bytes([m0, m1]))))
 }
 
 /// "A size is missing, 0 or above 16."
@@ -118,10 +126,13 @@ fn read_pair(bytes: &[u8], n: usize, before: Option<(usize, usize)>) -> Result<(
 }
 
 /// What follows the rows. "Rows cut short; a row has a bit for a setting j lacks; it bars nothing."
-fn read_rows<'a>(bytes: &'a [u8], (i, j): (usize, usize), problem: &mut Problem) -> Result<&'a [u8], Refusal> {
-    let length = 2 * problem.sizes[i];
+fn read_rows<'a>(bytes: &'a [u8], version: u8, (i, j): (usize, usize), problem: &mut Problem) -> Result<&'a [u8], Refusal> {
+    let width = row_bytes(version, problem.sizes[j]);
+    let length = width * problem.sizes[i];
     let rows = bytes.get(..length).ok_or(Refusal::BlockBytes)?;
-    let rows: Vec<u32> = rows.chunks(2).map(|row| u32::from(row[0]) << 8 | u32::from(row[1])).collect();
+    // "Its one byte, or its two bytes read in one go, the first worth the most."
+    let word = |row: &[u8]| row.iter().fold(0, |word, &byte| word << 8 | u32::from(byte));
+    let rows: Vec<u32> = rows.chunks(width).map(word).collect();
     let everything = (1 << problem.sizes[j]) - 1;
     if rows.iter().any(|&row| row > everything) {
         return Err(Refusal::RowBeyond);
@@ -135,6 +146,38 @@ fn read_rows<'a>(bytes: &'a [u8], (i, j): (usize, usize), problem: &mut Problem)
         barred.collect::<Vec<_>>().into_iter().for_each(|c| problem.bar(i, a, j, c));
     }
     Ok(&bytes[length..])
+}
+
+impl Problem {
+    /// The sheet of this version that says it. "A pair with no block allows everything; so a block that bars nothing is refused": each two
+    /// variables with a barred pair have a block, and no others.
+    fn sheet(&self, version: u8) -> Vec<u8> {
+        let mut rest: Vec<u8> = self.sizes.iter().map(|&size| size as u8).collect();
+        let mut m: u16 = 0;
+        for (i, j) in (0..self.sizes.len()).flat_map(|i| (i + 1..self.sizes.len()).map(move |j| (i, j))) {
+            // "The bit worth 2^c is set when setting c of j is allowed with the setting of i whose row it is."
+            let row = |a: usize| (0..self.sizes[j]).filter(|&c| self.allowed(i, a, j, c)).map(|c| 1u16 << c).sum::<u16>();
+            let rows: Vec<u16> = (0..self.sizes[i]).map(row).collect();
+            if rows.iter().any(|row| row.count_ones() < self.sizes[j] as u32) {
+                rest.extend([i as u8, j as u8]);
+                rows.iter().for_each(|row| rest.extend(&row.to_be_bytes()[2 - row_bytes(version, self.sizes[j])..]));
+                m += 1;
+            }
+        }
+        let mut sheet = vec![version];
+        sheet.extend((8 + rest.len() as u32).to_be_bytes());
+        sheet.push(self.sizes.len() as u8);
+        sheet.extend(m.to_be_bytes());
+        sheet.extend(rest);
+        sheet
+    }
+}
+
+/// "The buffer holds the sheet at its front and its old bytes after"; or this refusal where it is shorter.
+fn write_sheet(sheet: &[u8], buffer: &mut [u8], too_short: Refusal) -> Answer<Written> {
+    let front = buffer.get_mut(..sheet.len()).ok_or(too_short)?;
+    front.copy_from_slice(sheet);
+    Ok(Written { bytes: sheet.len() })
 }
 
 // ---- The state ----------------------------------------------------------------------------------------------------------------------
@@ -604,6 +647,18 @@ pub fn pick(sheet: &[u8], trace: &mut [u8], plan: &mut [u8], state: &mut [u8]) -
     Ok(Chosen { run, has_plan: first.is_some() })
 }
 
+/// "A move writes the other version at the target's front, old bytes after: version 2 of a sheet of version 1, and version 1 of a sheet of
+/// version 2."
+pub fn move_sheet(sheet: &[u8], target: &mut [u8]) -> Answer<Written> {
+    write_sheet(&moved(sheet)?, target, Refusal::TargetBuffer)
+}
+
+/// The bytes of the moved sheet.
+pub fn moved(sheet: &[u8]) -> Result<Vec<u8>, Refusal> {
+    let (problem, _) = read_sheet(sheet)?;
+    Ok(problem.sheet(if sheet[0] == 1 { 2 } else { 1 }))
+}
+
 /// The steps that a trace's bytes say, lawful or not: the two faults of its shape alone.
 pub fn steps_of(trace: &[u8]) -> Result<Vec<Step>, Refusal> {
     let [1, records @ ..] = trace else {
@@ -730,27 +785,16 @@ pub fn colour(file: &[u8], channels: u64, sheet: &mut [u8]) -> Answer<Written> {
     if !(1..=MAX_ITEMS as u64).contains(&graph.vertices) || !(1..=MAX_SETTINGS as u64).contains(&channels) {
         return Err(Refusal::ColourRange.into());
     }
-    let written = sheet_of(&graph, channels as usize);
-    let front = sheet.get_mut(..written.len()).ok_or(Refusal::SheetBuffer)?;
-    front.copy_from_slice(&written);
-    Ok(Written { bytes: written.len() })
+    // "The sheet is of version 1."
+    write_sheet(&problem_of(&graph, channels as usize).sheet(1), sheet, Refusal::SheetBuffer)
 }
 
 /// "Vertex v is item v - 1, each edge's block bars equal settings only, and no other pair has a block. An edge given again, either way
 /// round, counts as a line but makes one block."
-fn sheet_of(graph: &Graph, channels: usize) -> Vec<u8> {
-    // In the order of the blocks: by the lower item, then by the other.
-    let pairs: BTreeSet<(u64, u64)> = graph.edges.iter().map(|&(a, b)| (a.min(b) - 1, a.max(b) - 1)).collect();
-    let unequal = |a: usize| (0..channels).filter(|&b| b != a).map(|b| 1u16 << b).sum::<u16>();
-    let mut rest = vec![channels as u8; graph.vertices as usize];
-    for (i, j) in &pairs {
-        rest.extend([*i as u8, *j as u8]);
-        rest.extend((0..channels).flat_map(|a| unequal(a).to_be_bytes()));
+fn problem_of(graph: &Graph, channels: usize) -> Problem {
+    let mut problem = Problem::without_blocks(vec![channels; graph.vertices as usize]);
+    for &(a, b) in &graph.edges {
+        (0..channels).for_each(|channel| problem.bar(a as usize - 1, channel, b as usize - 1, channel));
     }
-    let mut sheet = vec![1];
-    sheet.extend((8 + rest.len() as u32).to_be_bytes());
-    sheet.push(graph.vertices as u8);
-    sheet.extend((pairs.len() as u16).to_be_bytes());
-    sheet.extend(rest);
-    sheet
+    problem
 }

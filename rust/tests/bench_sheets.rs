@@ -1,6 +1,6 @@
 //! The bench sheets of docs/FORMAT.md, "Bench sheets", and the step lists of "Putting back", by both layers of the proved library
-//! (support/proved.rs), with their bytes and what is expected written out. And the cases of putting back and of picking in
-//! crates/bench_sheets, which tests/bench_cases.py answers, by the three implementations.
+//! (support/proved.rs), with their bytes and what is expected written out: each sheet in version 1, and with the same answers in version 2.
+//! And the cases of putting back and of picking in crates/bench_sheets, which tests/bench_cases.py answers, by the three implementations.
 
 mod support;
 
@@ -8,9 +8,9 @@ use std::fs;
 use std::path::Path;
 
 use support::fast::Workspace;
-use support::proved::{self, hand_call, pick, put_back, read, run, start};
+use support::proved::{self, both};
 use support::{reference, Answer, Chosen, Done, Fault};
-use zomuwedli::{Accepted, End, Refusal, State, Taken, Unlawful, HAND_STATE_LENGTH, NOT_NAMED, STATE_LENGTH};
+use zomuwedli::{Accepted, End, Refusal, State, Taken, Unlawful, Written, HAND_STATE_LENGTH, NOT_NAMED, STATE_LENGTH};
 
 const A: [u8; 9] = [1, 0, 0, 0, 9, 1, 0, 0, 2];
 const B: [u8; 16] = [1, 0, 0, 0, 16, 2, 0, 1, 2, 2, 0, 1, 0, 2, 0, 1];
@@ -66,6 +66,77 @@ const L: [u8; 35] = [
     0, 2, 0, 1, 0, 1, 0, 3,
     1, 2, 0, 1, 0, 3, 0, 2,
 ];
+
+const ALL: [&[u8]; 10] = [&A, &B, &C, &D, &E, &F, &G, &H, &K, &L];
+
+// ---- The jobs with both versions ----------------------------------------------------------------------------------------------------
+
+/// A sheet of version 1 in version 2: a row has its second byte only where item j has 8 settings or fewer.
+fn in_version_2(sheet: &[u8]) -> Vec<u8> {
+    let (sizes, mut rest) = sheet[8..].split_at(usize::from(sheet[5]));
+    let mut moved = [&[2, 0, 0, 0, 0], &sheet[5..8], sizes].concat();
+    while let [i, j, after @ ..] = rest {
+        let left_out = usize::from(sizes[usize::from(*j)] <= 8);
+        let (rows, others) = after.split_at(2 * usize::from(sizes[usize::from(*i)]));
+        moved.extend([i, j]);
+        rows.chunks(2).for_each(|row| moved.extend(&row[left_out..]));
+        rest = others;
+    }
+    moved[4] = moved.len() as u8;
+    moved
+}
+
+fn read(sheet: &[u8]) -> Answer<Accepted> {
+    both([], |[]| proved::read(sheet), |[]| proved::read(&in_version_2(sheet)))
+}
+
+fn run(sheet: &[u8], trace: &mut [u8], state: &mut [u8]) -> Answer<Done> {
+    let job = |sheet: &[u8], [trace, state]: [&mut [u8]; 2]| proved::run(sheet, trace, state);
+    both([trace, state], |lent| job(sheet, lent), |lent| job(&in_version_2(sheet), lent))
+}
+
+fn start(sheet: &[u8], state: &mut [u8]) -> Answer<()> {
+    let job = |sheet: &[u8], [state]: [&mut [u8]; 1]| proved::start(sheet, state);
+    both([state], |lent| job(sheet, lent), |lent| job(&in_version_2(sheet), lent))
+}
+
+fn hand_call(sheet: &[u8], state: &mut [u8], item: u64) -> Answer<Taken> {
+    let job = |sheet: &[u8], [state]: [&mut [u8]; 1]| proved::hand_call(sheet, state, item);
+    both([state], |lent| job(sheet, lent), |lent| job(&in_version_2(sheet), lent))
+}
+
+fn put_back(sheet: &[u8], trace: &[u8], plan: &[u8], result: &mut [u8]) -> Answer<()> {
+    let job = |sheet: &[u8], [result]: [&mut [u8]; 1]| proved::put_back(sheet, trace, plan, result);
+    both([result], |lent| job(sheet, lent), |lent| job(&in_version_2(sheet), lent))
+}
+
+fn pick(sheet: &[u8], trace: &mut [u8], plan: &mut [u8], state: &mut [u8]) -> Answer<Chosen> {
+    let job = |sheet: &[u8], [trace, plan, state]: [&mut [u8]; 3]| proved::pick(sheet, trace, plan, state);
+    both([trace, plan, state], |lent| job(sheet, lent), |lent| job(&in_version_2(sheet), lent))
+}
+
+/// The two versions are each other's moved sheets.
+#[test]
+fn moved_and_back() {
+    let mut lengths = Vec::new();
+    for sheet in ALL {
+        let other = in_version_2(sheet);
+        for (sheet, moved) in [(sheet, &*other), (&other, sheet)] {
+            let mut target = vec![OLD; moved.len() + 1];
+            assert_eq!(proved::move_sheet(sheet, &mut target), Ok(Written { bytes: moved.len() }));
+            assert_eq!((&target[..moved.len()], target[moved.len()]), (moved, OLD));
+            target.truncate(moved.len() - 1);
+            target.fill(OLD);
+            assert_eq!(proved::move_sheet(sheet, &mut target), refuses(Refusal::TargetBuffer));
+            assert!(untouched(&target));
+        }
+        lengths.push(other.len());
+    }
+    assert_eq!(lengths, [9, 14, 23, 13, 24, 26, 28, 25, 25, 26]);
+    assert_eq!(in_version_2(&B), [2, 0, 0, 0, 14, 2, 0, 1, 2, 2, 0, 1, 2, 1]);
+}
+
+// ---- What is expected ---------------------------------------------------------------------------------------------------------------
 
 /// What the old bytes of a buffer are.
 const OLD: u8 = 0xa5;
@@ -138,17 +209,19 @@ fn hand_refused(sheet: &[u8], item: u64, refusal: Refusal) {
 fn refused(sheet: &[u8], number: u8) {
     let refusal = Refusal::from_number(number).unwrap();
     let (mut trace, mut state, mut result) = ([OLD; 21], [OLD; STATE_LENGTH], [OLD; 2]);
-    assert_eq!(read(sheet), refuses(refusal));
-    assert_eq!(run(sheet, &mut trace, &mut state), refuses(refusal));
+    assert_eq!(proved::read(sheet), refuses(refusal));
+    assert_eq!(proved::run(sheet, &mut trace, &mut state), refuses(refusal));
     assert!(untouched(&trace) && untouched(&state));
-    assert_eq!(start(sheet, &mut state), refuses(refusal));
+    assert_eq!(proved::start(sheet, &mut state), refuses(refusal));
     assert!(untouched(&state));
-    assert_eq!(hand_call(sheet, &mut state, 0), refuses(refusal));
+    assert_eq!(proved::hand_call(sheet, &mut state, 0), refuses(refusal));
     assert!(untouched(&state));
-    assert_eq!(put_back(sheet, &[1], &[0, 0], &mut result), refuses(refusal));
+    assert_eq!(proved::put_back(sheet, &[1], &[0, 0], &mut result), refuses(refusal));
     assert!(untouched(&result));
-    assert_eq!(pick(sheet, &mut trace, &mut result, &mut state), refuses(refusal));
+    assert_eq!(proved::pick(sheet, &mut trace, &mut result, &mut state), refuses(refusal));
     assert!(untouched(&trace) && untouched(&result) && untouched(&state));
+    assert_eq!(proved::move_sheet(sheet, &mut trace), refuses(refusal));
+    assert!(untouched(&trace));
 }
 
 /// "Picked, by the same sheets", and the fold of "Picking a plan".
@@ -432,8 +505,8 @@ fn the_fast_implementation_answers_the_bench_cases() {
 
 #[test]
 fn the_library_answers_the_bench_cases() {
-    answers(put_back);
-    picking_answers(pick);
+    answers(proved::put_back);
+    picking_answers(proved::pick);
 }
 
 #[test]
@@ -443,28 +516,33 @@ fn refused_sheets() {
     refused(&[1, 0, 0, 0, 16, 33, 0, 1, 2, 2, 0, 1, 0, 2, 0, 1], 4);
     refused(&[1, 0, 0, 0, 16, 2, 0, 1, 17, 2, 0, 1, 0, 2, 0, 1], 5);
     refused(&[1, 0, 0, 0, 16, 2, 0, 1, 2, 17, 0, 1, 0, 2, 0, 1], 5);
+    refused(&[2, 0, 0, 0, 14, 2, 0, 1, 2, 2, 0, 1, 4, 1], 8);
+    refused(&[2, 0, 0, 0, 14, 2, 0, 1, 2, 2, 0, 1, 3, 3], 9);
+    refused(&[2, 0, 0, 0, 14, 33, 0, 1, 2, 2, 0, 1, 2, 1], 4);
+    refused(&[2, 0, 0, 0, 14, 2, 0, 1, 17, 2, 0, 1, 2, 1], 5);
+    refused(&[2, 0, 0, 0, 14, 2, 0, 1, 2, 17, 0, 1, 2, 1], 5);
 }
 
 #[test]
 fn every_refusal_has_its_number() {
     let numbers = |known: fn(u8) -> bool| (0..=255).filter(|&number| known(number)).collect::<Vec<u8>>();
-    assert_eq!(numbers(|number| Refusal::from_number(number).is_some()), (1..=25).collect::<Vec<u8>>());
-    assert_eq!(numbers(|number| Fault::from_number(number).is_some()), (1..=25).chain([200, 201]).collect::<Vec<u8>>());
+    assert_eq!(numbers(|number| Refusal::from_number(number).is_some()), (1..=26).collect::<Vec<u8>>());
+    assert_eq!(numbers(|number| Fault::from_number(number).is_some()), (1..=26).chain([200, 201]).collect::<Vec<u8>>());
     assert!(Refusal::ALL.iter().all(|&refusal| Refusal::from_number(refusal.number()) == Some(refusal)));
 }
 
 #[test]
 fn state_lengths() {
     for length in [0, 67, 69, 136] {
-        for sheet in [&B[..], &[]] {
+        for sheet in [&B[..], &in_version_2(&B), &[]] {
             let (mut trace, mut wrong) = ([OLD; 21], vec![OLD; length]);
-            assert_eq!(run(sheet, &mut trace, &mut wrong), Err(Fault::RunStateLength));
+            assert_eq!(proved::run(sheet, &mut trace, &mut wrong), Err(Fault::RunStateLength));
             assert!(untouched(&trace) && untouched(&wrong));
-            assert_eq!(pick(sheet, &mut trace, &mut [OLD; 2], &mut wrong), Err(Fault::RunStateLength));
+            assert_eq!(proved::pick(sheet, &mut trace, &mut [OLD; 2], &mut wrong), Err(Fault::RunStateLength));
             assert!(untouched(&trace) && untouched(&wrong));
-            assert_eq!(start(sheet, &mut wrong), Err(Fault::HandStateLength));
+            assert_eq!(proved::start(sheet, &mut wrong), Err(Fault::HandStateLength));
             assert!(untouched(&wrong));
-            assert_eq!(hand_call(sheet, &mut wrong, 0), Err(Fault::HandStateLength));
+            assert_eq!(proved::hand_call(sheet, &mut wrong, 0), Err(Fault::HandStateLength));
             assert!(untouched(&wrong));
         }
     }

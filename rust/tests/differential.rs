@@ -1,5 +1,7 @@
 //! Compares every job of the proved library with the reference and with the fast implementation: answers, and each lent byte afterwards.
-//! The proved library is called by both its layers (support/proved.rs), and its decoder is asked of every trace.
+//! Half of the sheets are of version 2, and every call that is lent a sheet is made with both its versions: the archive's function has the
+//! sheet, the library's (support/proved.rs) has it in the other version, and the fast implementation has both. The library's decoder is
+//! asked of every trace.
 //!
 //! ZOMUWEDLI_SEED: the seed. ZOMUWEDLI_PART: a divisor of the sizes and of the least counts.
 
@@ -12,6 +14,7 @@ use support::corpus::{corpus, Entry};
 use support::decoder::{decode, record, reference_decode};
 use support::fast::{self, Workspace};
 use support::generate::{self, Random};
+use support::proved::{library, raw};
 use support::reference::{self, Problem, State, Step};
 use support::{proved, Answer, Chosen, Done, Fault};
 use zomuwedli::{Accepted, End, Record, Refusal, Unlawful, Written, HAND_STATE_LENGTH, MAX_FILE, MAX_SHEET, OUT, STATE_LENGTH};
@@ -30,6 +33,7 @@ const LONG_TRACES: u64 = 500;
 const PICKS: u64 = 14_000;
 const FILES: u64 = 60_000;
 const LONG_FILES: u64 = 200;
+const LARGE_MOVES: u64 = 600;
 
 /// The least counts. Of each: of each answer that a job can give, of each end, of each kind.
 const LEAST_SHEETS: u64 = 100_000;
@@ -38,17 +42,22 @@ const LEAST_OF_EACH: u64 = 100;
 const LEAST_FULLEST: u64 = 50;
 const LEAST_LONG: u64 = 10;
 const LEAST_FILES: u64 = 50_000;
-const LEAST_OF_EACH_FILE: u64 = 500;
+/// Of each answer of a job that writes a sheet.
+const LEAST_OF_EACH_WRITTEN: u64 = 500;
+const LEAST_OF_EACH_VERSION: u64 = 500;
+const LEAST_OF_EACH_WIDTH: u64 = 500;
+const LEAST_ALIKE: u64 = 10_000;
 const LEAST_OF_EACH_CAUSE: u64 = 500;
 const LEAST_SLIDING: u64 = 2_000;
 const LEAST_BARE_AFTER: u64 = 200;
 const LEAST_PICKS: u64 = 10_000;
 const LEAST_OF_EACH_PICK: u64 = 1_000;
 
-const JOBS: [&str; 7] = ["read", "run", "start", "hand call", "put back", "pick", "colour"];
+const JOBS: [&str; 8] = ["read", "run", "start", "hand call", "put back", "pick", "colour", "move"];
 const PICK: usize = 5;
 /// The job that is lent no sheet but a colouring file.
 const COLOUR: usize = 6;
+const MOVE: usize = 7;
 const KINDS: [&str; 5] = ["bare", "snake", "fold", "cover", "slide"];
 
 /// Why a record is refused with 17, those first that name an item and a setting. Each but the last two is counted where it alone speaks
@@ -74,11 +83,19 @@ const CAUSES: [&str; 16] = [
 /// Those that name an item and a setting.
 const NAMES: &[&str] = CAUSES.split_at(4).0;
 
-const EVERY_JOB: [usize; 7] = [0, 1, 2, 3, 4, PICK, COLOUR];
+const EVERY_JOB: [usize; 8] = [0, 1, 2, 3, 4, PICK, COLOUR, MOVE];
+/// The jobs that answer of a sheet what they answer of the same sheet in the other version; a move answers the first.
+const ALIKE_JOBS: [usize; 6] = [0, 1, 2, 3, 4, PICK];
 
 /// The refusals that each job has beside those of the sheet, 1 to 9, which all have that are lent one.
-const OWN_REFUSALS: [&[u8]; 7] =
-    [&[], &[10, 200], &[201], &[11, 12, 13, 14, 201], &[15, 16, 17, 18, 19, 20], &[10, 20, 200], &[21, 22, 23, 24, 25]];
+const OWN_REFUSALS: [&[u8]; 8] =
+    [&[], &[10, 200], &[201], &[11, 12, 13, 14, 201], &[15, 16, 17, 18, 19, 20], &[10, 20, 200], &[21, 22, 23, 24, 25], &[26]];
+
+/// What byte 0 of a sheet is that is refused with 2.
+const NO_VERSIONS: [&str; 3] = ["0", "3", "another"];
+
+/// What an accepted sheet of version 2 has: among its blocks rows of both widths, or a block of an i and a j of these sizes.
+const WIDTHS: [&str; 3] = ["rows of both widths", "a block of 8 and 9 settings", "a block of 9 and 8"];
 
 /// What a pick comes to, by the end of its run and whether there is a plan. There are no others.
 const PICKED: [(&str, (End, bool)); 4] = [
@@ -105,6 +122,7 @@ fn main() {
     comparison.part("picking from the corpus", comparison.corpus.len() as u64 / divisor, corpus_case);
     comparison.part("colouring files", FILES / divisor, colouring_case);
     comparison.part("long colouring files", LONG_FILES / divisor, long_colouring_case);
+    comparison.part("moves of large sheets", LARGE_MOVES / divisor, large_move_case);
     comparison.counts.print();
     let (missing, strange) = (comparison.counts.missing(divisor), comparison.counts.strange());
     missing.iter().for_each(|line| println!("too few: {line}"));
@@ -179,6 +197,16 @@ struct Counts {
     repeated_edges: u64,
     longest_written: u64,
     bars_everything: u64,
+    /// Accepted sheets of every part by their version, and those of version 2 by WIDTHS; sheets refused with 2 by NO_VERSIONS.
+    versions: [u64; 2],
+    widths: [u64; WIDTHS.len()],
+    no_versions: [u64; NO_VERSIONS.len()],
+    /// Calls that were made with both versions of a sheet, by job; and those of them in which the one is shorter.
+    alike: BTreeMap<usize, u64>,
+    alike_shorter: u64,
+    /// Sheets that were moved and moved back by all three, and those of the longest length.
+    moved_twice: u64,
+    longest_moved: u64,
 }
 
 impl Counts {
@@ -207,6 +235,10 @@ impl Counts {
         PICKED.map(|(name, outcome)| (name, *self.picks.get(&outcome).unwrap_or(&0)))
     }
 
+    fn of_alike(&self) -> [(&'static str, u64); ALIKE_JOBS.len()] {
+        ALIKE_JOBS.map(|job| (JOBS[job], *self.alike.get(&job).unwrap_or(&0)))
+    }
+
     fn of_decoding(&self, number: u8) -> u64 {
         *self.decoded.get(&number).unwrap_or(&0)
     }
@@ -224,7 +256,7 @@ impl Counts {
             println!("{name:>10} {}", EVERY_JOB.map(count).join(" "));
         }
         println!("{:>10} {}", "all", EVERY_JOB.map(|job| format!("{:>10}", self.of_job(job))).join(" "));
-        let past = JOBS.iter().enumerate().take(COLOUR).map(|(job, name)| format!("{name} {}", self.past_the_sheet(job)));
+        let past = EVERY_JOB.iter().filter(|&&job| job != COLOUR).map(|&job| format!("{} {}", JOBS[job], self.past_the_sheet(job)));
         println!("calls that no fault of the sheet turned away: {}", past.collect::<Vec<_>>().join(", "));
         let ends = [End::Impossible, End::Solved, End::Rest].map(|end| format!("{end:?} {}", self.ends.get(&(end as u8)).unwrap_or(&0)));
         println!("ends of runs: {}", ends.join(", "));
@@ -264,13 +296,28 @@ impl Counts {
             "sheets written: {} with an edge given again, {} of the longest length, {} with a block that bars everything",
             self.repeated_edges, self.longest_written, self.bars_everything
         );
+        let widths = WIDTHS.iter().zip(self.widths).map(|(name, count)| format!("with {name} {count}"));
+        println!(
+            "accepted sheets of all parts: {} of version 1, {} of version 2; of these {}",
+            self.versions[0],
+            self.versions[1],
+            widths.collect::<Vec<_>>().join(", ")
+        );
+        let no_versions = NO_VERSIONS.iter().zip(self.no_versions).map(|(name, count)| format!("{name} {count}"));
+        println!("sheets refused with 2, by their byte 0: {}", no_versions.collect::<Vec<_>>().join(", "));
+        println!(
+            "calls made with both versions of a sheet, and answered alike: {}; in {} the one is shorter",
+            self.of_alike().map(|(name, count)| format!("{name} {count}")).join(", "),
+            self.alike_shorter
+        );
+        println!("sheets moved and moved back, byte for byte: {}, {} of the longest length", self.moved_twice, self.longest_moved);
     }
 
     /// What falls short of its least count.
     fn missing(&self, divisor: u64) -> Vec<String> {
         let jobs = [3, 4].map(|job| (JOBS[job].to_string(), self.past_the_sheet(job), LEAST_CALLS));
         let of_job = |job| numbers().filter(move |&number| can_answer(job, number)).map(move |number| (job, number));
-        let least = |job| if job == COLOUR { LEAST_OF_EACH_FILE } else { LEAST_OF_EACH };
+        let least = |job| if job == COLOUR || job == MOVE { LEAST_OF_EACH_WRITTEN } else { LEAST_OF_EACH };
         let of_answer = |(job, number): (usize, u8)| (format!("{}, answer {number}", JOBS[job]), self.of_answer(job, number), least(job));
         let answers = (0..JOBS.len()).flat_map(of_job).map(of_answer);
         let ends = [0, 1, 2].map(|end| (format!("end {end}"), *self.ends.get(&end).unwrap_or(&0), LEAST_OF_EACH));
@@ -279,6 +326,10 @@ impl Counts {
         let decoded = [0, 15, 16].map(|number| (format!("traces taken apart, {number}"), self.of_decoding(number), LEAST_OF_EACH));
         let causes = self.of_causes().map(|(cause, count)| (format!("17: {cause}"), count, LEAST_OF_EACH_CAUSE));
         let picks = self.of_picks().map(|(name, count)| (format!("picks, {name}"), count, LEAST_OF_EACH_PICK));
+        let widths = WIDTHS.iter().zip(self.widths).map(|(name, count)| (format!("sheets with {name}"), count, LEAST_OF_EACH_WIDTH));
+        let no_versions = NO_VERSIONS.iter().zip(self.no_versions);
+        let no_versions = no_versions.map(|(name, count)| (format!("2 for byte 0: {name}"), count, LEAST_OF_EACH_VERSION));
+        let alike = self.of_alike().map(|(name, count)| (format!("{name} with both versions"), count, LEAST_ALIKE));
         let others = [
             ("picks".to_string(), self.picks.values().sum(), LEAST_PICKS),
             ("picks of another plan than the first of all".to_string(), self.not_first_of_all, LEAST_OF_EACH),
@@ -304,12 +355,17 @@ impl Counts {
             ("settings changed when put back".to_string(), self.changed_when_undone, LEAST_OF_EACH),
             ("colouring files".to_string(), self.files, LEAST_FILES),
             ("colouring files of 64 KiB".to_string(), self.longest_files, LEAST_FULLEST),
-            ("edges given again".to_string(), self.repeated_edges, LEAST_OF_EACH_FILE),
+            ("edges given again".to_string(), self.repeated_edges, LEAST_OF_EACH_WRITTEN),
             ("longest sheets written".to_string(), self.longest_written, LEAST_LONG),
             ("blocks written that bar everything".to_string(), self.bars_everything, LEAST_OF_EACH),
+            ("accepted sheets of version 1".to_string(), self.versions[0], LEAST_SHEETS / 2),
+            ("accepted sheets of version 2".to_string(), self.versions[1], LEAST_SHEETS / 2),
+            ("calls with both versions, one shorter".to_string(), self.alike_shorter, LEAST_SHEETS),
+            ("sheets moved and moved back".to_string(), self.moved_twice, LEAST_ALIKE),
+            ("longest sheets moved and moved back".to_string(), self.longest_moved, LEAST_FULLEST / 2),
         ];
-        let all =
-            jobs.into_iter().chain(answers).chain(ends).chain(steps).chain(records).chain(decoded).chain(causes).chain(picks).chain(others);
+        let all = jobs.into_iter().chain(answers).chain(ends).chain(steps).chain(records).chain(decoded).chain(causes).chain(picks);
+        let all = all.chain(widths).chain(no_versions).chain(alike).chain(others);
         let scaled = all.map(|(name, count, least)| (name, count, least / divisor));
         scaled.filter(|(_, count, least)| count < least).map(|(name, count, least)| format!("{name}: {count}, least {least}")).collect()
     }
@@ -336,6 +392,8 @@ struct Comparison {
     fast: Workspace,
     /// The sheets of the corpus that are held to the bar.
     corpus: Vec<Entry>,
+    /// The sheet of the last call, and the same sheet in the other version where it keeps the layout.
+    last: (Lent, Option<Lent>),
     counts: Counts,
 }
 
@@ -360,13 +418,14 @@ fn number<T>(answer: &Answer<T>) -> u8 {
     answer.as_ref().map_or_else(|fault| fault.number(), |_| 0)
 }
 
-/// A call of one implementation: it is lent inputs, and buffers to write; the workspace is for the fast one.
+/// A call of one layer or implementation: it is lent inputs, and buffers to write; the workspace is for the fast one.
 type Call<'a, T> = &'a dyn Fn(&mut Workspace, &[Lent], &mut [Lent]) -> Answer<T>;
 
 impl Comparison {
     fn new(seed: u64) -> Comparison {
         let corpus = corpus().into_iter().filter(|entry| entry.held).collect();
-        Comparison { seed, part: "", case: 0, fast: Workspace::new(), corpus, counts: Counts::default() }
+        // No byte is no sheet.
+        Comparison { seed, part: "", case: 0, fast: Workspace::new(), corpus, last: (lend(&[]), None), counts: Counts::default() }
     }
 
     fn part(&mut self, part: &'static str, cases: u64, compare: fn(&mut Comparison, &mut Random)) {
@@ -383,37 +442,78 @@ impl Comparison {
     }
 
     /// Calls the three implementations, each with its own copies of the lent bytes: inputs, and buffers that it may write. All must give
-    /// one answer and leave the same bytes, and a refused call must leave them as they were.
+    /// one answer and leave the same bytes, and a refused call must leave them as they were. The first input is a sheet, or a file.
     fn call<T: PartialEq + Debug>(
         &mut self,
         job: usize,
         inputs: &[&[u8]],
         buffers: &[&[u8]],
         note: &str,
-        calls: [Call<T>; 3],
+        calls: [Call<T>; 4],
     ) -> (Answer<T>, Vec<Lent>) {
-        let results = calls.map(|call| {
-            let lent: Vec<Lent> = inputs.iter().map(|bytes| lend(bytes)).collect();
+        let other = if ALIKE_JOBS.contains(&job) { self.other_version(inputs[0]) } else { None };
+        let [archive, library, reference, fast] = calls;
+        // "Every job answers on the moved sheet as on the sheet, whatever else it is lent, and leaves the same bytes."
+        let (first, last) = (inputs[0], other.as_deref().unwrap_or(inputs[0]));
+        let mut calls =
+            vec![("archive", archive, first), ("library", library, last), ("reference", reference, first), ("fast", fast, first)];
+        calls.extend(other.iter().map(|other| ("fast", fast, &**other)));
+        let mut result = |call: Call<T>, front: &[u8]| {
+            let lent: Vec<Lent> = std::iter::once(front).chain(inputs[1..].iter().copied()).map(lend).collect();
             let mut written: Vec<Lent> = buffers.iter().map(|bytes| lend(bytes)).collect();
             let answer = call(&mut self.fast, &lent, &mut written);
-            (answer, lent, written)
-        });
-        let [proved, reference, fast] = &results;
-        let inputs_stay = results.iter().all(|(_, lent, _)| lent.iter().zip(inputs).all(|(after, before)| **after == **before));
-        let unchanged = results.iter().all(|(_, _, written)| written.iter().zip(buffers).all(|(after, before)| **after == **before));
-        let alike = proved.0 == reference.0 && proved.2 == reference.2 && fast.0 == reference.0 && fast.2 == reference.2;
-        if !alike || !inputs_stay || (reference.0.is_err() && !unchanged) {
+            let inputs_stay = *lent[0] == *front && lent[1..].iter().zip(&inputs[1..]).all(|(after, before)| **after == **before);
+            (answer, written, inputs_stay)
+        };
+        let mut results: Vec<_> = calls.iter().map(|&(_, call, front)| result(call, front)).collect();
+        let (answer, written, _) = &results[0];
+        let unchanged = written.iter().zip(buffers).all(|(after, before)| **after == **before);
+        let alike = results.iter().all(|(other, left, inputs_stay)| other == answer && left == written && *inputs_stay);
+        if !alike || (answer.is_err() && !unchanged) {
             self.difference(job, inputs, buffers, note);
-            for (name, (answer, lent, written)) in ["proved", "reference", "fast"].into_iter().zip(&results) {
-                println!("{name}: {answer:?}");
+            for ((name, _, front), (answer, written, inputs_stay)) in calls.iter().zip(&results) {
+                let version = if *front == inputs[0] { "" } else { ", with the other version" };
+                let changed = if *inputs_stay { "" } else { ", and an input is changed" };
+                println!("{name}{version}: {answer:?}{changed}");
                 written.iter().for_each(|bytes| println!("    written {}", hexadecimal(bytes)));
-                lent.iter().zip(inputs).filter(|(a, b)| ***a != ***b).for_each(|(a, _)| println!("    input now {}", hexadecimal(a)));
             }
             std::process::exit(1);
         }
-        *self.counts.answers.entry((job, number(&reference.0))).or_default() += 1;
-        let [proved, ..] = results;
-        (proved.0, proved.2)
+        *self.counts.answers.entry((job, number(answer))).or_default() += 1;
+        if let Some(other) = &other {
+            *self.counts.alike.entry(job).or_default() += 1;
+            self.counts.alike_shorter += u64::from(other.len() != inputs[0].len());
+        }
+        let (answer, written, _) = results.swap_remove(0);
+        (answer, written)
+    }
+
+    /// The sheet in the other version, where it keeps the layout, by the reference: which reads the same problem from both, and moves it back
+    /// byte for byte.
+    fn other_version(&mut self, sheet: &[u8]) -> Option<Lent> {
+        if *self.last.0 != *sheet {
+            let moved = reference::moved(sheet).ok();
+            if let Some(moved) = &moved {
+                let [problem, other] = [sheet, moved].map(|sheet| reference::read_sheet(sheet).map(|(problem, _)| problem).ok());
+                assert!(problem == other, "a moved sheet says something else: {}", hexadecimal(sheet));
+                assert!(reference::moved(moved).as_deref() == Ok(sheet), "a sheet moved twice is another: {}", hexadecimal(sheet));
+                self.count_accepted(sheet);
+            }
+            self.last = (lend(sheet), moved.map(Vec::into_boxed_slice));
+        }
+        self.last.1.clone()
+    }
+
+    /// Counts an accepted sheet by its version and, of version 2, by the widths of its rows.
+    fn count_accepted(&mut self, sheet: &[u8]) {
+        self.counts.versions[usize::from(sheet[0] - 1)] += 1;
+        if sheet[0] == 2 {
+            let blocks = block_sizes(sheet);
+            let narrow = |&(_, j): &(u8, u8)| j <= 8;
+            let mixed = blocks.iter().any(narrow) && !blocks.iter().all(narrow);
+            let has = [mixed, blocks.contains(&(8, 9)), blocks.contains(&(9, 8))];
+            self.counts.widths.iter_mut().zip(has).for_each(|(count, has)| *count += u64::from(has));
+        }
     }
 
     fn difference(&self, job: usize, inputs: &[&[u8]], buffers: &[&[u8]], note: &str) {
@@ -429,12 +529,24 @@ impl Comparison {
             &[sheet],
             &[],
             "",
-            [&|_, lent, _| proved::read(&lent[0]), &|_, lent, _| reference::read(&lent[0]), &|fast, lent, _| fast.read(&lent[0])],
+            [
+                &|_, lent, _| raw::read(&lent[0]),
+                &|_, lent, _| library::read(&lent[0]),
+                &|_, lent, _| reference::read(&lent[0]),
+                &|fast, lent, _| fast.read(&lent[0]),
+            ],
         );
-        if let Ok(Accepted { items, blocks }) = answer {
-            self.counts.accepted_sheets += 1;
-            *self.counts.sheets_by_items.entry(items).or_default() += 1;
-            self.counts.fullest_sheets += u64::from(blocks == 496 && sheet.len() == MAX_SHEET);
+        match answer {
+            Ok(Accepted { items, blocks }) => {
+                self.counts.accepted_sheets += 1;
+                *self.counts.sheets_by_items.entry(items).or_default() += 1;
+                self.counts.fullest_sheets += u64::from(blocks == 496 && sheet.len() == MAX_SHEET);
+            }
+            Err(Fault::Refused(Refusal::SheetVersion)) => {
+                let place = [0, 3].iter().position(|&byte| byte == sheet[0]);
+                self.counts.no_versions[place.unwrap_or(2)] += 1;
+            }
+            Err(_) => {}
         }
     }
 
@@ -445,7 +557,8 @@ impl Comparison {
             &[&buffer(trace_length), &buffer(state_length)],
             "",
             [
-                &|_, lent, written| on_two(written, |trace, state| proved::run(&lent[0], trace, state)),
+                &|_, lent, written| on_two(written, |trace, state| raw::run(&lent[0], trace, state)),
+                &|_, lent, written| on_two(written, |trace, state| library::run(&lent[0], trace, state)),
                 &|_, lent, written| on_two(written, |trace, state| reference::run(&lent[0], trace, state)),
                 &|fast, lent, written| on_two(written, |trace, state| fast.run(&lent[0], trace, state)),
             ],
@@ -461,7 +574,8 @@ impl Comparison {
             &[&buffer(state_length)],
             "",
             [
-                &|_, lent, written| proved::start(&lent[0], &mut written[0]),
+                &|_, lent, written| raw::start(&lent[0], &mut written[0]),
+                &|_, lent, written| library::start(&lent[0], &mut written[0]),
                 &|_, lent, written| reference::start(&lent[0], &mut written[0]),
                 &|fast, lent, written| fast.start(&lent[0], &mut written[0]),
             ],
@@ -476,7 +590,8 @@ impl Comparison {
             &[state],
             &format!(", item {item}"),
             [
-                &|_, lent, written| proved::hand_call(&lent[0], &mut written[0], item),
+                &|_, lent, written| raw::hand_call(&lent[0], &mut written[0], item),
+                &|_, lent, written| library::hand_call(&lent[0], &mut written[0], item),
                 &|_, lent, written| reference::hand_call(&lent[0], &mut written[0], item),
                 &|fast, lent, written| fast.hand_call(&lent[0], &mut written[0], item),
             ],
@@ -495,7 +610,8 @@ impl Comparison {
             &[&buffer(result_length)],
             "",
             [
-                &|_, lent, written| proved::put_back(&lent[0], &lent[1], &lent[2], &mut written[0]),
+                &|_, lent, written| raw::put_back(&lent[0], &lent[1], &lent[2], &mut written[0]),
+                &|_, lent, written| library::put_back(&lent[0], &lent[1], &lent[2], &mut written[0]),
                 &|_, lent, written| reference::put_back(&lent[0], &lent[1], &lent[2], &mut written[0]),
                 &|fast, lent, written| fast.put_back(&lent[0], &lent[1], &lent[2], &mut written[0]),
             ],
@@ -525,7 +641,8 @@ impl Comparison {
             &[&buffer(trace_length), &buffer(plan_length), &buffer(state_length)],
             "",
             [
-                &|_, lent, written| on_three(written, |trace, plan, state| proved::pick(&lent[0], trace, plan, state)),
+                &|_, lent, written| on_three(written, |trace, plan, state| raw::pick(&lent[0], trace, plan, state)),
+                &|_, lent, written| on_three(written, |trace, plan, state| library::pick(&lent[0], trace, plan, state)),
                 &|_, lent, written| on_three(written, |trace, plan, state| reference::pick(&lent[0], trace, plan, state)),
                 &|fast, lent, written| on_three(written, |trace, plan, state| fast.pick(&lent[0], trace, plan, state)),
             ],
@@ -541,9 +658,27 @@ impl Comparison {
             &[&buffer(sheet_length)],
             &format!(", {channels} channels"),
             [
-                &|_, lent, written| proved::colour(&lent[0], channels, &mut written[0]),
+                &|_, lent, written| raw::colour(&lent[0], channels, &mut written[0]),
+                &|_, lent, written| library::colour(&lent[0], channels, &mut written[0]),
                 &|_, lent, written| reference::colour(&lent[0], channels, &mut written[0]),
                 &|_, lent, written| fast::colour(&lent[0], channels, &mut written[0]),
+            ],
+        );
+        (answer.ok().map(|Written { bytes }| bytes), written.remove(0))
+    }
+
+    /// The bytes written, or nothing where the sheet was refused, and the target afterwards.
+    fn move_sheet(&mut self, sheet: &[u8], target_length: usize) -> (Option<usize>, Lent) {
+        let (answer, mut written) = self.call(
+            MOVE,
+            &[sheet],
+            &[&buffer(target_length)],
+            "",
+            [
+                &|_, lent, written| raw::move_sheet(&lent[0], &mut written[0]),
+                &|_, lent, written| library::move_sheet(&lent[0], &mut written[0]),
+                &|_, lent, written| reference::move_sheet(&lent[0], &mut written[0]),
+                &|fast, lent, written| fast.move_sheet(&lent[0], &mut written[0]),
             ],
         );
         (answer.ok().map(|Written { bytes }| bytes), written.remove(0))
@@ -675,6 +810,18 @@ fn cause_of(problem: &Problem, state: &State, step: Step, item: usize) -> &'stat
     }
 }
 
+/// The sizes of i and j of each block of an accepted sheet of version 2.
+fn block_sizes(sheet: &[u8]) -> Vec<(u8, u8)> {
+    let (sizes, mut rest) = sheet[8..].split_at(usize::from(sheet[5]));
+    let mut blocks = Vec::new();
+    while let [i, j, rows @ ..] = rest {
+        let (i, j) = (sizes[usize::from(*i)], sizes[usize::from(*j)]);
+        blocks.push((i, j));
+        rest = &rows[usize::from(i) * if j <= 8 { 1 } else { 2 }..];
+    }
+    blocks
+}
+
 /// Whether an item went out and another one lost a setting.
 fn partners_lost(before: &State, after: &State) -> bool {
     let went_out = after.active().len() < before.active().len();
@@ -763,9 +910,9 @@ fn accepted_sheet(comparison: &mut Comparison, random: &mut Random, sheet: &[u8]
     if random.chance(50) {
         comparison.run(sheet, exact + random.between(1, 40), STATE_LENGTH);
     }
-    comparison.run(sheet, exact - 1, STATE_LENGTH);
-    comparison.run(sheet, 0, STATE_LENGTH);
+    comparison.run(sheet, random.pick(&[0, exact - 1]), STATE_LENGTH);
     comparison.start(sheet, HAND_STATE_LENGTH);
+    move_calls(comparison, random, sheet);
     if random.chance(5) {
         comparison.run(sheet, random.pick(&[0, exact - 1, exact]), wrong_length(random, STATE_LENGTH));
         comparison.start(sheet, wrong_length(random, HAND_STATE_LENGTH));
@@ -801,9 +948,42 @@ fn refused_sheet(comparison: &mut Comparison, random: &mut Random, sheet: &[u8])
     let state = random.bytes(state_length);
     comparison.hand_call(sheet, &state, random.pick(&[0, 1, 32, u64::MAX]));
     comparison.pick(sheet, random.pick(&[0, 1, 100, 2561]), random.pick(&[0, 1, 3, 32]), state_length);
+    comparison.move_sheet(sheet, random.pick(&[0, 1, 100, MAX_SHEET]));
     let (trace, plan) = (random.bytes(3), random.bytes(2));
     let answer = comparison.put_back(sheet, random.pick(&[&[1][..], &[], &trace]), &plan, random.pick(&[0, 2, 3]));
     assert!(answer.is_err(), "putting back takes a sheet that the reference refuses");
+}
+
+/// Targets exact, longer, too short by one and shorter; every other moved sheet is moved back.
+fn move_calls(comparison: &mut Comparison, random: &mut Random, sheet: &[u8]) {
+    let exact = comparison.other_version(sheet).expect("the sheet keeps the layout").len();
+    let length = match random.below(8) {
+        0..=3 => exact,
+        4 => exact + random.between(1, 40),
+        5 | 6 => exact - 1,
+        _ => random.pick(&[0, 8, exact / 2]),
+    };
+    let (answer, target) = comparison.move_sheet(sheet, length);
+    assert!(answer.map_or(length < exact, |bytes| bytes == exact), "a move is refused otherwise than by its target");
+    if answer.is_some() && random.chance(50) {
+        let (answer, back) = comparison.move_sheet(&target[..exact], sheet.len() + random.below(2));
+        assert_eq!(answer.map(|bytes| &back[..bytes]), Some(sheet), "a sheet that is moved twice is another");
+        comparison.counts.moved_twice += 1;
+        comparison.counts.longest_moved += u64::from(sheet.len() == MAX_SHEET);
+    }
+}
+
+/// A large sheet with rows of both widths, or of one, some with a fault: read and moved only.
+fn large_move_case(comparison: &mut Comparison, random: &mut Random) {
+    let draft = if random.chance(60) { generate::large_mixed_draft(random) } else { generate::large_draft(random) };
+    let sheet = if random.chance(20) { generate::damaged(random, draft) } else { draft.bytes() };
+    comparison.read(&sheet);
+    match reference::read(&sheet) {
+        Ok(_) => move_calls(comparison, random, &sheet),
+        Err(_) => {
+            comparison.move_sheet(&sheet, random.pick(&[0, sheet.len(), MAX_SHEET]));
+        }
+    }
 }
 
 /// A list of hand calls from the start state, from a state that fits or from one that does not; each later call is given the state that
@@ -954,21 +1134,30 @@ fn corpus_case(comparison: &mut Comparison, random: &mut Random) {
     assert!(solvable.map_or(true, |solvable| solvable == has_plan), "{name} is known to be otherwise");
 }
 
+/// A pick by one layer or implementation, lent a trace buffer, a plan and a state.
+type Pick<'a> = &'a mut dyn FnMut(&mut [u8], &mut [u8], &mut [u8]) -> Answer<Chosen>;
+
 fn picked_by_two(comparison: &mut Comparison, sheet: &[u8]) -> bool {
     let (problem, _) = reference::read_sheet(sheet).expect("the sheet keeps the layout");
-    let mut lent = [(); 2].map(|()| [trace_length(&problem), problem.sizes().len(), STATE_LENGTH].map(buffer));
-    let [proved, fast] = &mut lent;
-    let answers = [
-        on_three(proved, |trace, plan, state| proved::pick(sheet, trace, plan, state)),
-        on_three(fast, |trace, plan, state| comparison.fast.pick(sheet, trace, plan, state)),
+    let other = comparison.other_version(sheet).expect("the sheet keeps the layout");
+    let picked = |pick: Pick| {
+        let mut lent = [trace_length(&problem), problem.sizes().len(), STATE_LENGTH].map(buffer);
+        (on_three(&mut lent, pick), lent)
+    };
+    let results = [
+        picked(&mut |trace, plan, state| raw::pick(sheet, trace, plan, state)),
+        picked(&mut |trace, plan, state| library::pick(&other, trace, plan, state)),
+        picked(&mut |trace, plan, state| comparison.fast.pick(sheet, trace, plan, state)),
+        picked(&mut |trace, plan, state| comparison.fast.pick(&other, trace, plan, state)),
     ];
-    if answers[0] != answers[1] || lent[0] != lent[1] {
+    if results.iter().any(|result| *result != results[0]) {
         comparison.difference(PICK, &[sheet], &[], "");
-        println!("proved and fast: {answers:?}, {lent:02x?}");
+        println!("archive, library with the other version, fast with each: {results:02x?}");
         std::process::exit(1);
     }
-    let has_plan = answers[0].is_ok_and(|chosen| chosen.has_plan);
-    assert!(!has_plan || problem.is_solution(&State::full(&problem), &lent[0][1]), "what was picked is no plan");
+    let [(answer, [_, plan, _]), ..] = &results;
+    let has_plan = answer.is_ok_and(|chosen| chosen.has_plan);
+    assert!(!has_plan || problem.is_solution(&State::full(&problem), plan), "what was picked is no plan");
     comparison.counts.picked_by_two += 1;
     has_plan
 }

@@ -1,4 +1,4 @@
-//! Builds and runs the five programs of examples/ on the files of the top folder's examples/, which the C programs are run on too
+//! Builds and runs the six programs of examples/ on the files of the top folder's examples/, which the C programs are run on too
 //! (tests/callers): what they print, their status, and the reasons on standard error.
 
 use std::ffi::OsStr;
@@ -59,8 +59,12 @@ fn files(ending: &str, least: usize) -> Vec<String> {
     files
 }
 
+fn bytes(file: &str) -> Vec<u8> {
+    fs::read(top().join(file)).unwrap_or_else(|error| panic!("{file}: {error}"))
+}
+
 fn text(file: &str) -> String {
-    fs::read_to_string(top().join(file)).unwrap_or_else(|error| panic!("{file}: {error}"))
+    String::from_utf8(bytes(file)).unwrap_or_else(|error| panic!("{file}: {error}"))
 }
 
 /// The sheet of examples/SHEET.CASE.hand is examples/SHEET.sheet.
@@ -90,31 +94,60 @@ fn reasons(text: &str, lent: &str) -> String {
 /// The example, on a sheet and what follows it, prints what the file has, says why for each refusal in it, and ends with 1 where there is
 /// one.
 fn prints(example: &str, sheet: &str, arguments: &str, file: &str) {
-    let output = program(example).arg(sheet).args(arguments.split_whitespace()).output();
     let expected = text(file);
     let reasons = reasons(&expected, &format!("sheet {sheet}"));
     let status = i32::from(!reasons.is_empty());
-    assert_eq!(ended(output.expect("the example runs")), (expected.into_bytes(), reasons, Some(status)), "{example} {sheet} {arguments}");
+    let arguments: Vec<&str> = std::iter::once(sheet).chain(arguments.split_whitespace()).collect();
+    ends(example, &arguments, (expected.into_bytes(), reasons, Some(status)));
+}
+
+/// The same with the sheet in its other version too, where there is a file of that.
+fn prints_of_both(example: &str, sheet: &str, arguments: &str, file: &str) {
+    prints(example, sheet, arguments, file);
+    let moved = sheet.replace(".sheet", ".moved");
+    if top().join(&moved).exists() {
+        prints(example, &moved, arguments, file);
+    }
+}
+
+/// The example, with these arguments, prints so, says so and ends so.
+fn ends(example: &str, arguments: &[&str], expected: (Vec<u8>, String, Option<i32>)) {
+    let output = program(example).args(arguments).output();
+    assert_eq!(ended(output.expect("the example runs")), expected, "{example} {arguments:?}");
 }
 
 #[test]
 fn run_prints_what_the_program_prints() {
-    files("sheet", 32).iter().for_each(|sheet| prints("run", sheet, "", &sheet.replace(".sheet", ".txt")));
+    files("sheet", 32).iter().for_each(|sheet| prints_of_both("run", sheet, "", &sheet.replace(".sheet", ".txt")));
 }
 
 #[test]
 fn plan_prints_a_plan_or_that_there_is_none() {
-    files("plan", 21).iter().for_each(|file| prints("plan", &sheet_of(file), "", file));
+    files("plan", 21).iter().for_each(|file| prints_of_both("plan", &sheet_of(file), "", file));
 }
 
 #[test]
 fn hand_prints_each_call_and_the_state_left() {
-    files("hand", 9).iter().for_each(|file| prints("hand", &sheet_of(file), &text(file), &format!("{file}.txt")));
+    files("hand", 9).iter().for_each(|file| prints_of_both("hand", &sheet_of(file), &text(file), &format!("{file}.txt")));
 }
 
 #[test]
 fn put_back_prints_the_plan() {
-    files("back", 21).iter().for_each(|file| prints("put_back", &sheet_of(file), &text(file), &format!("{file}.txt")));
+    files("back", 21).iter().for_each(|file| prints_of_both("put_back", &sheet_of(file), &text(file), &format!("{file}.txt")));
+}
+
+/// examples/NAME.moved is examples/NAME.sheet in the other version, and the other way round. A refused sheet has the line of its NAME.txt.
+#[test]
+fn move_writes_the_other_version() {
+    for moved in files("moved", 13) {
+        let sheet = sheet_of(&moved);
+        ends("move", &[&sheet], (bytes(&moved), String::new(), Some(0)));
+        ends("move", &[&moved], (bytes(&sheet), String::new(), Some(0)));
+    }
+    let sheets = files("sheet", 32);
+    let refused: Vec<&String> = sheets.iter().filter(|sheet| sheet.starts_with("examples/refused-")).collect();
+    assert!(refused.len() >= 11, "only {refused:?}");
+    refused.iter().for_each(|sheet| prints("move", sheet, "", &sheet.replace(".sheet", ".txt")));
 }
 
 /// examples/NAME-CHANNELS.sheet is the sheet of examples/NAME.col, and NAME-CHANNELS.refused the line of one that is refused.
@@ -130,24 +163,18 @@ fn colour_writes_the_sheet() {
             number.bytes().all(|byte| byte.is_ascii_digit()).then(|| number.to_string())
         };
         for channels in sheets.iter().filter_map(|sheet| channels(sheet, ".sheet")) {
-            let sheet = fs::read(top().join(format!("{name}-{channels}.sheet"))).expect("a sheet");
-            colours(&file, &channels, (sheet, String::new(), Some(0)));
+            let sheet = bytes(&format!("{name}-{channels}.sheet"));
+            ends("colour", &[&file, &channels], (sheet, String::new(), Some(0)));
             written += 1;
         }
         for channels in refusals.iter().filter_map(|refusal| channels(refusal, ".refused")) {
             let line = text(&format!("{name}-{channels}.refused"));
             let reasons = reasons(&line, &format!("file {file}"));
-            colours(&file, &channels, (line.into_bytes(), reasons, Some(1)));
+            ends("colour", &[&file, &channels], (line.into_bytes(), reasons, Some(1)));
             refused += 1;
         }
     }
     assert!(written >= 7 && refused == refusals.len(), "{written} sheets and {refused} of {} refusals", refusals.len());
-}
-
-/// The example, on a colouring file and a number of channels, prints so, says so and ends so.
-fn colours(file: &str, channels: &str, expected: (Vec<u8>, String, Option<i32>)) {
-    let output = program("colour").args([file, channels]).output();
-    assert_eq!(ended(output.expect("the example runs")), expected, "colour {file} {channels}");
 }
 
 // ---- What goes wrong besides --------------------------------------------------------------------------------------------------------
@@ -157,7 +184,7 @@ const TRACE: &str = "examples/B.trace";
 const COL: &str = "examples/petersen.col";
 
 /// Each example that is given a sheet with what it is given after that.
-const ALL: [(&str, &[&str]); 4] = [("run", &[]), ("plan", &[]), ("hand", &["0"]), ("put_back", &[TRACE, "255", "255"])];
+const ALL: [(&str, &[&str]); 5] = [("run", &[]), ("plan", &[]), ("hand", &["0"]), ("put_back", &[TRACE, "255", "255"]), ("move", &[])];
 
 /// Nothing is printed, the status is this one, and standard error begins so and ends so.
 fn astray(example: &str, arguments: &[&str], status: i32, first: &str, last: &str) {
@@ -171,10 +198,10 @@ fn bad_usage_is_told() {
     let bad = |example: &str, arguments: &[&str], usage: &str| {
         astray(example, arguments, 2, "usage: ", &format!("{example} {usage}\n"));
     };
-    bad("run", &[], "SHEET");
-    bad("run", &[B, B], "SHEET");
-    bad("plan", &[], "SHEET");
-    bad("plan", &[B, B], "SHEET");
+    for example in ["run", "plan", "move"] {
+        bad(example, &[], "SHEET");
+        bad(example, &[B, B], "SHEET");
+    }
     bad("hand", &[], "SHEET [ITEM]...");
     for item in ["", "-1", "+1", "1x", "18446744073709551616"] {
         bad("hand", &[B, "0", item], "SHEET [ITEM]...");

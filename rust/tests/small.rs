@@ -1,7 +1,8 @@
 //! Demands 2 and 3 by brute force on very small sheets: all plans of what a trace leaves, and all lists of hand calls from a few states;
 //! and what 17 carries, for every cover of two settings after a few traces. Demand 2 also on small sheets whose runs often take a slide.
 //! And the plan that is picked: among all plans of what is left it is the first, put back; and there is none exactly where no choice of
-//! settings at all is a plan of the full sheet.
+//! settings at all is a plan of the full sheet. And the sheet in the other version: it keeps the layout, by its bytes it has the same plans
+//! among all choices of settings, and it comes back byte for byte.
 //!
 //! The proved library does the jobs, by both its layers (support/proved.rs); the reference says which rule holds; the plans are counted out here.
 //!
@@ -14,7 +15,8 @@ use std::collections::btree_map::{BTreeMap, Entry};
 use support::generate::{self, Draft, Random};
 use support::reference::{self, Problem, State, Step};
 use support::{proved, Chosen, Done, Fault};
-use zomuwedli::{End, Refusal, Unlawful, HAND_STATE_LENGTH, MAX_ITEMS, MAX_SETTINGS, NOT_NAMED, OUT, STATE_LENGTH};
+use zomuwedli::{End, Refusal, Unlawful, Written};
+use zomuwedli::{HAND_STATE_LENGTH, MAX_ITEMS, MAX_SETTINGS, MAX_SHEET, NOT_NAMED, OUT, STATE_LENGTH};
 
 const SEED: u64 = 4_711;
 const RANDOM_SHEETS: usize = 1_500;
@@ -25,6 +27,8 @@ const TIGHT_SHEETS: usize = 5_000;
 const LAWFUL_TRACES: usize = 4;
 /// How many sheets of 5 items of 3 or 4 settings are made whose runs often come to rest. Of these the pick alone is checked.
 const RESTING_SHEETS: usize = 8_000;
+/// How many sheets of two or three items of about 8 settings are made. Of these the move alone is checked.
+const WIDER_SHEETS: usize = 400;
 
 /// How many sheets there are, of two items of 1 to 3 settings, of two items of 1 or 2, and of three items of 2; and how many are checked.
 const PAIR_SHEETS: usize = 2 + 4 + 8 + 4 + 16 + 64 + 8 + 64 + 512;
@@ -44,7 +48,8 @@ fn main() {
     let all = if part == 1 { "all " } else { &share };
     println!(
         "sheets: {all}{PAIR_SHEETS} of two items up to 3 settings, {all}{TRIPLE_SHEETS} of three of 2, {share}{RANDOM_SHEETS} random, \
-         {share}those whose runs slide of {SLIDING_SHEETS} and {TIGHT_SHEETS} of four and five of 4, {share}{RESTING_SHEETS} for picking"
+         {share}those whose runs slide of {SLIDING_SHEETS} and {TIGHT_SHEETS} of four and five of 4, {share}{RESTING_SHEETS} for picking, \
+         {share}{WIDER_SHEETS} of two and three of about 8 for moving; half of them of version 2"
     );
     for sheet in pairs.iter().chain(&triples).chain(&others).step_by(part as usize) {
         Case::new(sheet).demand_two(&mut random, &mut counts);
@@ -56,6 +61,9 @@ fn main() {
     }
     for sheet in pairs.iter().chain(&triples).chain(&others).chain(&resting_sheets()).step_by(part as usize) {
         Case::new(sheet).pick(&mut counts);
+    }
+    for sheet in pairs.iter().chain(&triples).chain(&others).chain(&wider_sheets()).step_by(part as usize) {
+        moved(sheet, &mut counts);
     }
     // From the last one, which bars nothing and has hundreds of traces: the first has three.
     for sheet in smallest.iter().rev().step_by(part as usize) {
@@ -70,6 +78,12 @@ fn main() {
     println!("small: all as demanded");
 }
 
+/// Each in either version, as it falls: every other one would leave one version out where one sheet in so many is taken.
+fn in_any_version(drafts: impl Iterator<Item = Draft>) -> Vec<Vec<u8>> {
+    let mut random = Random::new(SEED + 6);
+    drafts.map(|draft| draft.in_any_version(&mut random).bytes()).collect()
+}
+
 /// All sheets of two items of 1 to 3 settings.
 fn pair_sheets() -> Vec<Vec<u8>> {
     let sizes = (1..=3).flat_map(|first| (1..=3).map(move |second| (first, second)));
@@ -77,20 +91,20 @@ fn pair_sheets() -> Vec<Vec<u8>> {
     let draft = |(first, second, relation): (usize, usize, u32)| {
         Draft::new(vec![first as u8, second as u8], |_, a, _, b| relation >> (a * second + b) & 1 == 1)
     };
-    relations.map(|choice| draft(choice).bytes()).collect()
+    in_any_version(relations.map(draft))
 }
 
 /// All sheets of three items of 2 settings: 4 bits for each of the pairs 0 1, 0 2 and 1 2.
 fn triple_sheets() -> Vec<Vec<u8>> {
     let draft = |relation: u32| Draft::new(vec![2; 3], |i, a, j, b| relation >> (4 * (i + j - 1) + 2 * a + b) & 1 == 1);
-    (0..1 << 12).map(|relation| draft(relation).bytes()).collect()
+    in_any_version((0..1 << 12).map(draft))
 }
 
 /// Sheets of four and five items whose runs take a slide.
 fn sliding_sheets() -> Vec<Vec<u8>> {
     let (mut random, mut tight_random) = (Random::new(SEED + 2), Random::new(SEED + 3));
     let sliding = std::iter::repeat_with(|| generate::sliding_draft(&mut random)).filter(|draft| draft.sizes.len() == 4);
-    let tight = std::iter::repeat_with(|| generate::linked_draft(&mut tight_random, 5, 4, 45));
+    let tight = std::iter::repeat_with(|| generate::linked_draft(&mut tight_random, 5, 4, 45).in_any_version(&mut tight_random));
     let slides = |sheet: &Vec<u8>| {
         reference::read_sheet(sheet).expect("the sheet keeps the layout").0.reduce().0.iter().any(|step| step.kind() == 5)
     };
@@ -98,10 +112,15 @@ fn sliding_sheets() -> Vec<Vec<u8>> {
 }
 
 fn resting_sheets() -> Vec<Vec<u8>> {
-    let mut random = Random::new(SEED + 4);
+    let mut random = Random::new(SEED + 7);
     let resting =
         std::iter::repeat_with(|| generate::resting_draft(&mut random)).filter(|draft| draft.sizes.len() == 5 && draft.sizes[0] <= 4);
     resting.take(RESTING_SHEETS).map(|draft| draft.bytes()).collect()
+}
+
+fn wider_sheets() -> Vec<Vec<u8>> {
+    let mut random = Random::new(SEED + 5);
+    (0..WIDER_SHEETS).map(|_| generate::wider_draft(&mut random).bytes()).collect()
 }
 
 #[derive(Default)]
@@ -145,6 +164,12 @@ struct Counts {
     picked_not_first_of_all: u64,
     none_impossible: u64,
     none_at_rest: u64,
+    /// Sheets moved, by the version that they are moved to; those whose length changes; and choices that are plans by the bytes of both, and
+    /// by neither's.
+    moved_to: [u64; 2],
+    moved_shorter: u64,
+    plans_of_both: u64,
+    plans_of_neither: u64,
 }
 
 impl Counts {
@@ -188,6 +213,10 @@ impl Counts {
             self.picked_solved, self.picked_at_rest, self.picked_of_several, self.picked_not_first_of_all
         );
         println!("sheets without a plan: {} that end impossible, {} at rest", self.none_impossible, self.none_at_rest);
+        println!(
+            "sheets moved and moved back: {} to version 1, {} to version 2, {} of another length; choices: {} plans of both, {} of neither",
+            self.moved_to[0], self.moved_to[1], self.moved_shorter, self.plans_of_both, self.plans_of_neither
+        );
     }
 
     /// What falls short of its least count: what each sheet has one or four of, exactly; of the rest, half of what the seed gives.
@@ -227,6 +256,12 @@ impl Counts {
             ("plans picked that are not the first of all", self.picked_not_first_of_all, 540),
             ("impossible sheets without a plan", self.none_impossible, 2_800),
             ("sheets at rest without a plan", self.none_at_rest, 140),
+            ("sheets moved", self.moved_to.iter().sum(), SHEETS + WIDER_SHEETS as u64),
+            ("sheets moved to version 1", self.moved_to[0], SHEETS / 3),
+            ("sheets moved to version 2", self.moved_to[1], SHEETS / 3),
+            ("sheets moved to another length", self.moved_shorter, SHEETS / 2),
+            ("plans of both versions", self.plans_of_both, 20_000),
+            ("plans of neither", self.plans_of_neither, 50_000),
         ];
         let scaled = least.map(|(name, count, least)| (name, count, least / part));
         let short = scaled.iter().filter(|(_, count, least)| count < least);
@@ -594,4 +629,52 @@ fn orders(n: usize) -> Vec<Vec<usize>> {
         orders = orders.iter().flat_map(place).collect();
     }
     orders
+}
+
+// ---- The other version --------------------------------------------------------------------------------------------------------------
+
+/// Whether each block of these bytes allows the two settings that the choice gives its items.
+fn allowed_by_bytes(sheet: &[u8], choice: &[u8]) -> bool {
+    let (sizes, mut rest) = sheet[8..].split_at(usize::from(sheet[5]));
+    while let [i, j, rows @ ..] = rest {
+        let (i, j) = (usize::from(*i), usize::from(*j));
+        let row = usize::from(choice[i]);
+        let (word, length) = match (sheet[0], sizes[j]) {
+            (2, 1..=8) => (u16::from(rows[row]), usize::from(sizes[i])),
+            _ => (u16::from_be_bytes([rows[2 * row], rows[2 * row + 1]]), 2 * usize::from(sizes[i])),
+        };
+        if word >> choice[j] & 1 == 0 {
+            return false;
+        }
+        rest = &rows[length..];
+    }
+    true
+}
+
+/// The moved sheet is of the other version and keeps the layout, is moved back byte for byte, and has the same plans among all choices.
+fn moved(sheet: &[u8], counts: &mut Counts) {
+    let move_sheet = |sheet: &[u8]| {
+        let mut target = vec![77; MAX_SHEET];
+        let Written { bytes } = proved::move_sheet(sheet, &mut target).unwrap_or_else(|fault| panic!("{fault:?}: sheet {sheet:02x?}"));
+        target.truncate(bytes);
+        target
+    };
+    let moved = move_sheet(sheet);
+    assert_eq!(proved::read(&moved), proved::read(sheet), "a moved sheet is read otherwise: sheet {sheet:02x?}, moved {moved:02x?}");
+    assert_eq!((moved[0], move_sheet(&moved)), (3 - sheet[0], sheet.to_vec()), "moved {moved:02x?}");
+    let sizes = &sheet[8..8 + usize::from(sheet[5])];
+    let choices = sizes.iter().fold(vec![Vec::new()], |all: Vec<Vec<u8>>, &size| {
+        all.iter().flat_map(|choice| (0..size).map(move |setting| [&choice[..], &[setting]].concat())).collect()
+    });
+    for choice in choices {
+        let is_plan = allowed_by_bytes(sheet, &choice);
+        assert_eq!(
+            allowed_by_bytes(&moved, &choice),
+            is_plan,
+            "{choice:?} is a plan of one version: sheet {sheet:02x?}, moved {moved:02x?}"
+        );
+        *if is_plan { &mut counts.plans_of_both } else { &mut counts.plans_of_neither } += 1;
+    }
+    counts.moved_to[usize::from(moved[0]) - 1] += 1;
+    counts.moved_shorter += u64::from(moved.len() != sheet.len());
 }

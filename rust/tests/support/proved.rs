@@ -1,16 +1,17 @@
-//! The proved library by both its layers: the archive's function over buffers of any length and, where the state has its length, the
-//! library's function too. Both must give one answer and leave the same bytes.
-//!
-//! `raw` has the first layer alone, for the bench.
+//! The proved library by both its layers: the archive's functions over buffers of any length, in `raw`, and the library's, in `library`. The
+//! functions beside these two call both, which must give one answer and leave the same bytes.
 
-use zomuwedli::{HandState, Refusal, Run, State};
+use std::fmt::Debug;
 
-use super::{Accepted, Answer, Chosen, Done, Fault, Taken, Written, HAND_STATE_LENGTH, STATE_LENGTH};
+use zomuwedli::State;
+
+use super::{Accepted, Answer, Chosen, Done, Taken, Written};
 
 /// The archive's functions, their numbers read as answers.
 pub mod raw {
     use super::super::boundary::{self, PutBackFault};
-    use super::{Accepted, Answer, Chosen, Done, Fault, Taken, Written};
+    use super::super::Fault;
+    use super::{Accepted, Answer, Chosen, Done, Taken, Written};
     use zomuwedli::{End, Unlawful};
 
     pub fn read(sheet: &[u8]) -> Answer<Accepted> {
@@ -48,8 +49,15 @@ pub mod raw {
     }
 
     pub fn colour(file: &[u8], channels: u64, sheet: &mut [u8]) -> Answer<Written> {
-        let bytes = boundary::colour(file, channels, sheet).map_err(fault)?;
-        Ok(Written { bytes: bytes as usize })
+        boundary::colour(file, channels, sheet).map(written).map_err(fault)
+    }
+
+    pub fn move_sheet(sheet: &[u8], target: &mut [u8]) -> Answer<Written> {
+        boundary::move_sheet(sheet, target).map(written).map_err(fault)
+    }
+
+    fn written(bytes: u32) -> Written {
+        Written { bytes: bytes as usize }
     }
 
     fn fault(number: u8) -> Fault {
@@ -57,79 +65,122 @@ pub mod raw {
     }
 }
 
-pub fn read(sheet: &[u8]) -> Answer<Accepted> {
-    let answer = raw::read(sheet);
-    assert_eq!(refused(zomuwedli::read(sheet)), answer, "the library reads otherwise than the archive");
+/// The library's functions. A state is a type there, which a buffer of another length cannot be turned into: then nothing is called.
+pub mod library {
+    use super::super::{Fault, HAND_STATE_LENGTH, STATE_LENGTH};
+    use super::{Accepted, Answer, Chosen, Done, Taken, Written};
+    use zomuwedli::{HandState, Refusal, Run};
+
+    pub fn read(sheet: &[u8]) -> Answer<Accepted> {
+        refused(zomuwedli::read(sheet))
+    }
+
+    pub fn run(sheet: &[u8], trace: &mut [u8], state: &mut [u8]) -> Answer<Done> {
+        let state = run_state(state)?;
+        let run = refused(zomuwedli::run(sheet, trace))?;
+        Ok(done(run, state))
+    }
+
+    fn run_state(state: &mut [u8]) -> Answer<&mut [u8; STATE_LENGTH]> {
+        state.try_into().map_err(|_| Fault::RunStateLength)
+    }
+
+    /// What a run answers beside its state, which is written down.
+    fn done(run: Run, state: &mut [u8; STATE_LENGTH]) -> Done {
+        *state = run.state.to_bytes();
+        Done { end: run.end, steps: run.steps, written: run.written }
+    }
+
+    pub fn start(sheet: &[u8], state: &mut [u8]) -> Answer<()> {
+        let state = hand_state(state)?;
+        *state = refused(zomuwedli::start(sheet))?.to_bytes();
+        Ok(())
+    }
+
+    fn hand_state(state: &mut [u8]) -> Answer<&mut [u8; HAND_STATE_LENGTH]> {
+        state.try_into().map_err(|_| Fault::HandStateLength)
+    }
+
+    pub fn hand_call(sheet: &[u8], state: &mut [u8], item: u64) -> Answer<Taken> {
+        let state = hand_state(state)?;
+        let mut given = HandState::from_bytes(*state);
+        let answer = refused(zomuwedli::hand_call(sheet, &mut given, item));
+        *state = given.to_bytes();
+        answer
+    }
+
+    pub fn put_back(sheet: &[u8], trace: &[u8], plan: &[u8], result: &mut [u8]) -> Answer<()> {
+        zomuwedli::put_back(sheet, trace, plan, result).map_err(Fault::from)
+    }
+
+    pub fn pick(sheet: &[u8], trace: &mut [u8], plan: &mut [u8], state: &mut [u8]) -> Answer<Chosen> {
+        let state = run_state(state)?;
+        let picked = refused(zomuwedli::pick(sheet, trace, plan))?;
+        Ok(Chosen { run: done(picked.run, state), has_plan: picked.has_plan })
+    }
+
+    pub fn colour(file: &[u8], channels: u64, sheet: &mut [u8]) -> Answer<Written> {
+        refused(zomuwedli::colour(file, channels, sheet))
+    }
+
+    pub fn move_sheet(sheet: &[u8], target: &mut [u8]) -> Answer<Written> {
+        refused(zomuwedli::move_sheet(sheet, target))
+    }
+
+    fn refused<T>(answer: Result<T, Refusal>) -> Answer<T> {
+        answer.map_err(Fault::Refused)
+    }
+}
+
+/// Two calls, the second with copies of the buffers: one answer, and the same bytes.
+pub fn both<T: PartialEq + Debug, const N: usize>(
+    mut buffers: [&mut [u8]; N],
+    first: impl FnOnce([&mut [u8]; N]) -> Answer<T>,
+    second: impl FnOnce([&mut [u8]; N]) -> Answer<T>,
+) -> Answer<T> {
+    let mut copies: Vec<Box<[u8]>> = buffers.iter().map(|buffer| Box::from(&**buffer)).collect();
+    let (mut lent, mut lent_copies) = (buffers.iter_mut(), copies.iter_mut());
+    let answer = first(std::array::from_fn(|_| &mut **lent.next().expect("each buffer")));
+    let other = second(std::array::from_fn(|_| &mut **lent_copies.next().expect("a copy of each")));
+    assert_eq!(other, answer, "the second call answers otherwise than the first");
+    assert!(buffers.iter().zip(&copies).all(|(buffer, copy)| **buffer == **copy), "the second call leaves other bytes than the first");
     answer
+}
+
+pub fn read(sheet: &[u8]) -> Answer<Accepted> {
+    both([], |[]| raw::read(sheet), |[]| library::read(sheet))
 }
 
 pub fn run(sheet: &[u8], trace: &mut [u8], state: &mut [u8]) -> Answer<Done> {
-    let mut other: Box<[u8]> = Box::from(&*trace);
-    let answer = raw::run(sheet, trace, state);
-    if state.len() == STATE_LENGTH {
-        let ran = refused(zomuwedli::run(sheet, &mut other));
-        let states_agree = ran.as_ref().map_or(true, |run| run.state.to_bytes() == *state);
-        assert!(ran.map(done) == answer && states_agree && *other == *trace, "the library runs otherwise than the archive");
-    }
-    answer
-}
-
-/// What a run answers beside its state.
-fn done(run: Run) -> Done {
-    Done { end: run.end, steps: run.steps, written: run.written }
-}
-
-pub fn pick(sheet: &[u8], trace: &mut [u8], plan: &mut [u8], state: &mut [u8]) -> Answer<Chosen> {
-    let (mut other_trace, mut other_plan): (Box<[u8]>, Box<[u8]>) = (Box::from(&*trace), Box::from(&*plan));
-    let answer = raw::pick(sheet, trace, plan, state);
-    if state.len() == STATE_LENGTH {
-        let picked = refused(zomuwedli::pick(sheet, &mut other_trace, &mut other_plan));
-        let states_agree = picked.as_ref().map_or(true, |picked| picked.run.state.to_bytes() == *state);
-        let chosen = picked.map(|picked| Chosen { run: done(picked.run), has_plan: picked.has_plan });
-        let buffers_agree = *other_trace == *trace && *other_plan == *plan;
-        assert!(chosen == answer && states_agree && buffers_agree, "the library picks otherwise than the archive");
-    }
-    answer
+    both([trace, state], |[trace, state]| raw::run(sheet, trace, state), |[trace, state]| library::run(sheet, trace, state))
 }
 
 pub fn start(sheet: &[u8], state: &mut [u8]) -> Answer<()> {
-    let answer = raw::start(sheet, state);
-    if state.len() == HAND_STATE_LENGTH {
-        let started = refused(zomuwedli::start(sheet));
-        let states_agree = started.as_ref().map_or(true, |started| started.to_bytes() == *state);
-        assert!(started.map(|_| ()) == answer && states_agree, "the library starts otherwise than the archive");
-    }
-    answer
+    both([state], |[state]| raw::start(sheet, state), |[state]| library::start(sheet, state))
 }
 
 pub fn hand_call(sheet: &[u8], state: &mut [u8], item: u64) -> Answer<Taken> {
-    let given = <[u8; HAND_STATE_LENGTH]>::try_from(&*state).map(HandState::from_bytes);
-    let answer = raw::hand_call(sheet, state, item);
-    if let Ok(mut other) = given {
-        let called = refused(zomuwedli::hand_call(sheet, &mut other, item));
-        assert!(called == answer && other.to_bytes() == *state, "the library calls otherwise than the archive");
-    }
-    answer
+    both([state], |[state]| raw::hand_call(sheet, state, item), |[state]| library::hand_call(sheet, state, item))
 }
 
 pub fn put_back(sheet: &[u8], trace: &[u8], plan: &[u8], result: &mut [u8]) -> Answer<()> {
-    let mut other: Box<[u8]> = Box::from(&*result);
-    let answer = raw::put_back(sheet, trace, plan, result);
-    let put = zomuwedli::put_back(sheet, trace, plan, &mut other).map_err(Fault::from);
-    assert!(put == answer && *other == *result, "the library puts back otherwise than the archive");
-    answer
+    both([result], |[result]| raw::put_back(sheet, trace, plan, result), |[result]| library::put_back(sheet, trace, plan, result))
+}
+
+pub fn pick(sheet: &[u8], trace: &mut [u8], plan: &mut [u8], state: &mut [u8]) -> Answer<Chosen> {
+    both(
+        [trace, plan, state],
+        |[trace, plan, state]| raw::pick(sheet, trace, plan, state),
+        |[trace, plan, state]| library::pick(sheet, trace, plan, state),
+    )
 }
 
 pub fn colour(file: &[u8], channels: u64, sheet: &mut [u8]) -> Answer<Written> {
-    let mut other: Box<[u8]> = Box::from(&*sheet);
-    let answer = raw::colour(file, channels, sheet);
-    let coloured = refused(zomuwedli::colour(file, channels, &mut other));
-    assert!(coloured == answer && *other == *sheet, "the library colours otherwise than the archive");
-    answer
+    both([sheet], |[sheet]| raw::colour(file, channels, sheet), |[sheet]| library::colour(file, channels, sheet))
 }
 
-fn refused<T>(answer: Result<T, Refusal>) -> Answer<T> {
-    answer.map_err(Fault::Refused)
+pub fn move_sheet(sheet: &[u8], target: &mut [u8]) -> Answer<Written> {
+    both([target], |[target]| raw::move_sheet(sheet, target), |[target]| library::move_sheet(sheet, target))
 }
 
 /// The state that these bytes hold, which must be as many as a state has.
