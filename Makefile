@@ -13,7 +13,7 @@ CFLAGS = -O2
 
 ARCHIVE = target/staticlib/libzomuwedli.a
 HEADER = include/zomuwedli.h
-EXAMPLES = run plan hand put_back colour
+EXAMPLES = run plan hand put_back colour move
 
 # the header's version, so that it stands in one place
 VERSION = $(shell sed -n 's/.*define ZOMUWEDLI_VERSION "\(.*\)"/\1/p' $(HEADER))

@@ -42,8 +42,9 @@ static int as_lent(const uint8_t *bytes, size_t length)
     return 1;
 }
 
-/* B: two items of 2, unequal. */
+/* B: two items of 2, unequal; and the same in version 2. */
 static const uint8_t sheet_b[] = {1, 0, 0, 0, 16, 2, 0, 1, 2, 2, 0, 1, 0, 2, 0, 1};
+static const uint8_t moved_b[] = {2, 0, 0, 0, 14, 2, 0, 1, 2, 2, 0, 1, 2, 1};
 
 /* C: three items of 2, each pair unequal. */
 static const uint8_t sheet_c[] = {1, 0, 0, 0, 29, 3, 0, 3, 2, 2, 2, 0, 1, 0, 2, 0, 1, 0, 2, 0, 2, 0, 1, 1, 2, 0, 2, 0, 1};
@@ -57,32 +58,90 @@ static const uint8_t trace_k[] = {1, 4, 5, 0, 2, 0, 3, 3, 1, 0, 3, 2, 0, 0, 3, 2
 
 static const uint8_t trace_b[] = {1, 3, 2, 0, 0, 3, 2, 1, 0};
 
-/* The read check of sheet B with one byte changed. */
-static uint64_t read_changed(size_t place, uint8_t value)
+/* A copy of exactly so many bytes on the heap, so that memcheck sees a byte beyond it. */
+static uint8_t *copied(const uint8_t *bytes, size_t length)
 {
-    uint8_t sheet[sizeof sheet_b];
-    memcpy(sheet, sheet_b, sizeof sheet);
+    uint8_t *copy = lent(length);
+    for (size_t k = 0; k < length; k++) {
+        copy[k] = bytes[k];
+    }
+    return copy;
+}
+
+/* A move into a target of so many bytes: the length, the bytes, and the old ones after them. */
+static void move_done(const uint8_t *bytes, size_t length, const uint8_t *expected, size_t written, size_t target_length)
+{
+    uint8_t *sheet = copied(bytes, length), *target = lent(target_length), *old = lent(target_length);
+    uint64_t answer = zomuwedli_move(sheet, length, target, target_length);
+    EXPECT(zomuwedli_number(answer) == ZOMUWEDLI_DONE);
+    EXPECT(zomuwedli_sheet_written(answer) == written);
+    EXPECT(answer >> 32 == 0);
+    EXPECT(memcmp(sheet, bytes, length) == 0);
+    EXPECT(memcmp(target, expected, written) == 0);
+    EXPECT(memcmp(target + written, old + written, target_length - written) == 0);
+    free(sheet);
+    free(target);
+    free(old);
+}
+
+/* The whole answer is the number, and no byte of sheet or target is changed. */
+static void move_refused(const uint8_t *bytes, size_t length, size_t target_length, uint64_t number)
+{
+    uint8_t *sheet = copied(bytes, length), *target = lent(target_length);
+    EXPECT(zomuwedli_move(sheet, length, target, target_length) == number);
+    EXPECT(memcmp(sheet, bytes, length) == 0);
+    EXPECT(as_lent(target, target_length));
+    free(sheet);
+    free(target);
+}
+
+/* A sheet that the read check refuses, and the move too, whatever its target is. */
+static void sheet_refused(const uint8_t *bytes, size_t length, uint64_t number)
+{
+    uint8_t *sheet = copied(bytes, length);
+    EXPECT(zomuwedli_read(sheet, length) == number);
+    move_refused(sheet, length, 0, number);
+    move_refused(sheet, length, ZOMUWEDLI_MAX_SHEET, number);
+    free(sheet);
+}
+
+static void changed_refused(const uint8_t *bytes, size_t length, size_t place, uint8_t value, uint64_t number)
+{
+    uint8_t *sheet = copied(bytes, length);
     sheet[place] = value;
-    return zomuwedli_read(sheet, sizeof sheet);
+    sheet_refused(sheet, length, number);
+    free(sheet);
+}
+
+/* Sheet B, in either version, with each fault that a sheet can have; `row` is the byte of its first row that has settings 0 to 7. */
+static void faults(const uint8_t *bytes, size_t length, size_t row)
+{
+    uint8_t *full_row = copied(bytes, length);
+    full_row[row] = 3;
+    sheet_refused(bytes, 0, ZOMUWEDLI_REFUSED_SHEET_FRONT);
+    sheet_refused(bytes, 7, ZOMUWEDLI_REFUSED_SHEET_FRONT);
+    changed_refused(bytes, length, 0, 0, ZOMUWEDLI_REFUSED_SHEET_VERSION);
+    changed_refused(bytes, length, 0, 3, ZOMUWEDLI_REFUSED_SHEET_VERSION);
+    sheet_refused(bytes, length - 1, ZOMUWEDLI_REFUSED_SHEET_LENGTH);
+    changed_refused(bytes, length, 5, 33, ZOMUWEDLI_REFUSED_ITEM_COUNT);
+    changed_refused(bytes, length, 8, 17, ZOMUWEDLI_REFUSED_ITEM_SIZE);
+    changed_refused(bytes, length, 0, 3 - bytes[0], ZOMUWEDLI_REFUSED_BLOCK_BYTES);
+    changed_refused(bytes, length, 7, 2, ZOMUWEDLI_REFUSED_BLOCK_BYTES);
+    changed_refused(bytes, length, 10, 1, ZOMUWEDLI_REFUSED_BLOCK_ORDER);
+    changed_refused(bytes, length, row, 4, ZOMUWEDLI_REFUSED_ROW_BEYOND);
+    changed_refused(full_row, length, length - 1, 3, ZOMUWEDLI_REFUSED_BARS_NOTHING);
+    free(full_row);
 }
 
 static void read_check(void)
 {
-    const uint8_t bars_nothing[] = {1, 0, 0, 0, 16, 2, 0, 1, 2, 2, 0, 1, 0, 3, 0, 3};
     uint64_t answer = zomuwedli_read(sheet_c, sizeof sheet_c);
     EXPECT(zomuwedli_number(answer) == ZOMUWEDLI_DONE);
     EXPECT(zomuwedli_items(answer) == 3);
     EXPECT(zomuwedli_blocks(answer) == 3);
     EXPECT(zomuwedli_read(NULL, 0) == ZOMUWEDLI_REFUSED_SHEET_FRONT);
-    EXPECT(zomuwedli_read(sheet_b, 7) == ZOMUWEDLI_REFUSED_SHEET_FRONT);
-    EXPECT(read_changed(0, 2) == ZOMUWEDLI_REFUSED_SHEET_VERSION);
-    EXPECT(zomuwedli_read(sheet_b, 15) == ZOMUWEDLI_REFUSED_SHEET_LENGTH);
-    EXPECT(read_changed(5, 33) == ZOMUWEDLI_REFUSED_ITEM_COUNT);
-    EXPECT(read_changed(8, 17) == ZOMUWEDLI_REFUSED_ITEM_SIZE);
-    EXPECT(read_changed(7, 2) == ZOMUWEDLI_REFUSED_BLOCK_BYTES);
-    EXPECT(read_changed(10, 1) == ZOMUWEDLI_REFUSED_BLOCK_ORDER);
-    EXPECT(read_changed(13, 4) == ZOMUWEDLI_REFUSED_ROW_BEYOND);
-    EXPECT(zomuwedli_read(bars_nothing, sizeof bars_nothing) == ZOMUWEDLI_REFUSED_BARS_NOTHING);
+    faults(sheet_b, sizeof sheet_b, 13);
+    faults(moved_b, sizeof moved_b, 12);
 }
 
 static void run_done(size_t trace_length)
@@ -197,8 +256,7 @@ static void unlawful(const uint8_t *sheet, size_t sheet_length, const uint8_t *b
                      unsigned setting)
 {
     const uint8_t plan[32] = {0};
-    uint8_t *trace = lent(length), *result = lent(sheet[5]);
-    memcpy(trace, bytes, length);
+    uint8_t *trace = copied(bytes, length), *result = lent(sheet[5]);
     uint64_t answer = zomuwedli_put_back(sheet, sheet_length, trace, length, plan, sheet[5], result, sheet[5]);
     EXPECT(zomuwedli_number(answer) == ZOMUWEDLI_REFUSED_RECORD_UNLAWFUL);
     EXPECT(zomuwedli_unlawful_record(answer) == record);
@@ -333,8 +391,7 @@ static const uint8_t path_sheet[] = {1, 0, 0, 0, 30, 4, 0, 3, 2, 2, 2, 2, 0, 1, 
 /* The call with a file of exactly so many bytes on the heap, so that memcheck sees a byte beyond it. */
 static uint64_t coloured(const char *text, size_t length, uint64_t channels, uint8_t *sheet, size_t sheet_length)
 {
-    uint8_t *file = lent(length);
-    memcpy(file, text, length);
+    uint8_t *file = copied((const uint8_t *)text, length);
     uint64_t answer = zomuwedli_colour(file, length, channels, sheet, sheet_length);
     EXPECT(memcmp(file, text, length) == 0);
     free(file);
@@ -403,6 +460,93 @@ static void longest_file(void)
     free(sheet);
 }
 
+/* The sheet of docs/FORMAT.md, "The sheet", that has both widths: items of 8, 9 and 8 settings. */
+static const uint8_t sheet_widths[] = {1, 0, 0, 0, 49, 3, 0, 2, 8, 9, 8,
+                                       0, 1, 0, 3, 0, 6, 0, 12, 0, 24, 0, 48, 0, 96, 0, 192, 1, 128,
+                                       1, 2, 0, 1, 0, 2, 0, 4, 0, 8, 0, 16, 0, 32, 0, 64, 0, 128, 0, 1};
+static const uint8_t moved_widths[] = {2, 0, 0, 0, 40, 3, 0, 2, 8, 9, 8,
+                                       0, 1, 0, 3, 0, 6, 0, 12, 0, 24, 0, 48, 0, 96, 0, 192, 1, 128,
+                                       1, 2, 1, 2, 4, 8, 16, 32, 64, 128, 1};
+
+/* Both ways, with targets just long enough, longer, and too short: 26 goes by the length of what is written. */
+static void moves(void)
+{
+    move_done(sheet_b, sizeof sheet_b, moved_b, sizeof moved_b, sizeof moved_b);
+    move_done(sheet_b, sizeof sheet_b, moved_b, sizeof moved_b, ZOMUWEDLI_MAX_SHEET);
+    move_done(moved_b, sizeof moved_b, sheet_b, sizeof sheet_b, sizeof sheet_b);
+    move_done(moved_b, sizeof moved_b, sheet_b, sizeof sheet_b, sizeof sheet_b + 5);
+    move_done(sheet_widths, sizeof sheet_widths, moved_widths, sizeof moved_widths, sizeof moved_widths);
+    move_done(moved_widths, sizeof moved_widths, sheet_widths, sizeof sheet_widths, sizeof sheet_widths);
+    move_refused(sheet_b, sizeof sheet_b, sizeof moved_b - 1, ZOMUWEDLI_REFUSED_TARGET_BUFFER);
+    move_refused(moved_b, sizeof moved_b, sizeof sheet_b - 1, ZOMUWEDLI_REFUSED_TARGET_BUFFER);
+    move_refused(moved_b, sizeof moved_b, sizeof moved_b, ZOMUWEDLI_REFUSED_TARGET_BUFFER);
+    EXPECT(zomuwedli_move(sheet_b, sizeof sheet_b, NULL, 0) == ZOMUWEDLI_REFUSED_TARGET_BUFFER);
+    EXPECT(zomuwedli_move(NULL, 0, NULL, 0) == ZOMUWEDLI_REFUSED_SHEET_FRONT);
+}
+
+/* What the other calls answer on one sheet, and all that they write. */
+struct told {
+    uint64_t read, run, start, calls[ZOMUWEDLI_MAX_ITEMS + 1], put_back, pick;
+    uint8_t trace[ZOMUWEDLI_MAX_TRACE], state[ZOMUWEDLI_STATE_LENGTH], hand_state[ZOMUWEDLI_HAND_STATE_LENGTH], result[ZOMUWEDLI_MAX_ITEMS];
+    uint8_t pick_trace[ZOMUWEDLI_MAX_TRACE], plan[ZOMUWEDLI_MAX_ITEMS], pick_state[ZOMUWEDLI_STATE_LENGTH];
+};
+
+/* A hand call names each item, and one that there is not. */
+static void tell(struct told *told, const uint8_t *sheet, size_t length, const uint8_t *trace, size_t trace_length, const uint8_t *plan)
+{
+    const size_t n = sheet[5];
+    memset(told, 0xa5, sizeof *told);
+    told->read = zomuwedli_read(sheet, length);
+    told->run = zomuwedli_run(sheet, length, told->trace, sizeof told->trace, told->state, sizeof told->state);
+    told->start = zomuwedli_start(sheet, length, told->hand_state, sizeof told->hand_state);
+    for (size_t item = 0; item <= n; item++) {
+        told->calls[item] = zomuwedli_hand_call(sheet, length, told->hand_state, sizeof told->hand_state, item);
+    }
+    told->put_back = zomuwedli_put_back(sheet, length, trace, trace_length, plan, n, told->result, n);
+    told->pick = zomuwedli_pick(sheet, length, told->pick_trace, sizeof told->pick_trace, told->plan, n, told->pick_state,
+                                sizeof told->pick_state);
+}
+
+/* Every other call answers on the moved sheet as on the sheet, whatever else it is lent, and leaves the same bytes; putting back is expected
+ * to answer so. */
+static void alike(const uint8_t *sheet, size_t length, const uint8_t *trace, size_t trace_length, const uint8_t *plan, uint64_t expected)
+{
+    static struct told here, there;
+    uint8_t *target = lent(length);
+    size_t written = zomuwedli_sheet_written(zomuwedli_move(sheet, length, target, length));
+    uint8_t *moved = copied(target, written);
+    EXPECT(moved[0] == 2);
+    tell(&here, sheet, length, trace, trace_length, plan);
+    tell(&there, moved, written, trace, trace_length, plan);
+    EXPECT(here.read == there.read && here.run == there.run && here.start == there.start && here.pick == there.pick);
+    EXPECT(zomuwedli_number(there.read) == 0 && zomuwedli_number(there.run) == 0 && there.start == 0 && zomuwedli_number(there.pick) == 0);
+    EXPECT(here.put_back == expected && there.put_back == expected);
+    EXPECT(memcmp(&here, &there, sizeof here) == 0);
+    free(target);
+    free(moved);
+}
+
+/* Traces and plans that were made with version 1 serve with version 2, and are refused with it as they were. A trace has no version 2. */
+static void version_2(void)
+{
+    const uint8_t out[] = {ZOMUWEDLI_OUT, ZOMUWEDLI_OUT, ZOMUWEDLI_OUT}, barred[] = {0, 1, 0}, trace_2[] = {2};
+    const uint8_t bare_d[] = {1, 4, ZOMUWEDLI_BARE, 0, 0, 1}, cut[] = {1, 3}, none[] = {1};
+    const uint8_t spoiled[] = {1, 3, ZOMUWEDLI_SNAKE, 1, 0, 4, ZOMUWEDLI_COVER, 0, 0, 1};
+    const uint8_t widths[] = {1, 3, ZOMUWEDLI_SNAKE, 1, 0, 3, ZOMUWEDLI_SNAKE, 0, 0, 3, ZOMUWEDLI_SNAKE, 2, 0};
+    alike(sheet_b, sizeof sheet_b, trace_b, sizeof trace_b, out, ZOMUWEDLI_DONE);
+    alike(sheet_b, sizeof sheet_b, trace_2, sizeof trace_2, barred, ZOMUWEDLI_REFUSED_TRACE_FRONT);
+    alike(sheet_c, sizeof sheet_c, none, sizeof none, barred, ZOMUWEDLI_REFUSED_PLAN_UNFIT);
+    alike(sheet_c, sizeof sheet_c, cut, sizeof cut, barred, ZOMUWEDLI_REFUSED_RECORD_SHAPE);
+    alike(sheet_d, sizeof sheet_d, bare_d, sizeof bare_d, out, ZOMUWEDLI_REFUSED_PLAN_UNFIT);
+    alike(sheet_k, sizeof sheet_k, trace_k, sizeof trace_k, out, ZOMUWEDLI_DONE);
+    alike(sheet_cover, sizeof sheet_cover, spoiled, sizeof spoiled, out, UINT64_C(0x0000000302000111));
+    alike(sheet_widths, sizeof sheet_widths, widths, sizeof widths, out, ZOMUWEDLI_DONE);
+    run_refused(moved_b, sizeof moved_b, 20, ZOMUWEDLI_STATE_LENGTH, ZOMUWEDLI_REFUSED_TRACE_BUFFER);
+    pick_done(moved_b, sizeof moved_b, 21, (const uint8_t[]){0, 1}, UINT64_C(0x0001000900020100));
+    pick_refused(moved_b, sizeof moved_b, 21, 3, ZOMUWEDLI_STATE_LENGTH, ZOMUWEDLI_REFUSED_RESULT_LENGTH);
+    pick_refused(moved_b, sizeof moved_b - 1, 20, 3, ZOMUWEDLI_STATE_LENGTH, ZOMUWEDLI_REFUSED_SHEET_LENGTH);
+}
+
 static void version(void)
 {
     char text[32];
@@ -412,7 +556,7 @@ static void version(void)
 }
 
 /* The numbers that the format has. They stand here again, so that one that the header lacks is missed. */
-static int is_refusal(unsigned number) { return (number >= 1 && number <= 25) || number == 200 || number == 201; }
+static int is_refusal(unsigned number) { return (number >= 1 && number <= 26) || number == 200 || number == 201; }
 
 /* Each refusal has a text of its own, 0 has "done", and every other number has one text, which is none of these. */
 static void texts(void)
@@ -470,13 +614,10 @@ static volatile unsigned seen;
  * stands after them is malformed. */
 static int walked(const uint8_t *bytes, size_t length)
 {
-    uint8_t *trace = lent(length);
+    uint8_t *trace = copied(bytes, length);
     struct zomuwedli_record record;
     size_t at = ZOMUWEDLI_TRACE_FIRST, from = at;
     int records = 0, more;
-    for (size_t k = 0; k < length; k++) {
-        trace[k] = bytes[k];
-    }
     while ((more = zomuwedli_next_record(trace, length, &at, &record)) == 1) {
         records++;
         seen = record.item + record.third + record.fourth;
@@ -502,8 +643,7 @@ static void walk_astray(void)
 {
     static const size_t places[] = {0, 2, sizeof trace_b + 1, SIZE_MAX};
     const struct zomuwedli_record untouched = {91, 92, 93, 94, 95};
-    uint8_t *trace = lent(sizeof trace_b);
-    memcpy(trace, trace_b, sizeof trace_b);
+    uint8_t *trace = copied(trace_b, sizeof trace_b);
     for (unsigned k = 0; k < sizeof places / sizeof places[0]; k++) {
         struct zomuwedli_record record = untouched;
         size_t at = places[k];
@@ -574,5 +714,7 @@ int main(void)
     colour_done(ZOMUWEDLI_MAX_SHEET);
     colour_causes();
     longest_file();
+    moves();
+    version_2();
     return failures == 0 ? 0 : 1;
 }

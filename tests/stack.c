@@ -1,7 +1,7 @@
 /* Measures the stack that each exported function uses and fails above the limits that include/zomuwedli.h states: no contract speaks of
  * the stack. Each call runs in a thread whose stack was filled with a pattern; what is no longer the pattern was used. A job is measured
- * on several sheets, or on files of which these are the sheets, and the most counts. A thread that does not start, a call that does not
- * answer as expected, and a figure too small to be one of a call that was made are failures. */
+ * on several sheets, of both versions, or on files of which these are the sheets, and the most counts. A thread that does not start, a
+ * call that does not answer as expected, and a figure too small to be one of a call that was made are failures. */
 #define _POSIX_C_SOURCE 200809L
 #include <pthread.h>
 #include <stdio.h>
@@ -13,7 +13,7 @@
 enum { STACK = 1 << 20, PATTERN = 0xa5, LEAST = 64, ITEMS = ZOMUWEDLI_MAX_ITEMS, SETTINGS = ZOMUWEDLI_MAX_SETTINGS };
 
 /* ---- The sheets: 32 items of 16 settings, without a block, or with a block for each pair that a relation bars something of; and 32 items
- * whose run takes slides. */
+ * whose run takes slides, in version 2 too, where the rows have one byte. */
 struct sheet {
     const char *name;
     size_t length;
@@ -22,7 +22,8 @@ struct sheet {
 
 static struct sheet no_block = {.name = "no block"}, unequal = {.name = "unequal"}, less = {.name = "less"},
                     parity = {.name = "unlike parity"}, equal = {.name = "equal"}, sliding = {.name = "slides"},
-                    one = {.name = "one plan"}, circle = {.name = "unlike parity round a circle"}, deep = {.name = "a deep search"};
+                    shorter = {.name = "slides, version 2"}, one = {.name = "one plan"},
+                    circle = {.name = "unlike parity round a circle"}, deep = {.name = "a deep search"};
 
 /* Whether setting a of item i and setting b of item j, the higher one, may stand together. */
 typedef unsigned relation(unsigned i, unsigned a, unsigned j, unsigned b);
@@ -112,13 +113,12 @@ static void fill_pairs(struct sheet *sheet, relation *allowed)
 
 /* Sheets K and L of docs/FORMAT.md, "Bench sheets", by turns, five of each, and two items of 16 settings without a block. K's run is a slide,
  * a fold and two snakes, L's a slide and a bare step. */
-static void fill_sliding(struct sheet *sheet)
+static void fill_sliding(struct sheet *sheet, uint8_t version)
 {
-    static const uint8_t front[8] = {1, 0, 0, 270 >> 8, 270 & 0xff, ITEMS, 0, 30}, sizes[2][3] = {{3, 2, 2}, {3, 3, 2}};
+    static const uint8_t sizes[2][3] = {{3, 2, 2}, {3, 3, 2}};
     static const uint8_t pairs[3][2] = {{0, 1}, {0, 2}, {1, 2}};
     static const uint8_t rows[2][3][3] = {{{1, 2, 1}, {2, 1, 1}, {2, 3}}, {{6, 1, 4}, {1, 1, 3}, {1, 3, 2}}};
     uint8_t *at = sheet->bytes + 8 + ITEMS;
-    memcpy(sheet->bytes, front, 8);
     memset(sheet->bytes + 8, SETTINGS, ITEMS);
     for (unsigned group = 0; group < 10; group++) {
         memcpy(sheet->bytes + 8 + 3 * group, sizes[group % 2], 3);
@@ -126,12 +126,15 @@ static void fill_sliding(struct sheet *sheet)
             *at++ = (uint8_t)(3 * group + pairs[pair][0]);
             *at++ = (uint8_t)(3 * group + pairs[pair][1]);
             for (unsigned a = 0; a < sizes[group % 2][pairs[pair][0]]; a++) {
-                *at++ = 0;
+                if (version == 1) {
+                    *at++ = 0;
+                }
                 *at++ = rows[group % 2][pair][a];
             }
         }
     }
     sheet->length = (size_t)(at - sheet->bytes);
+    memcpy(sheet->bytes, (const uint8_t[]){version, 0, 0, (uint8_t)(sheet->length >> 8), (uint8_t)sheet->length, ITEMS, 0, 30}, 8);
 }
 
 /* ---- The jobs. Each answers what the function answers, and a figure of what was written, so that a call that did nothing shows. */
@@ -255,20 +258,39 @@ static uint64_t colour(const struct sheet *sheet)
     return answer | (uint64_t)(memcmp(coloured, sheet->bytes, sheet->length) == 0) << 32;
 }
 
+static uint8_t target[ZOMUWEDLI_MAX_SHEET], again[ZOMUWEDLI_MAX_SHEET];
+
+static void prepare_move(const struct sheet *sheet)
+{
+    (void)sheet;
+    memset(target, PATTERN, sizeof target);
+    memset(again, PATTERN, sizeof again);
+}
+
+/* Both ways. Whether the sheet came back, by way of the other version, stands above the first answer. */
+static uint64_t move(const struct sheet *sheet)
+{
+    uint64_t answer = zomuwedli_move(sheet->bytes, sheet->length, target, sizeof target);
+    uint64_t back = zomuwedli_move(target, zomuwedli_sheet_written(answer), again, sizeof again);
+    int came_back = zomuwedli_sheet_written(back) == sheet->length && memcmp(again, sheet->bytes, sheet->length) == 0;
+    return answer | (uint64_t)(came_back && target[0] == 3 - sheet->bytes[0]) << 32;
+}
+
 /* ---- What is measured, and what each call answers. */
 #define READ_ANSWER(blocks) ((uint64_t)ITEMS << 8 | (uint64_t)(blocks) << 16)
 #define RUN_ANSWER(end, steps, bytes) ((uint64_t)(end) << 8 | (uint64_t)(steps) << 16 | (uint64_t)(bytes) << 32)
+#define SLIDING_ANSWER RUN_ANSWER(ZOMUWEDLI_REST, 2 + 5 * (4 + 2), 1 + 4 * 2 + 5 * (17 + 10))
 #define PICK_ANSWER(run, has_plan, figure) ((run) | (uint64_t)(has_plan) << 48 | (uint64_t)(figure) << 49)
-#define COLOUR_ANSWER(bytes) ((uint64_t)(bytes) << 8)
+#define SHEET_ANSWER(bytes) ((uint64_t)(bytes) << 8)
 #define AND(answer, figure) ((uint64_t)(answer) | (uint64_t)(figure) << 32)
 
 /* What is enough for any call but putting back and picking is enough for each of them. */
 _Static_assert(ZOMUWEDLI_READ_STACK <= ZOMUWEDLI_STACK && ZOMUWEDLI_RUN_STACK <= ZOMUWEDLI_STACK
                    && ZOMUWEDLI_START_STACK <= ZOMUWEDLI_STACK && ZOMUWEDLI_HAND_CALL_STACK <= ZOMUWEDLI_STACK
-                   && ZOMUWEDLI_COLOUR_STACK <= ZOMUWEDLI_STACK,
+                   && ZOMUWEDLI_COLOUR_STACK <= ZOMUWEDLI_STACK && ZOMUWEDLI_MOVE_STACK <= ZOMUWEDLI_STACK,
                "ZOMUWEDLI_STACK is less than some call's own");
 
-enum { MOST_CALLS = 8 };
+enum { MOST_CALLS = 9 };
 
 struct job {
     const char *name;
@@ -283,9 +305,13 @@ struct job {
 
 static const struct job baseline = {"a thread alone", STACK, prepare_nothing, nothing, {{&no_block, 0}}};
 
-/* The runs take steps of kinds 2, none, 1, 4 and 3, and the last of 5, 3, 2 and 1. */
+/* The runs take steps of kinds 2, none, 1, 4 and 3, and the last two of 5, 3, 2 and 1. */
 static const struct job jobs[] = {
-    {"read", ZOMUWEDLI_READ_STACK, prepare_nothing, read_check, {{&no_block, READ_ANSWER(0)}, {&unequal, READ_ANSWER(496)}}},
+    {"read",
+     ZOMUWEDLI_READ_STACK,
+     prepare_nothing,
+     read_check,
+     {{&no_block, READ_ANSWER(0)}, {&unequal, READ_ANSWER(496)}, {&shorter, READ_ANSWER(30)}}},
     {"run",
      ZOMUWEDLI_RUN_STACK,
      prepare_nothing,
@@ -295,22 +321,35 @@ static const struct job jobs[] = {
       {&less, RUN_ANSWER(ZOMUWEDLI_IMPOSSIBLE, 241, 1 + 5 * 241)},
       {&parity, RUN_ANSWER(ZOMUWEDLI_REST, 448, 1 + 5 * 448)},
       {&equal, RUN_ANSWER(ZOMUWEDLI_SOLVED, 32, 1 + 4 * 32)},
-      {&sliding, RUN_ANSWER(ZOMUWEDLI_REST, 2 + 5 * (4 + 2), 1 + 4 * 2 + 5 * (17 + 10))}}},
+      {&sliding, SLIDING_ANSWER},
+      {&shorter, SLIDING_ANSWER}}},
     {"start",
      ZOMUWEDLI_START_STACK,
      prepare_start,
      start,
-     {{&no_block, AND(0, UINT32_MAX)}, {&unequal, AND(0, UINT32_MAX)}, {&less, AND(0, UINT32_MAX)}, {&parity, AND(0, UINT32_MAX)}}},
+     {{&no_block, AND(0, UINT32_MAX)},
+      {&unequal, AND(0, UINT32_MAX)},
+      {&less, AND(0, UINT32_MAX)},
+      {&parity, AND(0, UINT32_MAX)},
+      {&shorter, AND(0, UINT32_MAX)}}},
     {"hand call",
      ZOMUWEDLI_HAND_CALL_STACK,
      prepare_hand_call,
      hand_call,
-     {{&no_block, AND(0, UINT32_MAX >> 1)}, {&unequal, AND(14, UINT32_MAX)}, {&less, AND(13, UINT32_MAX)}, {&parity, AND(14, UINT32_MAX)}}},
+     {{&no_block, AND(0, UINT32_MAX >> 1)},
+      {&unequal, AND(14, UINT32_MAX)},
+      {&less, AND(13, UINT32_MAX)},
+      {&parity, AND(14, UINT32_MAX)},
+      {&shorter, AND(0, UINT32_MAX >> 1)}}},
     {"put back",
      ZOMUWEDLI_PUT_BACK_STACK,
      prepare_put_back,
      put_back,
-     {{&no_block, AND(0, 0)}, {&parity, AND(19, ITEMS * PATTERN)}, {&equal, AND(0, 0)}, {&sliding, AND(19, ITEMS * PATTERN)}}},
+     {{&no_block, AND(0, 0)},
+      {&parity, AND(19, ITEMS * PATTERN)},
+      {&equal, AND(0, 0)},
+      {&sliding, AND(19, ITEMS * PATTERN)},
+      {&shorter, AND(19, ITEMS * PATTERN)}}},
     /* The last three put back through 512 records, as many as there can be, put back through 448 after a search, and search deepest. */
     {"pick",
      ZOMUWEDLI_PICK_STACK,
@@ -320,7 +359,8 @@ static const struct job jobs[] = {
       {&less, PICK_ANSWER(RUN_ANSWER(ZOMUWEDLI_IMPOSSIBLE, 241, 1 + 5 * 241), 0, 0)},
       {&parity, PICK_ANSWER(RUN_ANSWER(ZOMUWEDLI_REST, 448, 1 + 5 * 448), 0, 0)},
       {&equal, PICK_ANSWER(RUN_ANSWER(ZOMUWEDLI_SOLVED, 32, 1 + 4 * 32), 1, 0)},
-      {&sliding, PICK_ANSWER(RUN_ANSWER(ZOMUWEDLI_REST, 2 + 5 * (4 + 2), 1 + 4 * 2 + 5 * (17 + 10)), 1, 5 * (1 + 1))},
+      {&sliding, PICK_ANSWER(SLIDING_ANSWER, 1, 5 * (1 + 1))},
+      {&shorter, PICK_ANSWER(SLIDING_ANSWER, 1, 5 * (1 + 1))},
       {&one, PICK_ANSWER(RUN_ANSWER(ZOMUWEDLI_SOLVED, 512, LONGEST_TRACE), 1, ITEMS * 15)},
       {&circle, PICK_ANSWER(RUN_ANSWER(ZOMUWEDLI_REST, 448, 1 + 5 * 448), 1, 16 * 14 + 16 * 15)},
       {&deep, PICK_ANSWER(RUN_ANSWER(ZOMUWEDLI_REST, 2 * 14, 1 + 5 * 2 * 14), 1, 31 * 15)}}},
@@ -328,7 +368,15 @@ static const struct job jobs[] = {
      ZOMUWEDLI_COLOUR_STACK,
      prepare_colour,
      colour,
-     {{&no_block, AND(COLOUR_ANSWER(LONGEST_SHEET), 1)}, {&unequal, AND(COLOUR_ANSWER(ZOMUWEDLI_MAX_SHEET), 1)}}},
+     {{&no_block, AND(SHEET_ANSWER(LONGEST_SHEET), 1)}, {&unequal, AND(SHEET_ANSWER(ZOMUWEDLI_MAX_SHEET), 1)}}},
+    {"move",
+     ZOMUWEDLI_MOVE_STACK,
+     prepare_move,
+     move,
+     {{&no_block, AND(SHEET_ANSWER(LONGEST_SHEET), 1)},
+      {&unequal, AND(SHEET_ANSWER(ZOMUWEDLI_MAX_SHEET), 1)},
+      {&sliding, AND(SHEET_ANSWER(185), 1)},
+      {&shorter, AND(SHEET_ANSWER(270), 1)}}},
 };
 
 /* ---- Measuring. */
@@ -406,7 +454,8 @@ int main(void)
     fill_pairs(&less, is_less);
     fill_pairs(&parity, is_of_unlike_parity);
     fill_pairs(&equal, is_equal);
-    fill_sliding(&sliding);
+    fill_sliding(&sliding, 1);
+    fill_sliding(&shorter, 2);
     fill_pairs(&one, is_last);
     fill_pairs(&circle, is_of_unlike_parity_round);
     fill_pairs(&deep, is_deep);

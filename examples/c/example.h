@@ -1,4 +1,4 @@
-/* What the five examples share: the exit status, reading files and numbers, and saying why a call was refused. */
+/* What the six examples share: the exit status, reading files and numbers, and saying why a call was refused. */
 #ifndef EXAMPLE_H
 #define EXAMPLE_H
 

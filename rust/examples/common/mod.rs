@@ -1,4 +1,4 @@
-//! What the five examples share, as examples/c/example.h does for C: the exit status, reading files and numbers, and saying why a call was
+//! What the six examples share, as examples/c/example.h does for C: the exit status, reading files and numbers, and saying why a call was
 //! refused. They take the same arguments as the C ones and print the same: examples/README.md.
 
 // Each example has all of it and uses a part.
