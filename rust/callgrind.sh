@@ -1,6 +1,6 @@
 #!/bin/sh
-# Instructions per call for each implementation, counted by callgrind: a run of each family, and the sheet of each colouring file. The
-# set-up is taken off by the difference of two counts: 1 and 11 calls, or 1 and 2 of the reference, which is slow.
+# Instructions per call for each implementation, counted by callgrind: a run of each family, the moves, and the sheet of each colouring
+# file. The set-up is taken off by the difference of two counts: 1 and 11 calls, or 1 and 2 of the reference, which is slow.
 set -eu
 cd "$(dirname "$0")"
 

@@ -1,7 +1,8 @@
-//! Times eight families of sheets of 32 items, seven of 16 settings and one of 4 whose run takes slides, and colouring files: the proved
-//! library, the reference and the fast implementation, side by side in one run, and for colouring files a plain reader beside them.
-//! `families --count NAME IMPLEMENTATION REPETITIONS` does one of them only, for counting instructions: a run of a family, or the sheet of
-//! a colouring file.
+//! Times eight families of sheets of 32 items, seven of 16 settings and one of 4 whose run takes slides, moves of sheets, and colouring
+//! files: the proved library, the reference and the fast implementation, side by side in one run, and for colouring files a plain reader
+//! beside them.
+//! `families --count NAME IMPLEMENTATION REPETITIONS` does one of them only, for counting instructions: a run of a family, a move, or the
+//! sheet of a colouring file.
 
 mod plain;
 #[path = "../tests/support/mod.rs"]
@@ -88,6 +89,15 @@ impl Implementation {
             Implementation::Fast(_) => fast::colour(file, channels, sheet),
         }
     }
+
+    fn move_sheet(&mut self, sheet: &[u8], target: &mut [u8]) -> Answer<Written> {
+        match self {
+            Implementation::Proved => raw::move_sheet(sheet, target),
+            Implementation::Reference => reference::move_sheet(sheet, target),
+            Implementation::Plain => no_such_job(),
+            Implementation::Fast(workspace) => workspace.move_sheet(sheet, target),
+        }
+    }
 }
 
 fn no_such_job() -> ! {
@@ -122,7 +132,7 @@ enum Timed {
     Start(Answer<()>),
     TakenOut(usize),
     PutBack(Answer<()>),
-    Colour(Answer<Written>),
+    Written(Answer<Written>),
 }
 
 /// One call to be timed: its answer and the buffers must be the same for all implementations.
@@ -176,11 +186,11 @@ fn print_row<const N: usize>(names: [&str; N], name: &str, call: Call) {
         Timed::TakenOut(count) => format!("{count} taken out"),
         Timed::Start(Ok(())) => "Start(Started)".to_string(),
         Timed::PutBack(Ok(())) => "PutBack(Done)".to_string(),
-        Timed::Colour(Ok(Written { bytes })) => format!("{bytes} bytes written"),
+        Timed::Written(Ok(Written { bytes })) => format!("{bytes} bytes written"),
         Timed::Run(Err(fault)) => format!("Run({fault:?})"),
         Timed::Start(Err(fault)) => format!("Start({fault:?})"),
         Timed::PutBack(Err(fault)) => format!("PutBack({fault:?})"),
-        Timed::Colour(Err(fault)) => format!("Colour({fault:?})"),
+        Timed::Written(Err(fault)) => format!("Written({fault:?})"),
     };
     let times = best(names, call).map(|time| time.as_nanos() as f64 / 1000.0);
     let ratios: String = times[1..].iter().map(|time| format!(" {:>12.3}", time / times[0])).collect();
@@ -231,7 +241,27 @@ fn print_start(name: &str, sheet: &[u8]) {
 }
 
 fn print_colour(name: &str, file: &[u8], channels: u64) {
-    print_row(FILE_NAMES, name, &|implementation, buffers| Timed::Colour(implementation.colour(file, channels, &mut buffers.sheet)));
+    print_row(FILE_NAMES, name, &|implementation, buffers| Timed::Written(implementation.colour(file, channels, &mut buffers.sheet)));
+}
+
+fn print_move(name: &str, sheet: &[u8]) {
+    print_row(NAMES, name, &|implementation, buffers| Timed::Written(implementation.move_sheet(sheet, &mut buffers.sheet)));
+}
+
+/// The sheets that are moved, each to version 2 and, from there, to version 1.
+fn timed_moves() -> Vec<(String, Vec<u8>)> {
+    let both = |(name, sheet): (&str, Vec<u8>)| {
+        let moved = in_other_version(&sheet);
+        [(format!("move {name} to version 2"), sheet), (format!("move {name} to version 1"), moved)]
+    };
+    generate::timed_moves().into_iter().flat_map(both).collect()
+}
+
+fn in_other_version(sheet: &[u8]) -> Vec<u8> {
+    let mut target = vec![0; MAX_SHEET];
+    let Written { bytes } = raw::move_sheet(sheet, &mut target).expect("the sheet keeps the layout");
+    target.truncate(bytes);
+    target
 }
 
 /// The run of the family with slides has one in each of its eight groups at least.
@@ -263,6 +293,10 @@ fn print_tables() {
         print_head(NAMES, job);
         generate::families().iter().for_each(|(name, sheet)| print(name, sheet));
     }
+    print_head(NAMES, "run (version 2)");
+    generate::families().iter().for_each(|(name, sheet)| print_row(NAMES, name, &run_call(&in_other_version(sheet))));
+    print_head(NAMES, "move");
+    timed_moves().iter().for_each(|(name, sheet)| print_move(name, sheet));
     print_head(FILE_NAMES, "the sheet of a colouring file");
     generate::timed_files().iter().for_each(|(name, file, channels)| print_colour(name, file, *channels));
 }
@@ -272,25 +306,30 @@ fn print_head<const N: usize>(names: [&str; N], job: &str) {
     println!("\n{job:<40} {:>11}{heads}  answer", "proved us");
 }
 
-/// Has one implementation do one family, or one colouring file, so many times.
+/// Has one implementation do one family, one move or one colouring file, so many times.
 fn count(name: &str, implementation: &str, repetitions: usize) {
-    let (families, files) = (generate::families(), generate::timed_files());
+    let (families, moves, files) = (generate::families(), timed_moves(), generate::timed_files());
     let (mut implementation, mut buffers) = (Implementation::named(implementation), Buffers::new());
     if let Some((_, sheet)) = families.iter().find(|(family, _)| *family == name) {
         for _ in 0..repetitions {
             let _ = black_box(implementation.run(black_box(sheet), &mut buffers.trace, &mut buffers.state));
+        }
+    } else if let Some((_, sheet)) = moves.iter().find(|(moved, _)| moved == name) {
+        for _ in 0..repetitions {
+            let _ = black_box(implementation.move_sheet(black_box(sheet), &mut buffers.sheet));
         }
     } else if let Some((_, file, channels)) = files.iter().find(|(file, ..)| *file == name) {
         for _ in 0..repetitions {
             let _ = black_box(implementation.colour(black_box(file), *channels, &mut buffers.sheet));
         }
     } else {
-        panic!("no family and no colouring file {name}");
+        panic!("no family, no move and no colouring file {name}");
     }
 }
 
 fn print_names() {
     generate::families().iter().for_each(|(name, _)| println!("{name}"));
+    timed_moves().iter().for_each(|(name, _)| println!("{name}"));
     generate::timed_files().iter().for_each(|(name, ..)| println!("{name}"));
 }
 
