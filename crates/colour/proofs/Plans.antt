@@ -14,7 +14,7 @@ use Rattle.problem.specs.Problem.{Problem, full}
 use Rattle.problem.specs.Held.{Bounded}
 use Rattle.problem.specs.Extend.{solvesWhole}
 use Rattle.problem.proofs.Sound.{Solution, solvesWhole-iff}
-use Rattle.sheet.specs.Sheet.{layout, Keeps}
+use Rattle.sheet.specs.Sheet.{layout, versionOf, Keeps}
 use Rattle.sheet.specs.Relation.{rowsOf, rowIn, problemOf}
 use Rattle.sheet.specs.declared.Rows.the-variants.{At}
 use Rattle.graph.specs.Graph.{anyLine, fileLines, lineAt, badFile, badLines, isBad, isSize, edgeFirst, fileLimit, isOutside, strays, countLines, isEdge}
@@ -239,6 +239,11 @@ module _ (f : List ℕ) (k : ℕ) (b : List ℕ) (w : ℕ) (e : (colourJob f k b
   pub colour-keeps : Keeps layout (take w ((colourJob f k b) .buffer))
   unfolding graphSheet
   colour-keeps = rw sheet-is (written-keeps layout 1 (graphProblem f k) layout-roomy refl (bounded f k range) (some f k range))
+
+  -- it is of version 1
+  pub colour-version : versionOf (take w ((colourJob f k b) .buffer)) ≡ 1
+  unfolding graphSheet sheetBytes
+  colour-version = ap versionOf sheet-is
 
   -- it is the colouring problem of the file
   pub colour-problem : problemOf layout (take w ((colourJob f k b) .buffer)) ≡ graphProblem f k
