@@ -3,7 +3,7 @@
 use mathlib.Core.Path.{_≡_, refl, sym, ap, _∙_}
 use mathlib.Core.List.{List}
 use mathlib.Core.Logic.{_⊎_, inl, inr, _≢_, _↔_}
-use Prim.Native.Nat.{ℕ, _*_, _/_, _%_, _^_, _≤_, _<_}
+use Prim.Native.Nat.{ℕ, _/_, _%_, _^_, _≤_, _<_}
 use native.Mathlib.Omega.{arith}
 use lib.ListN.{length, take}
 use Rattle.sheet.specs.Bytes.{AreBytes}
@@ -24,9 +24,13 @@ use Rattle.moved.specs.declared.MoveRefusal.the-variants as not-moved
 use Rattle.moved.specs.declared.Moved.{Moved}
 use Rattle.moved.specs.declared.Moved.the-variants as moved
 use Rattle.moved.proofs.Causes.{move-unaltered, move-written}
-use Rattle.moved.proofs.Demands.{move-twice, move-longest}
-use Rattle.boundary_sheets.specs.Calls.{ColourCall, colourCall, MoveCall, moveCrossed, moveCall}
+use Rattle.moved.proofs.Demands.{move-again, move-longest}
+use Rattle.boundary_sheets.specs.Calls.{writtenNumber, ColourCall, colourCall, MoveCall, moveCrossed, moveCall}
 use Rattle.boundary_sheets.proofs.Calls.{colour-says, move-says}
+
+-- where a sheet was written: its bytes come back from the number x, and fit their bits
+written-unpacked : (x w : ℕ) → x ≡ writtenNumber w → w ≤ 16904 → (x % 256 ≡ 0) × (x / 256 ≡ w) × (w < 2 ^ 24)
+written-unpacked x w e l = (omega arith, omega arith, omega arith)
 
 -- ---- the sheet of a colouring graph
 
@@ -44,9 +48,8 @@ module _ (f : List ℕ) (k : ℕ) (b : List ℕ) where
       → ((colourCall f k b) .answer % 256 ≡ 0) × ((colourCall f k b) .answer / 256 ≡ w) × (w < 2 ^ 24) × ((colourCall f k b) .sheet ≡ (colourJob f k b) .buffer)
   colour-unpacked w o =
       let e = sym (colour-says f k b _ _ refl refl _ o) in
-      let q = ap (λ (y : ColourCall). y .answer) e in
-      let l = colour-longest f k b w o in
-      (omega arith, omega arith, omega arith, ap (λ (y : ColourCall). y .sheet) e)
+      let u = written-unpacked _ w (ap (λ (y : ColourCall). y .answer) e) (colour-longest f k b w o) in
+      (u .0, u .1, u .2, ap (λ (y : ColourCall). y .sheet) e)
 
   abbrev pub ColourTaken : Type 0
   ColourTaken = (w : ℕ) × ((colourJob f k b) .answer ≡ coloured.Written w)
@@ -89,9 +92,8 @@ module _ (s b : List ℕ) where
       → ((moveCall s b) .answer % 256 ≡ 0) × ((moveCall s b) .answer / 256 ≡ w) × (w < 2 ^ 24) × ((moveCall s b) .target ≡ (moveJob s b) .target)
   move-unpacked w o =
       let e = sym (move-says s b _ _ refl refl _ o) in
-      let q = ap (λ (y : MoveCall). y .answer) e in
-      let l = move-longest s b w o in
-      (omega arith, omega arith, omega arith, ap (λ (y : MoveCall). y .target) e)
+      let u = written-unpacked _ w (ap (λ (y : MoveCall). y .answer) e) (move-longest s b w o) in
+      (u .0, u .1, u .2, ap (λ (y : MoveCall). y .target) e)
 
   abbrev pub MoveTaken : Type 0
   MoveTaken = (w : ℕ) × ((moveJob s b) .answer ≡ moved.Written w)
@@ -132,12 +134,8 @@ module _ (s b : List ℕ) where
 
   -- two calls, the second lent what the first wrote: the sheet stands in its target again, byte for byte
   pub move-call-twice : AreBytes s → (moveCall s b) .answer % 256 ≡ 0 → (c : List ℕ) → length s ≤ length c
-      → moveCall (take ((moveCall s b) .answer / 256) ((moveCall s b) .target)) c ≡ record { answer = 256 * length s; target = fronted s c }
+      → moveCall (take ((moveCall s b) .answer / 256) ((moveCall s b) .target)) c ≡ record { answer = writtenNumber (length s); target = fronted s c }
   unfolding moveCall
   move-call-twice bytes e c h =
-      let x = move-taken .0 e in
-      let w = x .0 in
-      let u = move-unpacked w (x .1) in
-      let q : take ((moveCall s b) .answer / 256) ((moveCall s b) .target) ≡ take w ((moveJob s b) .target) = (λ i. take (u .1 i) (u .3 i)) in
-      ap (λ (y : List ℕ). moveCall y c) q
-      ∙ ap (λ (y : MoveResult). moveCrossed (y .answer) (y .target)) (move-twice s b c bytes w (x .1) h)
+      let m = move-call-sheet e in
+      ap (λ (y : List ℕ). moveCall y c) (m .1) ∙ ap (λ (y : MoveResult). moveCrossed (y .answer) (y .target)) (move-again s c (m .0) bytes h)

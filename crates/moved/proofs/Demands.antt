@@ -68,22 +68,19 @@ module _ (s : List ℕ) (K : Keeps layout s) where
         ∙ ap (λ (x : ℕ). sheetBytes layout x (problemOf layout s)) (other-twice (versionOf s) (both-versions s K))
         ∙ written-canonical layout s K bytes
 
+    -- the sheet is as long as its problem in its version v, and the moved one as that in the other version u
+    lengths : (v u : ℕ) → versionOf s ≡ v → otherVersion v ≡ u
+        → (length s ≡ length (sheetBytes layout v (problemOf layout s))) × (length (movedBytes s) ≡ length (sheetBytes layout u (problemOf layout s)))
+    unfolding movedBytes
+    lengths v u e o =
+        (sym (ap length (own v e)), ap (λ (x : ℕ). length (sheetBytes layout x (problemOf layout s))) (ap otherVersion e ∙ o))
+
     -- "Version 2 is never the longer one.": to it, and from it
     pub move-shorter : versionOf s ≡ 1 → length (movedBytes s) ≤ length s
-    unfolding movedBytes
-    move-shorter e =
-        let l = version-2-short (problemOf layout s) (problem-bounded s K) in
-        let q = ap length (own 1 e) in
-        let m : length (movedBytes s) ≡ length (sheetBytes layout 2 (problemOf layout s)) = ap (λ (x : ℕ). length (sheetBytes layout (otherVersion x) (problemOf layout s))) e in
-        omega arith
+    move-shorter e = let l = version-2-short (problemOf layout s) (problem-bounded s K) in let q = lengths 1 2 e refl in omega arith
 
     pub move-longer : versionOf s ≡ 2 → length s ≤ length (movedBytes s)
-    unfolding movedBytes
-    move-longer e =
-        let l = version-2-short (problemOf layout s) (problem-bounded s K) in
-        let q = ap length (own 2 e) in
-        let m : length (movedBytes s) ≡ length (sheetBytes layout 1 (problemOf layout s)) = ap (λ (x : ℕ). length (sheetBytes layout (otherVersion x) (problemOf layout s))) e in
-        omega arith
+    move-longer e = let l = version-2-short (problemOf layout s) (problem-bounded s K) in let q = lengths 2 1 e refl in omega arith
 
     -- "Where no block's j has 8 settings or fewer the two differ in byte 0 only."
     pub move-wide : ((i j r : ℕ) → rowsOf layout s i j ≡ At r → 8 < sizeAt s j) → movedBytes s ≡ otherVersion (versionOf s) ∷ drop 1 s
@@ -113,17 +110,19 @@ module _ (s : List ℕ) (K : Keeps layout s) where
 pub move-room : (s b : List ℕ) → Keeps layout s → 16904 ≤ length b → moveJob s b ≡ moveDone (movedBytes s) b
 move-room s b K h = let l = move-short s K in move-done s b K (omega arith)
 
--- A sheet that was moved is lent to another move: what stands in the second target is the sheet, byte for byte.
+-- a moved sheet is moved again: what stands in the target is the sheet, byte for byte
+pub move-again : (s c : List ℕ) → Keeps layout s → AreBytes s → length s ≤ length c → moveJob (movedBytes s) c ≡ moveDone s c
+move-again s c K bytes h =
+    let back = move-back s K bytes in
+    let l = ap length back in
+    move-done (movedBytes s) c (move-keeps s K) (omega arith) ∙ ap (λ (x : List ℕ). moveDone x c) back
+
+-- the same of what a move wrote, lent to another
 pub move-twice : (s b c : List ℕ) → AreBytes s → (w : ℕ) → (moveJob s b) .answer ≡ Written w → length s ≤ length c
     → moveJob (take w ((moveJob s b) .target)) c ≡ moveDone s c
 move-twice s b c bytes w e h =
     let m = move-written s b w e in
-    let K = m .keeps in
-    let back = move-back s K bytes in
-    let l = ap length back in
-    ap (λ (x : List ℕ). moveJob x c) (m .sheet)
-    ∙ move-done (movedBytes s) c (move-keeps s K) (omega arith)
-    ∙ ap (λ (x : List ℕ). moveDone x c) back
+    ap (λ (x : List ℕ). moveJob x c) (m .sheet) ∙ move-again s c (m .keeps) bytes h
 
 -- the bytes written are few
 pub move-longest : (s b : List ℕ) (w : ℕ) → (moveJob s b) .answer ≡ Written w → w ≤ 16904

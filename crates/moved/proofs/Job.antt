@@ -1,5 +1,5 @@
 -- The job's parts make the job. Assumes nothing.
-use mathlib.Core.Path.{_≡_}
+use mathlib.Core.Path.{_≡_, sym, ap, _∙_}
 use mathlib.Core.Bool.{true}
 use mathlib.Core.List.{List}
 use mathlib.Core.Logic.{⊎-elim}
@@ -14,11 +14,11 @@ use Rattle.sheet.specs.declared.SheetRefusal.{SheetRefusal}
 use Rattle.sheet.specs.declared.SheetRead.the-variants as read
 use Rattle.sheet.proofs.Versions.{Taken, both-versions}
 use Rattle.jobs.proofs.Opened.{sheet-refused, sheet-kept}
-use Rattle.compose.specs.Compose.{sheetBytes, sheetOver}
+use Rattle.compose.specs.Compose.{sheetBytes, SheetResult, sheetOver}
 use Rattle.compose.specs.declared.Composed.{Composed}
 use Rattle.compose.specs.declared.Composed.the-variants as composed
 use Rattle.compose.proofs.Over.{sheet-over-short, sheet-over-done}
-use Rattle.moved.specs.Move.{otherVersion, moveRefused, moveDone, moveOver, moveJob}
+use Rattle.moved.specs.Move.{otherVersion, MoveResult, moveRefused, moveDone, moveOver, moveJob}
 use Rattle.moved.specs.declared.MoveRefusal.the-variants.{Sheet, Target}
 use Rattle.moved.specs.declared.Moved.{Moved}
 use Rattle.moved.specs.declared.Moved.the-variants.{Written, Refused}
@@ -33,10 +33,13 @@ other-twice v t = ⊎-elim (λ (e : v ≡ 1). rw e) (λ (e : v ≡ 2). rw e) t
 
 -- ---- over a problem
 
--- what the writer answers, as the job does
+-- what the writer answers and leaves, as the job does
 abbrev pub movedOf : Composed → Moved
 movedOf (composed.Written w) = Written w
 movedOf composed.TooShort = Refused Target
+
+abbrev movedBy : SheetResult → MoveResult
+movedBy r = record { answer = movedOf (r .answer); target = r .buffer }
 
 module _ (v : ℕ) (P : Problem) (b : List ℕ) where
   -- 26
@@ -49,17 +52,17 @@ module _ (v : ℕ) (P : Problem) (b : List ℕ) where
   unfolding moveOver
   move-done-over h = rw (le-ltb (length b) (length (sheetBytes layout v P)) h)
 
-  pub move-answers : movedOf ((sheetOver layout v P b) .answer) ≡ (moveOver v P b) .answer
-  move-answers = ⊎-elim
-      (λ (h : length b < length (sheetBytes layout v P)). rw (sheet-over-short layout v P b h, move-short-over h))
-      (λ (h : length (sheetBytes layout v P) ≤ length b). rw (sheet-over-done layout v P b h, move-done-over h))
+  composed-moved : movedBy (sheetOver layout v P b) ≡ moveOver v P b
+  composed-moved = ⊎-elim
+      (λ (h : length b < length (sheetBytes layout v P)). ap movedBy (sheet-over-short layout v P b h) ∙ sym (move-short-over h))
+      (λ (h : length (sheetBytes layout v P) ≤ length b). ap movedBy (sheet-over-done layout v P b h) ∙ sym (move-done-over h))
       (lt-dec (length b) (length (sheetBytes layout v P)))
 
+  pub move-answers : movedOf ((sheetOver layout v P b) .answer) ≡ (moveOver v P b) .answer
+  move-answers = ap (λ (y : MoveResult). y .answer) composed-moved
+
   pub move-leaves : (sheetOver layout v P b) .buffer ≡ (moveOver v P b) .target
-  move-leaves = ⊎-elim
-      (λ (h : length b < length (sheetBytes layout v P)). rw (sheet-over-short layout v P b h, move-short-over h))
-      (λ (h : length (sheetBytes layout v P) ≤ length b). rw (sheet-over-done layout v P b h, move-done-over h))
-      (lt-dec (length b) (length (sheetBytes layout v P)))
+  move-leaves = ap (λ (y : MoveResult). y .target) composed-moved
 
 -- ---- over a sheet
 
