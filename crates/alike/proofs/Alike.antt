@@ -6,7 +6,6 @@ use mathlib.Core.List.{List, [], _∷_}
 use Prim.Native.Nat.{ℕ}
 use Rattle.problem.specs.Problem.{Problem}
 use Rattle.sheet.specs.Sheet.{layout, variablesOf, blocksOf, readSheet, Keeps}
-use Rattle.sheet.specs.Relation.{problemOf}
 use Rattle.sheet.specs.declared.SheetRefusal.{SheetRefusal}
 use Rattle.sheet.specs.declared.SheetRead.the-variants.{Accepted}
 use Rattle.jobs.specs.WithSheet.{withSheet}

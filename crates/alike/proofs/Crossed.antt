@@ -7,12 +7,11 @@ use lib.Dec.{eqb}
 use lib.ListN.{length}
 use Rattle.sheet.specs.Sheet.{layout, Keeps}
 use Rattle.jobs.specs.Run.{RunResult}
-use Rattle.jobs.specs.PutBack.{PutBackResult}
 use Rattle.jobs.specs.declared.StartAnswer.{StartAnswer}
 use Rattle.jobs.specs.declared.CallAnswer.{CallAnswer}
 use Rattle.pick.specs.Pick.{PickResult}
 use Rattle.boundary.specs.State.{stateLength, handStateLength, handIn}
-use Rattle.boundary.specs.Calls.{badState, badHandState, readNumber, readCall, RunCall, runCrossed, runCall, HandCall, startCrossed, startCall, calledCrossed, handCall, handCalls, PutBackCall, backNumber, putBackCall}
+use Rattle.boundary.specs.Calls.{badState, badHandState, readNumber, readCall, RunCall, runCrossed, runCall, HandCall, startCrossed, startCall, calledCrossed, handCall, handCalls, putBackCall}
 use Rattle.boundary_pick.specs.Calls.{PickCall, crossedNumber, crossedState, pickCall}
 use Rattle.moved.specs.Move.{movedBytes}
 use Rattle.alike.proofs.Alike.{read-alike, run-alike, start-alike, call-alike, put-back-alike, pick-alike}
@@ -49,7 +48,7 @@ module _ (s : List ℕ) (K : Keeps layout s) where
 
   pub put-back-call-alike : (t p b : List ℕ) → putBackCall (movedBytes s) t p b ≡ putBackCall s t p b
   unfolding putBackCall
-  put-back-call-alike t p b = ap {B = PutBackCall} (λ (y : PutBackResult). record { answer = backNumber (y .answer); result = y .result }) (put-back-alike s K t p b)
+  put-back-call-alike t p b = rw (put-back-alike s K t p b)
 
   pub pick-call-alike : (t p b : List ℕ) → pickCall (movedBytes s) t p b ≡ pickCall s t p b
   unfolding pickCall

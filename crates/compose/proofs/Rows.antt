@@ -1,20 +1,19 @@
--- Rows as the reader tests them, and what a pair bars. Assumes nothing.
+-- Sizes and blocks as the reader goes through them, and what a pair bars. Assumes nothing.
 use mathlib.Core.Path.{_≡_, refl, sym, ap, _∙_}
 use mathlib.Core.Bool.{Bool, true, false, not, _&&_}
 use mathlib.Core.List.{List}
 use Prim.Native.Nat.{ℕ, zero, suc, _+_, _-_, _*_, _/_, _%_, _^_, _≤_, _<_}
-use native.Mathlib.Nat.{suc-mul}
 use native.Mathlib.Omega.{arith}
 use lib.Dec.{eqb, ltb}
 use lib.Pow.{pow-pos}
-use borrow.Author.Tests.{ltb-true, lt-ltb, le-ltb, lt-leb, eq-eqb, ne-eqb, eqb-true, not-false}
+use borrow.Author.Tests.{ltb-true, lt-ltb, le-ltb, ne-eqb, not-false}
 use Rattle.bounded.specs.Mask.{bit, maskOf}
 use Rattle.bounded.proofs.Truth.{both}
 use Rattle.bounded.proofs.Loops.{any-intro, any-each}
 use Rattle.bounded.proofs.Mask.{mask-is, bit-mask, full-bit}
 use Rattle.problem.specs.Problem.{Problem}
-use Rattle.sheet.specs.Bytes.{byteAt, numberAt}
-use Rattle.sheet.specs.Sheet.{Layout, badSizes, beyond, allowsAll}
+use Rattle.sheet.specs.Bytes.{byteAt}
+use Rattle.sheet.specs.Sheet.{Layout, badSizes}
 use Rattle.sheet.specs.Relation.{rowsFrom}
 use Rattle.sheet.specs.declared.Rows.the-variants.{Unconstrained}
 use Rattle.sheet.proofs.Accepted.{Good, here, is-pair, rows-miss, rows-end}

@@ -10,7 +10,6 @@ use Rattle.bounded.proofs.Causes.{cause-iff, number-iff}
 use Rattle.problem.specs.Problem.{Problem}
 use Rattle.sheet.specs.Sheet.{layout, versionOf, Keeps}
 use Rattle.sheet.specs.Relation.{problemOf}
-use Rattle.sheet.specs.declared.SheetRefusal.{SheetRefusal}
 use Rattle.sheet.proofs.Refusals.{sheet-number}
 use Rattle.jobs.specs.Trace.{fronted}
 use Rattle.jobs.proofs.Fronted.{AtFront, fronted-bytes}

@@ -1,5 +1,5 @@
 -- docs/FORMAT.md, "Moving a sheet to the other version", as a job: lent a sheet and a target buffer.
-use mathlib.Core.Bool.{Bool, true, false, cond}
+use mathlib.Core.Bool.{cond}
 use mathlib.Core.List.{List}
 use Prim.Native.Nat.{ℕ}
 use lib.Dec.{eqb, ltb}

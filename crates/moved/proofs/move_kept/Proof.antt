@@ -1,7 +1,7 @@
 -- `moved::move_kept`: the table holds the sheet's problem. Assumes nothing.
-use mathlib.Core.Path.{_≡_, ap, _∙_}
+use mathlib.Core.Path.{ap, _∙_}
 use native.Mathlib.Omega.{arith}
-use Rattle.sheet.specs.Sheet.{layout, versionOf}
+use Rattle.sheet.specs.Sheet.{layout}
 use Rattle.sheet.specs.Relation.{problemOf}
 use Rattle.sheet.proofs.Accepted.{facts}
 use Rattle.jobs.proofs.Opened.{sheet-table}
