@@ -318,7 +318,6 @@ for name, s in [*bench.items(), *wide.items()]:
         assert moved(s) == b"\2" + s[1:]
 
 
-
 def unequal(n, z, version=1):
     """n items of z settings, every pair unequal."""
     rows = [(1 << z) - 1 - (1 << a) for a in range(z)]

@@ -13,7 +13,7 @@ use std::time::{Duration, Instant};
 
 use support::fast::{self, Workspace};
 use support::generate::{self, Random};
-use support::proved::raw;
+use support::proved::{self, raw};
 use support::reference::{self, State};
 use support::{Answer, Done};
 use zomuwedli::{Taken, Written, HAND_STATE_LENGTH, MAX_ITEMS, MAX_SHEET, MAX_TRACE, OUT, STATE_LENGTH};
@@ -251,17 +251,10 @@ fn print_move(name: &str, sheet: &[u8]) {
 /// The sheets that are moved, each to version 2 and, from there, to version 1.
 fn timed_moves() -> Vec<(String, Vec<u8>)> {
     let both = |(name, sheet): (&str, Vec<u8>)| {
-        let moved = in_other_version(&sheet);
+        let moved = proved::moved(&sheet);
         [(format!("move {name} to version 2"), sheet), (format!("move {name} to version 1"), moved)]
     };
     generate::timed_moves().into_iter().flat_map(both).collect()
-}
-
-fn in_other_version(sheet: &[u8]) -> Vec<u8> {
-    let mut target = vec![0; MAX_SHEET];
-    let Written { bytes } = raw::move_sheet(sheet, &mut target).expect("the sheet keeps the layout");
-    target.truncate(bytes);
-    target
 }
 
 /// The run of the family with slides has one in each of its eight groups at least.
@@ -294,7 +287,7 @@ fn print_tables() {
         generate::families().iter().for_each(|(name, sheet)| print(name, sheet));
     }
     print_head(NAMES, "run (version 2)");
-    generate::families().iter().for_each(|(name, sheet)| print_row(NAMES, name, &run_call(&in_other_version(sheet))));
+    generate::families().iter().for_each(|(name, sheet)| print_row(NAMES, name, &run_call(&proved::moved(sheet))));
     print_head(NAMES, "move");
     timed_moves().iter().for_each(|(name, sheet)| print_move(name, sheet));
     print_head(FILE_NAMES, "the sheet of a colouring file");

@@ -4,22 +4,14 @@
 mod support;
 
 use support::generate;
-use zomuwedli::{move_sheet, MAX_SHEET};
-
-fn in_other_version(sheet: &[u8]) -> Vec<u8> {
-    let mut target = vec![0; MAX_SHEET];
-    let written = move_sheet(sheet, &mut target).expect("the sheet keeps the layout");
-    target.truncate(written.bytes);
-    target
-}
+use support::proved::moved;
 
 fn main() {
     let sheets = generate::year_of_sheets();
-    let moved: Vec<Vec<u8>> = sheets.iter().map(|sheet| in_other_version(sheet)).collect();
-    let back = moved.iter().map(|moved| in_other_version(moved));
-    assert!(back.eq(sheets.iter().cloned()), "a sheet that is moved twice is another");
+    let shorter: Vec<Vec<u8>> = sheets.iter().map(|sheet| moved(sheet)).collect();
+    assert!(shorter.iter().map(|sheet| moved(sheet)).eq(sheets.iter().cloned()), "a sheet that is moved twice is another");
     let total = |sheets: &[Vec<u8>]| sheets.iter().map(Vec::len).sum::<usize>();
-    let (first, second) = (total(&sheets), total(&moved));
+    let (first, second) = (total(&sheets), total(&shorter));
     let ratio = second as f64 / first as f64;
     println!("{} sheets: {first} bytes in version 1, {second} in version 2, {ratio:.3} of that", sheets.len());
 }

@@ -84,7 +84,7 @@ const CAUSES: [&str; 16] = [
 const NAMES: &[&str] = CAUSES.split_at(4).0;
 
 const EVERY_JOB: [usize; 8] = [0, 1, 2, 3, 4, PICK, COLOUR, MOVE];
-/// The jobs that answer of a sheet what they answer of the same sheet in the other version; a move answers the first.
+/// The jobs that answer of a sheet what they answer of the same sheet in the other version. A move is none of them: it goes by the version.
 const ALIKE_JOBS: [usize; 6] = [0, 1, 2, 3, 4, PICK];
 
 /// The refusals that each job has beside those of the sheet, 1 to 9, which all have that are lent one.

@@ -15,8 +15,8 @@ use std::collections::btree_map::{BTreeMap, Entry};
 use support::generate::{self, Draft, Random};
 use support::reference::{self, Problem, State, Step};
 use support::{proved, Chosen, Done, Fault};
-use zomuwedli::{End, Refusal, Unlawful, Written};
-use zomuwedli::{HAND_STATE_LENGTH, MAX_ITEMS, MAX_SETTINGS, MAX_SHEET, NOT_NAMED, OUT, STATE_LENGTH};
+use zomuwedli::{End, Refusal, Unlawful};
+use zomuwedli::{HAND_STATE_LENGTH, MAX_ITEMS, MAX_SETTINGS, NOT_NAMED, OUT, STATE_LENGTH};
 
 const SEED: u64 = 4_711;
 const RANDOM_SHEETS: usize = 1_500;
@@ -653,15 +653,9 @@ fn allowed_by_bytes(sheet: &[u8], choice: &[u8]) -> bool {
 
 /// The moved sheet is of the other version and keeps the layout, is moved back byte for byte, and has the same plans among all choices.
 fn moved(sheet: &[u8], counts: &mut Counts) {
-    let move_sheet = |sheet: &[u8]| {
-        let mut target = vec![77; MAX_SHEET];
-        let Written { bytes } = proved::move_sheet(sheet, &mut target).unwrap_or_else(|fault| panic!("{fault:?}: sheet {sheet:02x?}"));
-        target.truncate(bytes);
-        target
-    };
-    let moved = move_sheet(sheet);
+    let moved = proved::moved(sheet);
     assert_eq!(proved::read(&moved), proved::read(sheet), "a moved sheet is read otherwise: sheet {sheet:02x?}, moved {moved:02x?}");
-    assert_eq!((moved[0], move_sheet(&moved)), (3 - sheet[0], sheet.to_vec()), "moved {moved:02x?}");
+    assert_eq!((moved[0], proved::moved(&moved)), (3 - sheet[0], sheet.to_vec()), "moved {moved:02x?}");
     let sizes = &sheet[8..8 + usize::from(sheet[5])];
     let choices = sizes.iter().fold(vec![Vec::new()], |all: Vec<Vec<u8>>, &size| {
         all.iter().flat_map(|choice| (0..size).map(move |setting| [&choice[..], &[setting]].concat())).collect()

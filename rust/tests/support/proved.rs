@@ -3,7 +3,7 @@
 
 use std::fmt::Debug;
 
-use zomuwedli::State;
+use zomuwedli::{State, MAX_SHEET};
 
 use super::{Accepted, Answer, Chosen, Done, Taken, Written};
 
@@ -181,6 +181,14 @@ pub fn colour(file: &[u8], channels: u64, sheet: &mut [u8]) -> Answer<Written> {
 
 pub fn move_sheet(sheet: &[u8], target: &mut [u8]) -> Answer<Written> {
     both([target], |[target]| raw::move_sheet(sheet, target), |[target]| library::move_sheet(sheet, target))
+}
+
+/// The bytes of the moved sheet.
+pub fn moved(sheet: &[u8]) -> Vec<u8> {
+    let mut target = vec![77; MAX_SHEET];
+    let Written { bytes } = move_sheet(sheet, &mut target).unwrap_or_else(|fault| panic!("{fault:?}: sheet {sheet:02x?}"));
+    target.truncate(bytes);
+    target
 }
 
 /// The state that these bytes hold, which must be as many as a state has.
