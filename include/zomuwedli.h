@@ -143,8 +143,8 @@ static inline const char *zomuwedli_text(unsigned number)
     }
 }
 
-/* ---- The read check: whether the bytes are a sheet, of version 1 or 2. Every call that is lent a sheet takes both, and answers alike on a
- * sheet and on the same sheet in the other version. Refused: 1 to 9. */
+/* ---- The read check: whether the bytes are a sheet, of version 1 or 2. Every call that is lent a sheet takes both, and every one but the
+ * move answers alike on a sheet and on the same sheet in the other version. Refused: 1 to 9. */
 uint64_t zomuwedli_read(const uint8_t *sheet, size_t sheet_length);
 
 static inline unsigned zomuwedli_items(uint64_t answer) { return (unsigned)(answer >> 8 & 0xff); }

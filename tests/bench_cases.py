@@ -111,7 +111,7 @@ def case(name, job, expected, *fields):
 
 def in_both_versions(give):
     """Makes of a function that gives a case on a sheet one that gives it on the moved sheet too, where the sheet is one of `bench` or `wide`:
-    every job answers alike on both."""
+    every job but the move answers alike on both."""
     def give_both(name, s, *rest, **more):
         told = give(name, s, *rest, **more)
         if s in bench.values() or s in wide.values():

@@ -24,8 +24,8 @@ pub struct Accepted {
 
 /// Reads a sheet, of version 1 or 2: whether it keeps the layout. Refused: 1 to 9.
 ///
-/// Every job that is lent a sheet takes both versions, and answers alike on a sheet and on the same sheet in the other version
-/// ([`move_sheet`]).
+/// Every job that is lent a sheet takes both versions, and every one but [`move_sheet`] answers alike on a sheet and on the same sheet in
+/// the other version.
 ///
 /// ```
 /// use zomuwedli::{read, Refusal};

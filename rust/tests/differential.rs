@@ -1,7 +1,7 @@
 //! Compares every job of the proved library with the reference and with the fast implementation: answers, and each lent byte afterwards.
-//! Half of the sheets are of version 2, and every call that is lent a sheet is made with both its versions: the archive's function has the
-//! sheet, the library's (support/proved.rs) has it in the other version, and the fast implementation has both. The library's decoder is
-//! asked of every trace.
+//! Half of the sheets are of version 2, and every call that is lent a sheet, but the move, is made with both its versions: the archive's
+//! function has the sheet, the library's (support/proved.rs) has it in the other version, and the fast implementation has both. The
+//! library's decoder is asked of every trace.
 //!
 //! ZOMUWEDLI_SEED: the seed. ZOMUWEDLI_PART: a divisor of the sizes and of the least counts.
 
@@ -453,7 +453,7 @@ impl Comparison {
     ) -> (Answer<T>, Vec<Lent>) {
         let other = if ALIKE_JOBS.contains(&job) { self.other_version(inputs[0]) } else { None };
         let [archive, library, reference, fast] = calls;
-        // "Every job answers on the moved sheet as on the sheet, whatever else it is lent, and leaves the same bytes."
+        // "Every other job answers on the moved sheet as on the sheet, whatever else it is lent, and leaves the same bytes."
         let (first, last) = (inputs[0], other.as_deref().unwrap_or(inputs[0]));
         let mut calls =
             vec![("archive", archive, first), ("library", library, last), ("reference", reference, first), ("fast", fast, first)];

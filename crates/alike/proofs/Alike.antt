@@ -1,5 +1,5 @@
--- Every job answers on the moved sheet as on the sheet, for all that it is lent besides, refused or not, and leaves the same bytes: one law, and
--- a corollary for each job. Assumes nothing.
+-- Every job but the move answers on the moved sheet as on the sheet, for all that it is lent besides, refused or not, and leaves the same
+-- bytes: one law, and a corollary for each job. Assumes nothing.
 use mathlib.Core.Path.{_≡_, refl, sym, ap, _∙_}
 use mathlib.Core.Bool.{Bool}
 use mathlib.Core.List.{List, [], _∷_}

@@ -123,8 +123,8 @@ module _ (s b : List ℕ) where
   pub move-taken : ((moveCall s b) .answer % 256 ≡ 0) ↔ MoveTaken
   move-taken = taken-iff MoveTaken MoveKept _ move-either move-even
 
-  -- what a call that was not refused leaves at the target's front is the moved sheet, on which every call answers as on the sheet (alike:
-  -- Crossed)
+  -- what a call that was not refused leaves at the target's front is the moved sheet, on which every other call answers as on the sheet
+  -- (alike: Crossed)
   pub move-call-sheet : (moveCall s b) .answer % 256 ≡ 0 → Keeps layout s × (take ((moveCall s b) .answer / 256) ((moveCall s b) .target) ≡ movedBytes s)
   move-call-sheet e =
       let x = move-taken .0 e in
