@@ -15,8 +15,7 @@ use std::collections::btree_map::{BTreeMap, Entry};
 use support::generate::{self, Draft, Random};
 use support::reference::{self, Problem, State, Step};
 use support::{proved, Chosen, Done, Fault};
-use zomuwedli::{End, Refusal, Unlawful};
-use zomuwedli::{HAND_STATE_LENGTH, MAX_ITEMS, MAX_SETTINGS, NOT_NAMED, OUT, STATE_LENGTH};
+use zomuwedli::{End, Refusal, Unlawful, HAND_STATE_LENGTH, MAX_ITEMS, MAX_SETTINGS, NOT_NAMED, OUT, STATE_LENGTH};
 
 const SEED: u64 = 4_711;
 const RANDOM_SHEETS: usize = 1_500;
