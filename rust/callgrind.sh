@@ -1,27 +1,25 @@
 #!/bin/sh
-# Instructions per call for each implementation, counted by callgrind: a run of each family, the moves, and the sheet of each colouring
-# file. The set-up is taken off by the difference of two counts: 1 and 11 calls, or 1 and 2 of the reference, which is slow.
+# Instructions of one call for each implementation, counted by callgrind: every case of benches/families.rs, or with an argument those whose
+# name it fits, by grep, as in sh callgrind.sh '^start'. What is done inside the function `counted` there is counted and nothing else, which
+# is the second call of its process. A hand call is the mean of 32, one for each item from the start, whether taken out or refused.
 set -eu
 cd "$(dirname "$0")"
 
 cargo bench --quiet --bench families --no-run
 program=$(cargo bench --bench families --no-run 2>&1 | sed -n 's/.*Executable.*(\(.*\))$/\1/p')
+cases=$("$program" --names | grep -- "${1-}") || { echo "no case fits $1" >&2; exit 1; }
 
-# instructions NAME IMPLEMENTATION CALLS
+# instructions NAME IMPLEMENTATION
 instructions() {
-    valgrind --tool=callgrind --callgrind-out-file=/dev/null "$program" --count "$1" "$2" "$3" 2>&1 |
+    valgrind --tool=callgrind --callgrind-out-file=/dev/null --toggle-collect='families::counted*' "$program" --count "$1" "$2" 2>&1 |
         sed -n 's/.*Collected : *\([0-9]*\).*/\1/p'
 }
 
-# per_call NAME IMPLEMENTATION MORE
-per_call() {
-    one=$(instructions "$1" "$2" 1)
-    all=$(instructions "$1" "$2" "$((1 + $3))")
-    echo "$(((all - one) / $3))"
-}
-
-printf '%-40s %13s %13s %13s\n' 'instructions per call' proved reference fast
-"$program" --names | while read -r name; do
-    printf '%-40s %13s %13s %13s\n' "$name" \
-        "$(per_call "$name" proved 10)" "$(per_call "$name" reference 1)" "$(per_call "$name" fast 10)"
+printf '%-60s %13s %13s %13s %11s\n' 'instructions per call' proved reference fast proved/fast
+echo "$cases" | while read -r case; do
+    name=${case% *} calls=${case##* }
+    echo "$(instructions "$name" proved) $(instructions "$name" reference) $(instructions "$name" fast) $calls" |
+        awk -v name="$name" '
+            NF != 4 || $1 * $2 * $3 == 0 { print name ": not counted"; exit 1 }
+            { printf "%-60s %13.0f %13.0f %13.0f %11.2f\n", name, $1 / $4, $2 / $4, $3 / $4, $1 / $3 }'
 done

@@ -1,8 +1,8 @@
-//! Times eight families of sheets of 32 items, seven of 16 settings and one of 4 whose run takes slides, moves of sheets, and colouring
-//! files: the proved library, the reference and the fast implementation, side by side in one run, and for colouring files a plain reader
-//! beside them.
-//! `families --count NAME IMPLEMENTATION REPETITIONS` does one of them only, for counting instructions: a run of a family, a move, or the
-//! sheet of a colouring file.
+//! Times eight families of sheets of 32 items, seven of 16 settings and one of 4 whose run takes slides, each in both versions; moves of
+//! sheets; and colouring files: the proved library, the reference and the fast implementation, side by side in one run, and for colouring
+//! files a plain reader beside them.
+//! `families --names` lists these cases, and `families --count NAME IMPLEMENTATION` does one of them, for counting instructions
+//! (callgrind.sh).
 
 mod plain;
 #[path = "../tests/support/mod.rs"]
@@ -23,8 +23,8 @@ const ROUNDS: usize = 7;
 const ROUND: Duration = Duration::from_millis(4);
 
 /// The proved library first; the plain reader has colouring files only.
-const NAMES: [&str; 3] = ["proved", "reference", "fast"];
-const FILE_NAMES: [&str; 4] = ["proved", "reference", "plain", "fast"];
+const NAMES: &[&str] = &["proved", "reference", "fast"];
+const FILE_NAMES: &[&str] = &["proved", "reference", "plain", "fast"];
 
 /// The timed jobs of one implementation.
 enum Implementation {
@@ -105,6 +105,7 @@ fn no_such_job() -> ! {
 }
 
 /// The buffers that a job writes, cleared before each call and outside the time.
+#[derive(PartialEq)]
 struct Buffers {
     trace: Vec<u8>,
     state: Vec<u8>,
@@ -125,7 +126,7 @@ impl Buffers {
     }
 }
 
-/// What a timed call answers.
+/// What a case answers.
 #[derive(Clone, Copy, PartialEq, Debug)]
 enum Timed {
     Run(Answer<Done>),
@@ -135,80 +136,105 @@ enum Timed {
     Written(Answer<Written>),
 }
 
-/// One call to be timed: its answer and the buffers must be the same for all implementations.
-type Call<'a> = &'a dyn Fn(&mut Implementation, &mut Buffers) -> Timed;
+/// A case made ready: its answer and the buffers must be the same for all implementations.
+type Call = Box<dyn Fn(&mut Implementation, &mut Buffers) -> Timed>;
 
-/// The time of one call.
-fn once(call: Call, implementation: &mut Implementation, buffers: &mut Buffers) -> Duration {
-    buffers.clear();
-    let before = Instant::now();
-    black_box(call(black_box(implementation), black_box(buffers)));
-    before.elapsed()
+#[derive(Clone, Copy)]
+enum Job {
+    Run,
+    PutBack,
+    Start,
+    /// A hand call for each item, the lowest first, from the state that a start answers.
+    HandCalls,
+    Move,
+    Colour {
+        channels: u64,
+    },
 }
 
-/// The best time of each implementation, over rounds in which they take turns.
-fn best<const N: usize>(names: [&str; N], call: Call) -> [Duration; N] {
-    let mut implementations = names.map(Implementation::named);
-    let mut buffers = Buffers::new();
-    let mut best: [Duration; N] = std::array::from_fn(|which| once(call, &mut implementations[which], &mut buffers));
-    let calls = best.map(|time| (ROUND.as_nanos() / time.as_nanos().max(1)).clamp(1, 500));
-    for _ in 0..ROUNDS {
-        for which in 0..N {
-            let times = (0..calls[which]).map(|_| once(call, &mut implementations[which], &mut buffers));
-            best[which] = times.min().into_iter().chain([best[which]]).min().expect("one at least");
+/// What is timed and counted: a row of a table.
+struct Case {
+    table: String,
+    row: &'static str,
+    job: Job,
+    /// A sheet of version 1, or a colouring file.
+    input: Vec<u8>,
+    /// Whether it is lent the sheet in version 2.
+    moved: bool,
+}
+
+impl Case {
+    fn name(&self) -> String {
+        format!("{}: {}", self.table, self.row)
+    }
+
+    fn implementations(&self) -> &'static [&'static str] {
+        match self.job {
+            Job::Colour { .. } => FILE_NAMES,
+            _ => NAMES,
         }
     }
-    best
-}
 
-/// What all answer and write; stops where they differ.
-fn agreed<const N: usize>(names: [&str; N], name: &str, call: Call) -> Timed {
-    let results = names.map(|implementation| {
-        let mut buffers = Buffers::new();
-        let answer = call(&mut Implementation::named(implementation), &mut buffers);
-        (answer, buffers)
-    });
-    let proved = &results[0];
-    for (other, (answer, buffers)) in names.iter().zip(&results) {
-        let same = *answer == proved.0 && buffers.trace == proved.1.trace && buffers.state == proved.1.state;
-        if !same || buffers.result != proved.1.result || buffers.sheet != proved.1.sheet {
-            println!("{name}: proved and {other} differ: {:?} and {answer:?}", proved.0);
-            std::process::exit(1);
+    /// How many calls it makes: what is told of it is of one, their mean.
+    fn calls(&self) -> usize {
+        match self.job {
+            Job::HandCalls => MAX_ITEMS,
+            _ => 1,
         }
     }
-    proved.0
-}
 
-/// The proved library's time, and the others' over it.
-fn print_row<const N: usize>(names: [&str; N], name: &str, call: Call) {
-    let answer = match agreed(names, name, call) {
-        Timed::Run(Ok(Done { end, steps, .. })) => format!("{end:?}, {steps} steps"),
-        Timed::TakenOut(count) => format!("{count} taken out"),
-        Timed::Start(Ok(())) => "Start(Started)".to_string(),
-        Timed::PutBack(Ok(())) => "PutBack(Done)".to_string(),
-        Timed::Written(Ok(Written { bytes })) => format!("{bytes} bytes written"),
-        Timed::Run(Err(fault)) => format!("Run({fault:?})"),
-        Timed::Start(Err(fault)) => format!("Start({fault:?})"),
-        Timed::PutBack(Err(fault)) => format!("PutBack({fault:?})"),
-        Timed::Written(Err(fault)) => format!("Written({fault:?})"),
-    };
-    let times = best(names, call).map(|time| time.as_nanos() as f64 / 1000.0);
-    let ratios: String = times[1..].iter().map(|time| format!(" {:>12.3}", time / times[0])).collect();
-    println!("{name:<40} {:>11.1}{ratios}  {answer}", times[0]);
-}
-
-fn run_call(sheet: &[u8]) -> impl Fn(&mut Implementation, &mut Buffers) -> Timed + '_ {
-    |implementation, buffers| Timed::Run(implementation.run(sheet, &mut buffers.trace, &mut buffers.state))
-}
-
-/// Calls every item once, the lowest first, from the state that a start answers.
-fn hand_list(sheet: &[u8]) -> impl Fn(&mut Implementation, &mut Buffers) -> Timed + '_ {
-    let start = started(sheet);
-    move |implementation, buffers| {
-        buffers.state.copy_from_slice(&start);
-        let call = |item: &usize| implementation.hand_call(sheet, &mut buffers.state, *item as u64).is_ok();
-        Timed::TakenOut((0..MAX_ITEMS).filter(call).count())
+    /// Makes ready all that the case needs, outside the time and the count.
+    fn call(&self) -> Call {
+        let lent = if self.moved { proved::moved(&self.input) } else { self.input.clone() };
+        match self.job {
+            Job::Run => Box::new(move |by, buffers| Timed::Run(by.run(&lent, &mut buffers.trace, &mut buffers.state))),
+            Job::PutBack => {
+                let (trace, plan) = trace_and_plan(&lent);
+                Box::new(move |by, buffers| Timed::PutBack(by.put_back(&lent, &trace, &plan, &mut buffers.result)))
+            }
+            Job::Start => Box::new(move |by, buffers| Timed::Start(by.start(&lent, &mut buffers.state))),
+            Job::HandCalls => {
+                let start = started(&lent);
+                Box::new(move |by, buffers| {
+                    buffers.state.copy_from_slice(&start);
+                    let is_taken = |item: &usize| by.hand_call(&lent, &mut buffers.state, *item as u64).is_ok();
+                    Timed::TakenOut((0..MAX_ITEMS).filter(is_taken).count())
+                })
+            }
+            Job::Move => Box::new(move |by, buffers| Timed::Written(by.move_sheet(&lent, &mut buffers.sheet))),
+            Job::Colour { channels } => Box::new(move |by, buffers| Timed::Written(by.colour(&lent, channels, &mut buffers.sheet))),
+        }
     }
+}
+
+/// All cases, table by table.
+fn cases() -> Vec<Case> {
+    let (families, moves) = (generate::families(), generate::timed_moves());
+    let jobs = [
+        ("run in", Job::Run, &families),
+        ("put back in", Job::PutBack, &families),
+        ("start in", Job::Start, &families),
+        ("hand call in", Job::HandCalls, &families),
+        ("move from", Job::Move, &moves),
+    ];
+    let mut cases = Vec::new();
+    for (name, job, sheets) in jobs {
+        for (version, moved) in [(1, false), (2, true)] {
+            let case = |(row, sheet): &(&'static str, Vec<u8>)| Case {
+                table: format!("{name} version {version}"),
+                row,
+                job,
+                input: sheet.clone(),
+                moved,
+            };
+            cases.extend(sheets.iter().map(case));
+        }
+    }
+    for (row, file, channels) in generate::timed_files() {
+        let job = Job::Colour { channels };
+        cases.push(Case { table: "colouring file".to_string(), row, job, input: file, moved: false });
+    }
+    cases
 }
 
 fn started(sheet: &[u8]) -> Vec<u8> {
@@ -231,30 +257,72 @@ fn trace_and_plan(sheet: &[u8]) -> (Vec<u8>, Vec<u8>) {
     (buffers.trace[..written].to_vec(), plan)
 }
 
-fn print_put_back(name: &str, sheet: &[u8]) {
-    let (trace, plan) = trace_and_plan(sheet);
-    print_row(NAMES, name, &|implementation, buffers| Timed::PutBack(implementation.put_back(sheet, &trace, &plan, &mut buffers.result)));
+// ---- Times --------------------------------------------------------------------------------------------------------------------------
+
+/// The time of a case.
+fn once(call: &Call, implementation: &mut Implementation, buffers: &mut Buffers) -> Duration {
+    buffers.clear();
+    let before = Instant::now();
+    black_box(call(black_box(implementation), black_box(buffers)));
+    before.elapsed()
 }
 
-fn print_start(name: &str, sheet: &[u8]) {
-    print_row(NAMES, name, &|implementation, buffers| Timed::Start(implementation.start(sheet, &mut buffers.state)));
+/// The best time of each implementation, over rounds in which they take turns.
+fn best(names: &[&str], call: &Call) -> Vec<Duration> {
+    let mut implementations: Vec<Implementation> = names.iter().map(|name| Implementation::named(name)).collect();
+    let mut buffers = Buffers::new();
+    let mut best: Vec<Duration> = implementations.iter_mut().map(|implementation| once(call, implementation, &mut buffers)).collect();
+    let repetitions: Vec<u128> = best.iter().map(|time| (ROUND.as_nanos() / time.as_nanos().max(1)).clamp(1, 500)).collect();
+    for _ in 0..ROUNDS {
+        for (which, implementation) in implementations.iter_mut().enumerate() {
+            for _ in 0..repetitions[which] {
+                best[which] = best[which].min(once(call, implementation, &mut buffers));
+            }
+        }
+    }
+    best
 }
 
-fn print_colour(name: &str, file: &[u8], channels: u64) {
-    print_row(FILE_NAMES, name, &|implementation, buffers| Timed::Written(implementation.colour(file, channels, &mut buffers.sheet)));
-}
-
-fn print_move(name: &str, sheet: &[u8]) {
-    print_row(NAMES, name, &|implementation, buffers| Timed::Written(implementation.move_sheet(sheet, &mut buffers.sheet)));
-}
-
-/// The sheets that are moved, each to version 2 and, from there, to version 1.
-fn timed_moves() -> Vec<(String, Vec<u8>)> {
-    let both = |(name, sheet): (&str, Vec<u8>)| {
-        let moved = proved::moved(&sheet);
-        [(format!("move {name} to version 2"), sheet), (format!("move {name} to version 1"), moved)]
+/// What all answer and write; stops where they differ.
+fn agreed(case: &Case, call: &Call) -> Timed {
+    let done_by = |implementation: &str| {
+        let mut buffers = Buffers::new();
+        (call(&mut Implementation::named(implementation), &mut buffers), buffers)
     };
-    generate::timed_moves().into_iter().flat_map(both).collect()
+    let (answer, buffers) = done_by("proved");
+    for other in &case.implementations()[1..] {
+        let (other_answer, other_buffers) = done_by(other);
+        if other_answer != answer || other_buffers != buffers {
+            println!("{}: proved and {other} differ: {answer:?} and {other_answer:?}", case.name());
+            std::process::exit(1);
+        }
+    }
+    answer
+}
+
+/// The proved library's time, and the others' over it.
+fn print_row(case: &Case) {
+    let call = case.call();
+    let answer = match agreed(case, &call) {
+        Timed::Run(Ok(Done { end, steps, .. })) => format!("{end:?}, {steps} steps"),
+        Timed::TakenOut(count) => format!("{count} of {MAX_ITEMS} taken out"),
+        Timed::Start(Ok(())) => "Start(Started)".to_string(),
+        Timed::PutBack(Ok(())) => "PutBack(Done)".to_string(),
+        Timed::Written(Ok(Written { bytes })) => format!("{bytes} bytes written"),
+        Timed::Run(Err(fault)) => format!("Run({fault:?})"),
+        Timed::Start(Err(fault)) => format!("Start({fault:?})"),
+        Timed::PutBack(Err(fault)) => format!("PutBack({fault:?})"),
+        Timed::Written(Err(fault)) => format!("Written({fault:?})"),
+    };
+    let times: Vec<f64> = best(case.implementations(), &call).iter().map(|time| time.as_nanos() as f64 / 1000.0).collect();
+    let ratios: String = times[1..].iter().map(|time| format!(" {:>12.3}", time / times[0])).collect();
+    println!("{:<40} {:>11.1}{ratios}  {answer}", case.row, times[0] / case.calls() as f64);
+}
+
+fn print_head(case: &Case) {
+    let head = |name: &&str| format!(" {:>12}", format!("{}/proved", name.replace("reference", "ref")));
+    let heads: String = case.implementations()[1..].iter().map(head).collect();
+    println!("\n{:<40} {:>11}{heads}  answer", case.table, "proved us");
 }
 
 /// The run of the family with slides has one in each of its eight groups at least.
@@ -268,62 +336,41 @@ fn check_slides() {
     println!("{}: {slides} slides in {} steps.", generate::SLIDING_FAMILY, steps.len());
 }
 
-/// Prints the row of one family, by its name and its sheet.
-type PrintRow = fn(&str, &[u8]);
-
 fn print_tables() {
     println!("Times of one call, best of {ROUNDS} rounds in which the implementations take turns. Ratios: the other's time over the");
     println!("proved library's; below 1 is faster than the proved library. Each call reads the sheet, fills its table and does the job;");
     println!("the buffers are cleared before, outside the time. All gave the same answer and the same bytes before they were timed.");
+    println!("Put back: the run's own trace. A hand call: the mean of one for each item from the start, taken out or refused.");
     check_slides();
-    let tables: [(&str, PrintRow); 4] = [
-        ("run", |name, sheet| print_row(NAMES, name, &run_call(sheet))),
-        ("put back (the run's own trace)", print_put_back),
-        ("start", print_start),
-        ("a hand call for each item from the start", |name, sheet| print_row(NAMES, name, &hand_list(sheet))),
-    ];
-    for (job, print) in tables {
-        print_head(NAMES, job);
-        generate::families().iter().for_each(|(name, sheet)| print(name, sheet));
-    }
-    print_head(NAMES, "run (version 2)");
-    generate::families().iter().for_each(|(name, sheet)| print_row(NAMES, name, &run_call(&proved::moved(sheet))));
-    print_head(NAMES, "move");
-    timed_moves().iter().for_each(|(name, sheet)| print_move(name, sheet));
-    print_head(FILE_NAMES, "the sheet of a colouring file");
-    generate::timed_files().iter().for_each(|(name, file, channels)| print_colour(name, file, *channels));
-}
-
-fn print_head<const N: usize>(names: [&str; N], job: &str) {
-    let heads: String = names[1..].iter().map(|name| format!(" {:>12}", format!("{}/proved", name.replace("reference", "ref")))).collect();
-    println!("\n{job:<40} {:>11}{heads}  answer", "proved us");
-}
-
-/// Has one implementation do one family, one move or one colouring file, so many times.
-fn count(name: &str, implementation: &str, repetitions: usize) {
-    let (families, moves, files) = (generate::families(), timed_moves(), generate::timed_files());
-    let (mut implementation, mut buffers) = (Implementation::named(implementation), Buffers::new());
-    if let Some((_, sheet)) = families.iter().find(|(family, _)| *family == name) {
-        for _ in 0..repetitions {
-            let _ = black_box(implementation.run(black_box(sheet), &mut buffers.trace, &mut buffers.state));
+    let mut table = String::new();
+    for case in cases() {
+        if case.table != table {
+            print_head(&case);
+            table.clone_from(&case.table);
         }
-    } else if let Some((_, sheet)) = moves.iter().find(|(moved, _)| moved == name) {
-        for _ in 0..repetitions {
-            let _ = black_box(implementation.move_sheet(black_box(sheet), &mut buffers.sheet));
-        }
-    } else if let Some((_, file, channels)) = files.iter().find(|(file, ..)| *file == name) {
-        for _ in 0..repetitions {
-            let _ = black_box(implementation.colour(black_box(file), *channels, &mut buffers.sheet));
-        }
-    } else {
-        panic!("no family, no move and no colouring file {name}");
+        print_row(&case);
     }
 }
 
+// ---- Instructions -------------------------------------------------------------------------------------------------------------------
+
+/// The name of each case, and how many calls it makes.
 fn print_names() {
-    generate::families().iter().for_each(|(name, _)| println!("{name}"));
-    timed_moves().iter().for_each(|(name, _)| println!("{name}"));
-    generate::timed_files().iter().for_each(|(name, ..)| println!("{name}"));
+    cases().iter().for_each(|case| println!("{} {}", case.name(), case.calls()));
+}
+
+/// Has one implementation do one case: once for what is done the first time only, and once to be counted.
+fn count(name: &str, implementation: &str) {
+    let case = cases().into_iter().find(|case| case.name() == name).unwrap_or_else(|| panic!("no case {name}"));
+    let (call, mut implementation, mut buffers) = (case.call(), Implementation::named(implementation), Buffers::new());
+    black_box(call(&mut implementation, &mut buffers));
+    counted(&call, &mut implementation, &mut buffers);
+}
+
+/// callgrind.sh counts what is done inside this function and nothing else.
+#[inline(never)]
+fn counted(call: &Call, implementation: &mut Implementation, buffers: &mut Buffers) {
+    black_box(call(black_box(implementation), black_box(buffers)));
 }
 
 fn main() {
@@ -332,8 +379,7 @@ fn main() {
     match arguments[..] {
         [] => print_tables(),
         ["--names"] => print_names(),
-        ["--count", name, implementation] => count(name, implementation, 10),
-        ["--count", name, implementation, repetitions] => count(name, implementation, repetitions.parse().expect("a number")),
-        _ => panic!("families [--names | --count NAME IMPLEMENTATION [REPETITIONS]]"),
+        ["--count", name, implementation] => count(name, implementation),
+        _ => panic!("families [--names | --count NAME IMPLEMENTATION]"),
     }
 }
