@@ -128,6 +128,15 @@ at-lowest-same n m f h g z same =
     (λ x. at-lowest-none f g z n x ∙ sym (at-lowest-none h g z m (λ k l t. let y = same k .1 (l, t) in x k (y .0) (y .1))))
     (lowest-or f n)
 
+-- and two that say the same of each number
+pub at-lowest-ext : {A : Type 0} (n : ℕ) (f h : ℕ → Bool) (g k : ℕ → A) (z : A) → ((i : ℕ) → i < n → f i ≡ h i) → ((i : ℕ) → i < n → g i ≡ k i) → atLowest n f g z ≡ atLowest n h k z
+at-lowest-ext n f h g k z same alike =
+    ⊎-elim
+    (λ x. at-lowest-is f g z n (x .0) (x .1) (x .2) (x .3) ∙ alike (x .0) (x .1)
+    ∙ sym (at-lowest-is h k z n (x .0) (x .1) (subst T (same (x .0) (x .1)) (x .2)) (λ m l t. x .3 m l (subst T (sym (same m (omega (arith, x .1)))) t))))
+    (λ x. at-lowest-none f g z n x ∙ sym (at-lowest-none h k z n (λ i l t. x i l (subst T (sym (same i l)) t))))
+    (lowest-or f n)
+
 -- ---- sums
 
 pub sum-none : (f : ℕ → ℕ) → sumTo 0 f ≡ 0

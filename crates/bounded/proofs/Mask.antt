@@ -1,19 +1,19 @@
 -- Sets of small numbers as one number: members, the bitwise operations, and equality by members. Assumes nothing.
 use Prim.Native.Nat.{ℕ, zero, suc, _+_, _-_, _*_, _/_, _%_, _^_, _<_, _≤_, min, max}
 use mathlib.Core.Path.{_≡_, refl, sym, ap, _∙_, subst}
-use mathlib.Core.Bool.{Bool, true, false, cond, not, _&&_, _||_, Bool·beq}
+use mathlib.Core.Bool.{Bool, true, false, cond, not, _&&_, _||_, Bool·beq, and-true}
 use mathlib.Core.Logic.{_⊎_, ⊎-elim}
-use native.Mathlib.Nat.{not-suc-le-zero, add-mul-div-right, zero-div, lt-of-le-of-lt, div-eq-of-lt, pow-le-pow-right}
+use native.Mathlib.Nat.{not-suc-le-zero, one-mul, mul-comm, mul-assoc, add-mul-div-right, zero-div, lt-of-le-of-lt, div-eq-of-lt, pow-le-pow-right}
 use native.Mathlib.Numerals.{add-one}
 use native.Mathlib.Omega.{arith}
 use lib.Dec.{T, eqb}
-use lib.Bits.{bitAnd, and-step, and-shr, and-le-l, bitOr, or-step, or-shr}
+use lib.Bits.{bitAnd, and-step, and-shr, and-le-l, and-le-r, bitOr, or-step, or-shr, or-zero-r, or-shifted-r}
 use lib.Count.{trailingZeros, under}
-use lib.Pow.{shr-shr, pow-add, pow-pos, high}
+use lib.Pow.{shr-shr, pow-add, pow-mono, pow-pos, high}
 use borrow.Author.Tests.{eq-eqb, ne-eqb, eqb-true, eqb-false}
 use Rattle.bounded.specs.Bounded.{allBelow, anyBelow, lowest, atLowest, imp}
 use Rattle.bounded.specs.Mask.{bit, maskOf, without}
-use Rattle.bounded.proofs.Truth.{T-ext, T-of, and-iff, imp-iff, eqb-iff, split, clash, at-or-below, lt-dec}
+use Rattle.bounded.proofs.Truth.{T-ext, T-of, and-iff, imp-iff, eqb-iff, split, clash, at-or-below, eq-dec, lt-dec}
 use Rattle.bounded.proofs.Bounded.{all-iff, lowest-here, lowest-later}
 use Rattle.bounded.proofs.Loops.{all-each, any-each, any-intro, at-lowest-some, at-lowest-end}
 
@@ -205,10 +205,103 @@ two-sums zero f = refl
 two-sums (suc n) f = omega (arith, two-sums n f, either (f n) (2 ^ n), double n)
 
 -- the members that x lacks
+pub bit-not : (n x c : ℕ) → x < 2 ^ n → c < n → bit (2 ^ n - 1 - x) c ≡ not (bit x c)
+bit-not n x c l m =
+    let e : 2 ^ n - 1 - x ≡ maskOf n (λ c. not (bit x c)) = omega (arith, two-sums n (bit x), mask-is n x (bit x) l (λ c k. refl)) in
+    ap (λ (y : ℕ). bit y c) e ∙ bit-mask n (λ c. not (bit x c)) c m
+
 pub bit-not16 : (x c : ℕ) → x < 2 ^ 16 → c < 16 → bit (65535 - x) c ≡ not (bit x c)
-bit-not16 x c l m =
-    let e : 65535 - x ≡ maskOf 16 (λ c. not (bit x c)) = omega (arith, two-sums 16 (bit x), mask-is 16 x (bit x) l (λ c k. refl)) in
-    ap (λ (y : ℕ). bit y c) e ∙ bit-mask 16 (λ c. not (bit x c)) c m
+bit-not16 = bit-not 16
+
+-- what x has of y, taken from x
+pub without-met : (n x y : ℕ) → x < 2 ^ n → y < 2 ^ n → bitAnd x (2 ^ n - 1 - bitAnd x y) ≡ bitAnd x (2 ^ n - 1 - y)
+without-met n x y l m =
+    mask-ext n (bitAnd x (2 ^ n - 1 - bitAnd x y)) (bitAnd x (2 ^ n - 1 - y)) (lt-of-le-of-lt (and-le-l x _) l) (lt-of-le-of-lt (and-le-l x _) l)
+    (λ c k. bit-and x (2 ^ n - 1 - bitAnd x y) c ∙ ap (λ (b : Bool). bit x c && b) (bit-not n (bitAnd x y) c (lt-of-le-of-lt (and-le-l x y) l) k ∙ ap not (bit-and x y c))
+    ∙ again (bit x c) (bit y c) ∙ ap (λ (b : Bool). bit x c && b) (sym (bit-not n y c m k)) ∙ sym (bit-and x (2 ^ n - 1 - y) c))
+  where
+    again : (a b : Bool) → (a && not (a && b)) ≡ (a && not b)
+    again true b = refl
+    again false b = refl
+
+-- ---- one bit, by `&` and `|` with a power of 2
+
+-- a power of 2 is the set of one number: one computed test
+singles : allBelow 16 (λ b. eqb (2 ^ b) (maskOf 16 (λ c. eqb c b))) ≡ true
+unfolding allBelow maskOf
+singles = refl
+
+pub bit-single : (b c : ℕ) → b < 16 → c < 16 → bit (2 ^ b) c ≡ eqb c b
+bit-single b c l m =
+    let e : 2 ^ b ≡ maskOf 16 (λ c. eqb c b) = eqb-true _ _ (all-each (λ b. eqb (2 ^ b) (maskOf 16 (λ c. eqb c b))) 16 singles b l) in
+    ap (λ (x : ℕ). bit x c) e ∙ bit-mask 16 (λ c. eqb c b) c m
+
+and-zero : (t : Bool) → (t && false) ≡ false
+and-zero true = refl
+and-zero false = refl
+
+one-bit : (x b c : ℕ) → b < 16 → c < 16 → bit (bitAnd x (2 ^ b)) c ≡ (bit x c && eqb c b)
+one-bit x b c l m = bit-and x (2 ^ b) c ∙ ap (λ (t : Bool). bit x c && t) (bit-single b c l m)
+
+-- `x & (1 << b) == 0`
+pub bit-miss : (x b : ℕ) → b < 16 → bitAnd x (2 ^ b) ≡ 0 → bit x b ≡ false
+bit-miss x b l e =
+    sym (and-true (bit x b)) ∙ ap (λ (t : Bool). bit x b && t) (sym (eq-eqb b b refl)) ∙ sym (one-bit x b b l l) ∙ ap (λ (y : ℕ). bit y b) e ∙ bit-none b
+
+-- `x & (1 << b) != 0`
+pub bit-hit : (x b : ℕ) → b < 16 → (bitAnd x (2 ^ b) ≡ 0 → ⊥) → bit x b ≡ true
+bit-hit x b l h =
+    ⊎-elim
+    (λ t. t)
+    (λ t.
+    let q : 2 ^ b ≤ 2 ^ 15 = pow-mono {j = 15} (omega arith) in
+    let r = and-le-r x (2 ^ b) in
+    absurd (h (mask-ext 16 (bitAnd x (2 ^ b)) 0 (omega arith) (omega arith) (λ c m. one-bit x b c l m ∙ none c t ∙ sym (bit-none c)))))
+    (split (bit x b))
+  where
+    none : (c : ℕ) → bit x b ≡ false → (bit x c && eqb c b) ≡ false
+    none c t =
+        ⊎-elim
+        (λ e. ap (λ (y : ℕ). bit x y && eqb c b) e ∙ ap (λ (u : Bool). u && eqb c b) t)
+        (λ d. ap (λ (u : Bool). bit x c && u) (ne-eqb c b d) ∙ and-zero (bit x c))
+        (eq-dec c b)
+
+-- a loop that collects the members of a test by `|`: one number more
+pub mask-or : (f : ℕ → Bool) (w n y : ℕ) → w ≡ maskOf n f → y ≡ cond (f n) (2 ^ n) 0 → bitOr w y ≡ maskOf (n + 1) f
+mask-or f w n y e h = ap (λ (v : ℕ). bitOr v y) e ∙ ap (λ (v : ℕ). bitOr (maskOf n f) v) h ∙ go (f n) ∙ sym (mask-more n f)
+  where
+    go : (t : Bool) → bitOr (maskOf n f) (cond t (2 ^ n) 0) ≡ maskOf n f + cond t (2 ^ n) 0
+    go true =
+        let q = or-shifted-r 1 n (maskOf n f) (mask-lt n f) in
+        ap (λ (v : ℕ). bitOr (maskOf n f) v) (sym (one-mul (2 ^ n))) ∙ q ∙ (let z : 1 * 2 ^ n + maskOf n f ≡ maskOf n f + 2 ^ n = omega arith in z)
+    go false = or-zero-r (maskOf n f) ∙ (let z : maskOf n f ≡ maskOf n f + 0 = omega arith in z)
+
+-- ---- two sets side by side
+
+module _ (n x y c : ℕ) where
+  -- below n it is the first
+  pub bit-first : c < n → bit (x + 2 ^ n * y) c ≡ bit x c
+  bit-first l =
+      let d : ℕ = n - suc c in
+      let e : n ≡ suc d + c = omega arith in
+      let p : 2 ^ n ≡ 2 ^ d * 2 * 2 ^ c = ap (λ (k : ℕ). 2 ^ k) e ∙ pow-add 2 (suc d) c ∙ ap (λ (k : ℕ). k * 2 ^ c) (double d) in
+      let r : 2 ^ n * y ≡ 2 ^ d * y * 2 * 2 ^ c = ap (λ (k : ℕ). k * y) p ∙ moved (2 ^ d) (2 ^ c) in
+      let q : (x + 2 ^ n * y) / 2 ^ c ≡ x / 2 ^ c + 2 ^ d * y * 2 = ap (λ (k : ℕ). (x + k) / 2 ^ c) r ∙ add-mul-div-right x (2 ^ d * y * 2) (pow-pos c) in
+      ap (λ (m : ℕ). eqb (m % 2) 1) q ∙ (let z : (x / 2 ^ c + 2 ^ d * y * 2) % 2 ≡ x / 2 ^ c % 2 = omega arith in ap (λ (m : ℕ). eqb m 1) z)
+    where
+      moved : (a b : ℕ) → a * 2 * b * y ≡ a * y * 2 * b
+      moved a b = mul-comm (a * 2 * b) y ∙ sym (mul-assoc y (a * 2) b) ∙ ap (λ (k : ℕ). k * b) (sym (mul-assoc y a 2) ∙ ap (λ (k : ℕ). k * 2) (mul-comm y a))
+
+  -- and from n on the second
+  pub bit-second : x < 2 ^ n → n ≤ c → bit (x + 2 ^ n * y) c ≡ bit y (c - n)
+  bit-second l m =
+      let e : n + (c - n) ≡ c = omega arith in
+      let q : (x + 2 ^ n * y) / 2 ^ n ≡ y = ap (λ (k : ℕ). k / 2 ^ n) (turned (2 ^ n)) ∙ high y n l in
+      ap (λ (k : ℕ). eqb (k % 2) 1)
+      (ap (λ (k : ℕ). (x + 2 ^ n * y) / 2 ^ k) (sym e) ∙ sym (shr-shr (x + 2 ^ n * y) n (c - n)) ∙ ap (λ (k : ℕ). k / 2 ^ (c - n)) q)
+    where
+      turned : (a : ℕ) → x + a * y ≡ y * a + x
+      turned a = let p = mul-comm a y in omega arith
 
 -- the zeros below a set's lowest member are its number
 pub zeros-lowest : (n x : ℕ) → trailingZeros n x ≡ lowest n (bit x)

@@ -1,6 +1,6 @@
 -- Sets as numbers: a part is no greater, and a loop may take the lowest member out until none is left. Assumes nothing.
 use mathlib.Core.Path.{_≡_, refl, sym, ap, _∙_, subst}
-use mathlib.Core.Bool.{not, _&&_}
+use mathlib.Core.Bool.{Bool, false, not, _&&_}
 use mathlib.Core.Logic.{_⊎_, inl, inr, _≢_, ⊎-elim}
 use Prim.Native.Nat.{ℕ, _^_, _≤_, _<_}
 use native.Mathlib.Nat.{lt-of-le-of-lt}
@@ -10,9 +10,9 @@ use lib.Dec.{T, eqb}
 use borrow.Author.Tests.{ne-eqb}
 use Rattle.bounded.specs.Bounded.{anyBelow, lowest}
 use Rattle.bounded.specs.Mask.{bit, without}
-use Rattle.bounded.proofs.Truth.{T-of, split, clash, and-iff, imp-iff, not-iff, eqb-iff, eq-dec}
-use Rattle.bounded.proofs.Bounded.{all-iff, any-iff, lowest-is}
-use Rattle.bounded.proofs.Mask.{bit-and, within, zero-bits}
+use Rattle.bounded.proofs.Truth.{T-of, T-not, split, clash, and-iff, imp-iff, not-iff, eqb-iff, eq-dec}
+use Rattle.bounded.proofs.Bounded.{all-iff, any-iff, lowest-is, lowest-le, lowest-least}
+use Rattle.bounded.proofs.Mask.{bit-and, bit-none, within, zero-bits}
 
 -- the lowest member of a set that is not empty
 pub lowest-member : (n x : ℕ) → x < 2 ^ n → x ≢ 0 → (lowest n (bit x) < n) × T (bit x (lowest n (bit x)))
@@ -33,7 +33,7 @@ without-part n x b c t = and-iff (bit x c) _ .0 (subst T (bit-and x _ c) t) .0
 
 -- for each of the two sizes of set, by its law of `without`
 module _ (n : ℕ) (law : (x b c : ℕ) → b < n → c < n → bit (without n x b) c ≡ (bit x c && not (eqb c b))) (x b : ℕ) (l : b < n) where
-  without-other : (c : ℕ) → c < n → T (bit (without n x b) c) → c ≢ b
+  pub without-other : (c : ℕ) → c < n → T (bit (without n x b) c) → c ≢ b
   without-other c k t e = not-iff (eqb c b) .0 (and-iff (bit x c) (not (eqb c b)) .0 (subst T (law x b c l k) t) .1) (eqb-iff c b .1 e)
 
   pub without-gone : (c : ℕ) → c < n → T (bit x c) → (T (bit (without n x b) c) → ⊥) → c ≡ b
@@ -73,3 +73,29 @@ left-lowest n law {set} {rest} {b} L d e =
 -- a set that is without b has only others
 pub left-other : (n : ℕ) → ((x b c : ℕ) → b < n → c < n → bit (without n x b) c ≡ (bit x c && not (eqb c b))) → {set rest c : ℕ} (x b : ℕ) → Left n set rest → set ≡ without n x b → b < n → c < n → T (bit rest c) → c ≢ b
 left-other n law {c = c} x b L e l k t = without-other n law x b l c k (subst (λ (y : ℕ). T (bit y c)) e (L .part c t))
+
+-- ---- a loop that seeks the lowest number at which a test holds
+
+-- every number below n at which f holds is still left
+pub record Sought (n : ℕ) (f : ℕ → Bool) (set rest : ℕ) : Type 0 where
+  pub left : Left n set rest
+  pub all : (c : ℕ) → c < n → T (f c) → T (bit rest c)
+
+pub sought-all : (n : ℕ) (f : ℕ → Bool) (set : ℕ) → set < 2 ^ n → ((c : ℕ) → c < n → T (f c) → T (bit set c)) → Sought n f set set
+sought-all n f set l h = record { left = left-all n set l; all = h }
+
+-- one passed at which it does not hold
+pub sought-next : (n : ℕ) → ((x b c : ℕ) → b < n → c < n → bit (without n x b) c ≡ (bit x c && not (eqb c b))) → {f : ℕ → Bool} {set rest b : ℕ} → Sought n f set rest → b < n → f b ≡ false → Sought n f set (without n rest b)
+sought-next n law {f} {set} {rest} {b} S l e =
+    record {
+      left = left-next b (S .left);
+      all = λ c k t. subst T (sym (law rest b c l k)) (and-iff (bit rest c) (not (eqb c b)) .1 (S .all c k t, not-iff (eqb c b) .1 (λ q. T-not e (subst (λ (x : ℕ). T (f x)) (eqb-iff c b .0 q) t))));
+    }
+
+-- the lowest left: it holds at none before
+pub sought-least : {n : ℕ} {f : ℕ → Bool} {set rest b : ℕ} → Sought n f set rest → b ≡ lowest n (bit rest) → (c : ℕ) → c < b → T (f c) → ⊥
+sought-least {n} {f} {set} {rest} {b} S e c l t = let q = lowest-le n (bit rest) in lowest-least n (bit rest) c (omega arith) (S .all c (omega arith) t)
+
+-- none left: it holds at none
+pub sought-none : {n : ℕ} {f : ℕ → Bool} {set rest : ℕ} → Sought n f set rest → rest ≡ 0 → (c : ℕ) → c < n → T (f c) → ⊥
+sought-none {n} {f} {set} {rest} S e c l t = T-not (ap (λ (x : ℕ). bit x c) e ∙ bit-none c) (S .all c l t)

@@ -66,3 +66,11 @@ pub fn weight(t: bool, b: usize) -> u16
 {
     if t { power(b) as u16 } else { 0 }
 }
+
+// The word x where c is in a set of 16, else 0. By `&`, so that a loop over c can do many at once.
+pub fn where16(set: u16, c: usize, x: u16) -> u16
+    requires { ⌜ c < 16 ⌝ }
+    ensures { λ r. ⌜ r ≡ cond (bit set c) x 0 ⌝ }
+{
+    if set & (1u16 << c) != 0 { x } else { 0 }
+}
