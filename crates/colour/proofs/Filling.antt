@@ -1,73 +1,28 @@
--- The table of a colouring problem, entry by entry. Assumes nothing.
+-- The table of a colouring problem, filled edge by edge. Assumes nothing.
 use mathlib.Core.Path.{_≡_, refl, sym, ap, _∙_, subst}
-use mathlib.Core.Bool.{Bool, true, false, not, cond, _&&_, and-false, and-true}
+use mathlib.Core.Bool.{Bool, true, false, not, cond, _&&_, and-false}
 use mathlib.Core.List.{List}
 use mathlib.Core.Logic.{_⊎_, inl, inr, ⊎-elim, _≢_}
 use Prim.Native.Nat.{ℕ, _+_, _-_, _*_, _/_, _%_, _^_, _≤_, _<_}
 use native.Mathlib.Omega.{arith}
 use lib.Dec.{T, eqb, ltb}
-use lib.ListN.{getD, set, length-set}
-use lib.Seq.{getD-set-same, getD-set-other, ext-getD}
-use lib.Bits.{and-le-l}
-use lib.Pow.{pow-mono, pow-pos}
-use borrow.Author.Tests.{lt-ltb, le-ltb}
+use lib.ListN.{getD}
+use borrow.Author.Tests.{lt-ltb, le-ltb, ltb-true}
 use Rattle.bounded.specs.Mask.{bit, without}
-use Rattle.bounded.proofs.Truth.{T-ext, eqb-iff, lt-dec, eq-dec, T-not}
-use Rattle.bounded.proofs.Mask.{bit-mask, bit-without16}
-use Rattle.bounded.proofs.Table.{length-tab, getD-tab}
-use Rattle.problem.specs.Problem.{Problem, bothWays}
-use Rattle.problem.specs.Held.{rowWord, tableLength, tableEntry, tableOf, Bounded}
-use Rattle.problem.proofs.HeldTable.{row-only, row-none}
+use Rattle.bounded.proofs.Truth.{T-ext, T-not, eqb-iff, lt-dec, split, both}
+use Rattle.bounded.proofs.Mask.{full-bit, bit-without16}
+use Rattle.bounded.proofs.Table.{getD-tab}
+use Rattle.problem.specs.Problem.{bothWays}
+use Rattle.problem.specs.Held.{Bounded, Filled}
+use Rattle.problem.specs.Filling.{Shows, Entered}
 use Rattle.problem.proofs.BothWays.{both-up, both-down, both-same}
-use Rattle.held.proofs.Full.{below-mask}
+use Rattle.problem.proofs.Filling.{filled-pairs}
 use Rattle.graph.specs.Colouring.{channelsAt, isChannel, mayStand, colouring}
-use Rattle.colour.specs.Parts.{FilledTo, Pair}
-
--- ---- one entry more
-
-module _ (P : Problem) (t : List ℕ) (m : ℕ) (F : FilledTo P t m) where
-  pub fill-one : (v : ℕ) → m < tableLength → v ≡ tableEntry P m → FilledTo P (set t m v) (m + 1)
-  fill-one v h e =
-      let l = F .long in
-      record {
-        long = length-set t m v ∙ l;
-        below = λ q d. ⊎-elim
-            (λ (s : q ≡ m). ap (λ (x : ℕ). getD (set t m v) x 0) s ∙ getD-set-same t m v 0 (omega arith) ∙ e ∙ ap (tableEntry P) (sym s))
-            (λ (s : q ≢ m). getD-set-other t m q v 0 s ∙ F .below q (omega arith))
-            (eq-dec q m);
-        above = λ q d. getD-set-other t m q v 0 (λ s. omega arith) ∙ F .above q (omega arith);
-      }
-
-  -- entries that are 0 stand there already
-  pub fill-skip : (m′ : ℕ) → m ≤ m′ → ((q : ℕ) → m ≤ q → q < m′ → tableEntry P q ≡ 0) → FilledTo P t m′
-  fill-skip m′ h z = record {
-    long = F .long;
-    below = λ q d. ⊎-elim (λ (s : q < m). F .below q s) (λ (s : m ≤ q). F .above q s ∙ sym (z q s d)) (lt-dec q m);
-    above = λ q d. F .above q (omega arith);
-  }
-
-  pub fill-end : ((q : ℕ) → m ≤ q → q < tableLength → tableEntry P q ≡ 0) → t ≡ tableOf P
-  unfolding tableOf
-  fill-end z =
-      let l = F .long in
-      ext-getD 0 t (tableOf P) (l ∙ sym (length-tab tableLength (tableEntry P)))
-      (λ q d. ⊎-elim (λ (s : q < m). F .below q s) (λ (s : m ≤ q). F .above q s ∙ sym (z q s (omega arith))) (lt-dec q m) ∙ sym (getD-tab tableLength (tableEntry P) q 0 (omega arith)))
-
--- ---- entries of a table
-
-size-at : (P : Problem) (q : ℕ) → q < 32 → tableEntry P q ≡ P .size q
-unfolding tableEntry
-size-at P q h = rw (lt-ltb q 32 h, tableEntry)
-
-row-at : (P : Problem) (x a : ℕ) → a < 16 → tableEntry P (32 + 16 * x + a) ≡ rowWord P (x / 32) (x % 32) a
-unfolding tableEntry
-row-at P x a h =
-    let q : ltb (32 + 16 * x + a) 32 ≡ false = le-ltb _ 32 (let z : 32 ≤ 32 + 16 * x + a = omega arith in z) in
-    let i : (32 + 16 * x + a - 32) / 512 ≡ x / 32 = omega arith in
-    let v : (32 + 16 * x + a - 32) % 16 ≡ a = omega arith in
-    let y : (32 + 16 * x + a - 32) / 16 ≡ x = omega arith in
-    let j : (32 + 16 * x + a - 32) / 16 % 32 ≡ x % 32 = ap (λ (z : ℕ). z % 32) y in
-    rw (q, tableEntry) (λ t. rowWord P (i t) (j t) (v t))
+use Rattle.graph.specs.Scan.{isMarked}
+use Rattle.table.specs.Parts.{Wrote, HasPlaces, Blank}
+use Rattle.table.proofs.Entering.{entered-located}
+use Rattle.table.proofs.Blank.{blank-shows}
+use Rattle.colour.specs.Parts.{markedProblem, Ranged, sizeWord, edgeRows, isEdge, PlaceEntered, pairSays, EnteredTo}
 
 -- ---- what a colouring problem allows
 
@@ -168,78 +123,113 @@ module _ (v k : ℕ) (joined : ℕ → ℕ → Bool) where
         (p .0, rw (size-in i (p .0)) (p .1), q .0, rw (size-in j (q .0)) (q .1), allowed-apart i a j b t);
   }
 
--- ---- the entries of its table
+-- ---- a table filled in turn
 
--- all channels
-full-bits : (k c : ℕ) → k ≤ 16 → c < 16 → bit (2 ^ k - 1) c ≡ ltb c k
-full-bits k c h l = ap (λ (x : ℕ). bit x c) (below-mask 16 k h (pow-mono h)) ∙ bit-mask 16 (λ c. ltb c k) c l
+-- the sizes and the list of places stand, and no block
+pub none-entered : (near rows t t₁ t₂ : List ℕ) (n : ℕ) (f : ℕ → ℕ) → Blank t → Wrote 32 t t₁ 0 f → HasPlaces t₁ t₂ → EnteredTo near n 0 rows t₂ t₂
+none-entered near rows t t₁ t₂ n f blank w h =
+    record {
+      located = h .located;
+      sizes = λ q l. refl;
+      below = λ i j p q l. absurd (omega arith);
+      above = λ i j p q l.
+          blank-shows t₂ (λ k lo hi. h .rest k lo ∙ w .above k (omega arith) ∙ blank .each k hi) i j p q;
+    }
 
--- the row of a towards a vertex with k channels: all of them, or all but a
-abbrev rowBarring : (bars : Bool) (k a : ℕ) → ℕ
-rowBarring bars k a = cond bars (without 16 (2 ^ k - 1) a) (2 ^ k - 1)
+-- the place of an edge is that of two vertices in order, which are marked
+pub edge-facts : (near : List ℕ) (n x : ℕ) → isEdge near n x ≡ true → (x / 32 < x % 32) × (x % 32 < n) × (isMarked near (x / 32) (x % 32) ≡ true)
+unfolding isEdge
+edge-facts near n x q =
+    let y = both (ltb (x / 32) (x % 32)) _ q in
+    let z = both (ltb (x % 32) n) _ (y .1) in
+    (ltb-true _ _ (y .0), ltb-true _ _ (z .0), z .1)
 
-row-bits : (bars : Bool) (k a c : ℕ) → k ≤ 16 → a < 16 → c < 16 → bit (rowBarring bars k a) c ≡ (ltb c k && not (bars && eqb c a))
-row-bits true k a c h l m = bit-without16 (2 ^ k - 1) a c l m ∙ ap (λ (t : Bool). t && not (eqb c a)) (full-bits k c h m)
-row-bits false k a c h l m = full-bits k c h m ∙ sym (and-true (ltb c k))
+-- one place more
+module _ (near rows t u w : List ℕ) (n x : ℕ) (few : n ≤ 32) (E : EnteredTo near n x rows t u) (p : PlaceEntered near n x rows u w) where
+  -- the place is that of one pair
+  there : (i j : ℕ) → j < n → 32 * i + j ≡ x → (x / 32 ≡ i) × (x % 32 ≡ j)
+  there i j l e = (omega arith, omega arith)
 
-row-small : (bars : Bool) (k a : ℕ) → k ≤ 16 → rowBarring bars k a < 2 ^ 16
-row-small true k a h = let l = and-le-l (2 ^ k - 1) (2 ^ 16 - 1 - 2 ^ a) in let m = pow-mono h in let p = pow-pos k in omega arith
-row-small false k a h = let m = pow-mono h in let p = pow-pos k in omega arith
+  -- what is shown where the place is an edge's, and where it is not
+  module _ (q : isEdge near n x ≡ true) where
+    entered : Entered u (x / 32) (x % 32) rows w
+    entered = p .edge q
 
-module _ (v k : ℕ) (joined : ℕ → ℕ → Bool) (few : k ≤ 16) where
-  -- a row of two different vertices
-  pub row-entry : (x a : ℕ) → Pair v (x / 32) (x % 32) → a < k
-      → cond (joinedPair joined (x / 32) (x % 32)) (without 16 (2 ^ k - 1) a) (2 ^ k - 1) ≡ tableEntry (colouring v k joined) (32 + 16 * x + a)
-  row-entry x a Q h =
-      row-only (colouring v k joined) (x / 32) (x % 32) a (rowBarring (joinedPair joined (x / 32) (x % 32)) k a) (row-small (joinedPair joined (x / 32) (x % 32)) k a few)
-      (λ c l. row-bits (joinedPair joined (x / 32) (x % 32)) k a c few (omega arith) l ∙ sym (⊎-elim
-      (λ (m : c < k). allows v k joined (x / 32) a (x % 32) c (Q .first) h (Q .second) m (Q .apart) ∙ sym (ap (λ (t : Bool). t && not (joinedPair joined (x / 32) (x % 32) && eqb c a)) (lt-ltb c k m)))
-      (λ (m : k ≤ c). (colouring v k joined) .symmetric (x / 32) a (x % 32) c ∙ allows-none v k joined (x % 32) c (x / 32) a (inr m) ∙ sym (ap (λ (t : Bool). t && not (joinedPair joined (x / 32) (x % 32) && eqb c a)) (le-ltb c k m)))
-      (lt-dec c k)))
-      ∙ sym (row-at (colouring v k joined) x a (omega arith))
+    edge-here : Shows w (x / 32) (x % 32) (pairSays near rows (x / 32) (x % 32))
+    edge-here = subst (λ (m : Bool). Shows w (x / 32) (x % 32) (λ a b. cond m (bit (getD rows a 0) b) true)) (sym (edge-facts near n x q .2)) (entered .here)
 
-  -- a row that is none of the problem's
-  pub no-row : (x a : ℕ) → a < 16 → ((v ≤ x / 32) ⊎ (k ≤ a)) ⊎ ((v ≤ x % 32) ⊎ (x / 32 ≡ x % 32)) → tableEntry (colouring v k joined) (32 + 16 * x + a) ≡ 0
-  no-row x a h w = row-at (colouring v k joined) x a h ∙ sym (row-none (colouring v k joined) (x / 32) (x % 32) a (λ c. go c w))
-    where
-      go : (c : ℕ) → ((v ≤ x / 32) ⊎ (k ≤ a)) ⊎ ((v ≤ x % 32) ⊎ (x / 32 ≡ x % 32)) → (colouring v k joined) .allowed (x / 32) a (x % 32) c ≡ false
-      go c (inl z) = allows-none v k joined (x / 32) a (x % 32) c z
-      go c (inr (inl z)) = (colouring v k joined) .symmetric (x / 32) a (x % 32) c ∙ allows-none v k joined (x % 32) c (x / 32) a (inl z)
-      go c (inr (inr z)) = ap (λ (y : ℕ). (colouring v k joined) .allowed y a (x % 32) c) z ∙ allows-same v k joined (x % 32) a c
+    edge-else : (i j : ℕ) (f : ℕ → ℕ → Bool) → i < j → j < 32 → (32 * i + j ≡ x → ⊥) → Shows u i j f → Shows w i j f
+    edge-else i j f l m d s = entered .else i j f l m (λ h. let a = h .0 in let b = h .1 in d (omega arith)) s
 
-  -- an entry behind the sizes is a row's
-  as-row : (q : ℕ) → 32 ≤ q → q ≡ 32 + 16 * ((q - 32) / 16) + (q - 32) % 16
-  as-row q h = omega arith
+    edge-next : EnteredTo near n (x + 1) rows t w
+    edge-next =
+        record {
+          located = entered-located (E .located) entered;
+          sizes = λ k l. entered .front k (omega arith) ∙ E .sizes k l;
+          below = λ i j l m b. here i j l m b;
+          above = λ i j l m b. edge-else i j _ l m (λ e. absurd (omega arith)) (E .above i j l m (omega arith));
+        }
+      where
+        here : (i j : ℕ) → i < j → j < n → 32 * i + j < x + 1 → Shows w i j (pairSays near rows i j)
+        here i j l m b =
+            ⊎-elim
+            (λ (h : 32 * i + j < x). edge-else i j _ l (omega arith) (λ e. absurd (omega arith)) (E .below i j l m h))
+            (λ (h : x ≤ 32 * i + j). let e = there i j m (omega arith) in subst (λ (k : ℕ). Shows w i k (pairSays near rows i k)) (e .1) (subst (λ (k : ℕ). Shows w k (x % 32) (pairSays near rows k (x % 32))) (e .0) edge-here))
+            (lt-dec (32 * i + j) x)
 
-  -- sizes
-  pub size-entry : (q : ℕ) → q < v → q < 32 → k ≡ tableEntry (colouring v k joined) q
-  size-entry q h l = sym (size-at (colouring v k joined) q l ∙ size-in v k joined q h)
+  module _ (q : isEdge near n x ≡ false) where
+    unmarked : x / 32 < x % 32 → x % 32 < n → isMarked near (x / 32) (x % 32) ≡ false
+    unfolding isEdge
+    unmarked l m = rw (lt-ltb (x / 32) (x % 32) l, lt-ltb (x % 32) n m) at q
 
-  pub no-size : (q : ℕ) → v ≤ q → q < 32 → tableEntry (colouring v k joined) q ≡ 0
-  no-size q h l = size-at (colouring v k joined) q l ∙ colouring-size v k joined q ∙ rw (le-ltb q v h)
+    none-next : EnteredTo near n (x + 1) rows t w
+    none-next =
+        subst (EnteredTo near n (x + 1) rows t) (sym (p .none q))
+        (record { located = E .located; sizes = E .sizes; below = λ i j l m b. here i j l m b; above = λ i j l m b. E .above i j l m (omega arith) })
+      where
+        free : (i j : ℕ) → i < j → j < n → x / 32 ≡ i → x % 32 ≡ j → isMarked near i j ≡ false
+        free i j l m ei ej = rw (ei, ej) at (unmarked (rw (ei, ej) l) (rw ej m))
 
-  -- ---- a table filled in turn
+        here : (i j : ℕ) → i < j → j < n → 32 * i + j < x + 1 → Shows u i j (pairSays near rows i j)
+        here i j l m b =
+            ⊎-elim
+            (λ (h : 32 * i + j < x). E .below i j l m h)
+            (λ (h : x ≤ 32 * i + j).
+            let e = there i j m (omega arith) in
+            subst (λ (g : Bool). Shows u i j (λ a b. cond g (bit (getD rows a 0) b) true)) (sym (free i j l m (e .0) (e .1))) (E .above i j l (omega arith) h))
+            (lt-dec (32 * i + j) x)
 
-  module _ (t : List ℕ) where
-    -- the sizes of the vertices, and of no other
-    pub sizes-end : FilledTo (colouring v k joined) t v → v ≤ 32 → FilledTo (colouring v k joined) t 32
-    sizes-end F h = fill-skip _ t v F 32 h (λ q l m. no-size q l m)
+  pub place-next : EnteredTo near n (x + 1) rows t w
+  place-next = ⊎-elim (λ q. edge-next q) (λ q. none-next q) (split (isEdge near n x))
 
-    -- the channels of a row, and then zeros
-    pub row-ends : (x : ℕ) → FilledTo (colouring v k joined) t (32 + 16 * x + k) → FilledTo (colouring v k joined) t (32 + 16 * (x + 1))
-    row-ends x F = fill-skip _ t (32 + 16 * x + k) F (32 + 16 * (x + 1)) (omega arith)
-        (λ q l m. let e : q ≡ 32 + 16 * x + (q - (32 + 16 * x)) = omega arith in ap (tableEntry (colouring v k joined)) e ∙ no-row x (q - (32 + 16 * x)) (omega arith) (inl (inr (omega arith))))
+-- ---- the table filled
 
-    -- a place that is no pair's
-    pub place-none : (x : ℕ) → (v ≤ x % 32) ⊎ (x / 32 ≡ x % 32) → FilledTo (colouring v k joined) t (32 + 16 * x) → FilledTo (colouring v k joined) t (32 + 16 * (x + 1))
-    place-none x w F = fill-skip _ t (32 + 16 * x) F (32 + 16 * (x + 1)) (omega arith)
-        (λ q l m. let e : q ≡ 32 + 16 * x + (q - (32 + 16 * x)) = omega arith in ap (tableEntry (colouring v k joined)) e ∙ no-row x (q - (32 + 16 * x)) (omega arith) (inr w))
+-- the rows of an edge, and the absence of a block, say what the problem allows
+edge-says : (m : Bool) (k a b : ℕ) → k ≤ 16 → a < k → b < k → cond m (bit (getD (edgeRows k) a 0) b) true ≡ not (m && eqb b a)
+unfolding edgeRows
+edge-says true k a b h la lb =
+    ap (λ (x : ℕ). bit x b) (getD-tab 16 (λ a. without 16 (2 ^ k - 1) a) a 0 (omega arith))
+    ∙ bit-without16 (2 ^ k - 1) a b (omega arith) (omega arith)
+    ∙ ap (λ (t : Bool). t && not (eqb b a)) (full-bit k b lb)
+edge-says false k a b h la lb = refl
 
-    -- the rows of all vertices
-    pub places-end : FilledTo (colouring v k joined) t (32 + 16 * (32 * v)) → t ≡ tableOf (colouring v k joined)
-    places-end F = fill-end _ t (32 + 16 * (32 * v)) F
-        (λ q l m.
-        let e = as-row q (omega arith) in
-        let b : 32 * v ≤ (q - 32) / 16 = omega arith in
-        let d : v ≤ (q - 32) / 16 / 32 = omega arith in
-        ap (tableEntry (colouring v k joined)) e ∙ no-row ((q - 32) / 16) ((q - 32) % 16) (omega arith) (inl (inl d)))
+module _ (near : List ℕ) (n k : ℕ) (R : Ranged near n k) (some : 1 ≤ k) where
+  pub marked-bounded : Bounded (markedProblem near n k)
+  marked-bounded = colouring-bounded n k (isMarked near) (R .vertices) some (R .channels)
+
+  says : (i j a b : ℕ) → i < j → j < n → a < k → b < k → pairSays near (edgeRows k) i j a b ≡ (markedProblem near n k) .allowed i a j b
+  says i j a b l m la lb =
+      let e : joinedPair (isMarked near) i j ≡ isMarked near i j = rw (lt-ltb i j l) in
+      edge-says (isMarked near i j) k a b (R .channels) la lb
+      ∙ sym (allows n k (isMarked near) i a j b (omega arith) la m lb (λ e. absurd (omega arith)) ∙ ap (λ (g : Bool). not (g && eqb b a)) e)
+
+  pub marked-filled : (t t₁ t₂ rows u : List ℕ) → Wrote 32 t t₁ 0 (sizeWord n k) → HasPlaces t₁ t₂ → rows ≡ edgeRows k → EnteredTo near n (32 * n) rows t₂ u → Filled (markedProblem near n k) u
+  unfolding colouring
+  marked-filled t t₁ t₂ rows u w h e E =
+      filled-pairs marked-bounded (E .located)
+      (λ i l. let z : 0 + i ≡ i = omega arith in E .sizes i l ∙ h .sizes i l ∙ rw z at (w .there i l) ∙ sym (colouring-size n k (isMarked near) i))
+      (λ i j l m. record {
+        says = pairSays near (edgeRows k) i j;
+        shows = subst (λ (r : List ℕ). Shows u i j (pairSays near r i j)) e (E .below i j l m (omega arith));
+        right = λ a b la lb. says i j a b l m (rw (size-in n k (isMarked near) i (omega arith)) at la) (rw (size-in n k (isMarked near) j m) at lb);
+      })

@@ -10,7 +10,7 @@ use lib.ListN.{length, getD, replicate, length-replicate, getD-replicate, List·
 use borrow.Author.Tests.{lt-ltb, le-ltb, ltb-false}
 use Rattle.bounded.proofs.Truth.{lt-dec, neither}
 use Rattle.problem.specs.Problem.{Problem, bothWays}
-use Rattle.problem.specs.Held.{tableLength, held, tableOf, Bounded}
+use Rattle.problem.specs.Held.{held, Bounded, Filled}
 use Rattle.problem.proofs.BothWays.{both-up, both-down, both-same}
 use Rattle.problem.proofs.Same.{problem-same}
 use Rattle.sheet.specs.Sheet.{layout}
@@ -25,7 +25,7 @@ use Rattle.compose.specs.declared.Composed.{Composed}
 use Rattle.compose.specs.declared.Composed.the-variants as composed
 use Rattle.compose.proofs.Over.{sheet-over-short, sheet-over-done, sheet-over-table}
 use Rattle.colour.specs.Colour.{hasLoop, miscounted, outOfRange, graphProblem, graphSheet, colourJob}
-use Rattle.colour.specs.Parts.{markedProblem, FilledTo, writeJob, graphJob}
+use Rattle.colour.specs.Parts.{markedProblem, writeJob, graphJob}
 use Rattle.colour.specs.declared.ColourRefusal.the-variants.{File, Buffer}
 use Rattle.colour.specs.declared.Coloured.{Coloured}
 use Rattle.colour.specs.declared.Coloured.the-variants.{Written, Refused}
@@ -38,10 +38,6 @@ zero-at n q = ⊎-elim
     (λ (h : n ≤ q). let l = length-replicate {A = ℕ} n 0 in List·getD-eq-default (replicate {A = ℕ} n 0) 0 (let z : length (replicate {A = ℕ} n 0) ≤ q = omega arith in z))
     (lt-dec q n)
 
--- a table of zeros, of which nothing is filled
-pub blank-table : (P : Problem) → FilledTo P (replicate {A = ℕ} tableLength 0) 0
-blank-table P = record { long = length-replicate {A = ℕ} tableLength 0; below = λ q h. absurd (omega arith); above = λ q h. zero-at tableLength q }
-
 -- no marks
 pub blank-marks : Unmarked (replicate {A = ℕ} 1024 0)
 blank-marks = record { long = length-replicate {A = ℕ} 1024 0; none = λ i j h l. ap (λ (x : ℕ). eqb x 1) (zero-at 1024 (32 * i + j)) }
@@ -52,17 +48,17 @@ abbrev pub colouredOf : Composed → Coloured
 colouredOf (composed.Written w) = Written w
 colouredOf composed.TooShort = Refused Buffer
 
-module _ (P : Problem) (B : Bounded P) (t b : List ℕ) (e : t ≡ tableOf P) where
+module _ (P : Problem) (B : Bounded P) (t b : List ℕ) (F : Filled P t) where
   pub write-answers : colouredOf ((sheetOver layout 1 (held t) b) .answer) ≡ (writeJob P b) .answer
   unfolding writeJob
-  write-answers = rw (sheet-over-table layout 1 P b B t e) (⊎-elim
+  write-answers = rw (sheet-over-table layout 1 P b B F) (⊎-elim
       (λ (h : length b < length (sheetBytes layout 1 P)). rw (sheet-over-short layout 1 P b h, lt-ltb _ _ h))
       (λ (h : length (sheetBytes layout 1 P) ≤ length b). rw (sheet-over-done layout 1 P b h, le-ltb _ _ h))
       (lt-dec (length b) (length (sheetBytes layout 1 P))))
 
   pub write-leaves : (sheetOver layout 1 (held t) b) .buffer ≡ (writeJob P b) .buffer
   unfolding writeJob
-  write-leaves = rw (sheet-over-table layout 1 P b B t e) (⊎-elim
+  write-leaves = rw (sheet-over-table layout 1 P b B F) (⊎-elim
       (λ (h : length b < length (sheetBytes layout 1 P)). rw (sheet-over-short layout 1 P b h, lt-ltb _ _ h))
       (λ (h : length (sheetBytes layout 1 P) ≤ length b). rw (sheet-over-done layout 1 P b h, le-ltb _ _ h))
       (lt-dec (length b) (length (sheetBytes layout 1 P))))

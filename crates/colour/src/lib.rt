@@ -1,12 +1,11 @@
 // The sheet of a colouring graph: the file is read, the table of its colouring problem filled, and the sheet written.
 ghost use mathlib.Core.Path.{_≡_};
-ghost use mathlib.Core.Bool.{cond};
-ghost use Prim.Native.Nat.{_+_, _*_, _/_, _%_, _<_, _≤_};
+ghost use Prim.Native.Nat.{_*_, _<_, _≤_};
 ghost use lib.ListN.{length};
-ghost use Rattle.bounded.specs.Mask.{without};
-ghost use Rattle.problem.specs.Held.{tableOf};
+ghost use Rattle.problem.specs.Held.{tableLength, Located, Filled};
+ghost use Rattle.table.specs.Parts.{Wrote, Blank};
 ghost use Rattle.colour.specs.Colour.{colourNumber, outOfRange, colourJob};
-ghost use Rattle.colour.specs.Parts.{markedProblem, Ranged, FilledTo, pairMarked, Pair, writeJob, graphJob};
+ghost use Rattle.colour.specs.Parts.{markedProblem, Ranged, sizeWord, edgeRows, isEdge, PlaceEntered, EnteredTo, writeJob, graphJob};
 use compose::Composed;
 use graph::GraphRead;
 
@@ -40,82 +39,81 @@ pub fn colour_number(r: ColourRefusal) -> u8
 
 // ---- the table
 
-// Whether an edge joins the items i and j.
-fn joined(near: &[u8], i: usize, j: usize) -> bool
-    requires { ⌜ (length (now near) ≡ 1024) × ((i < 32) × (j < 32)) ⌝ }
-    ensures { λ r. ⌜ r ≡ pairMarked (now (near .entry)) i j ⌝ }
+// The size of vertex i: each of the n has k channels.
+fn size_word(n: usize, k: usize, i: usize) -> u16
+    requires { ⌜ k ≤ 16 ⌝ }
+    ensures { λ r. ⌜ r ≡ sizeWord n k i ⌝ }
 {
-    if i < j {
-        near[32 * i + j] == 1
-    } else {
-        near[32 * j + i] == 1
-    }
+    if i < n { k as u16 } else { 0 }
 }
 
-// The row of setting a towards a vertex whose channels are `all`: those, or those but a.
-fn row(all: u16, bars: bool, a: usize) -> u16
-    requires { ⌜ a < 16 ⌝ }
-    ensures { λ r. ⌜ r ≡ cond bars (without 16 all a) all ⌝ }
-{
-    if bars {
-        bounded::without16(all, a)
-    } else {
-        all
-    }
-}
-
-// The sizes: each vertex has k channels.
-fn fill_sizes(near: &[u8], n: usize, k: usize, t: &mut [u16])
-    requires { ⌜ Ranged (now near) n k × FilledTo (markedProblem (now near) n k) (now t) 0 ⌝ }
-    ensures { λ _. ⌜ FilledTo (markedProblem (now (near .entry)) n k) (now (t .exit)) 32 ⌝ }
+// The sizes. The rest of the table is as it was.
+fn fill_sizes(n: usize, k: usize, t: &mut [u16])
+    requires { ⌜ (length (now t) ≡ tableLength) × (k ≤ 16) ⌝ }
+    ensures { λ _. ⌜ Wrote 32 (now (t .entry)) (now (t .exit)) 0 (sizeWord n k) ⌝ }
 {
     let mut i: usize = 0;
-    while i < n {
-        t[i] = k as u16;
+    while i < 32 {
+        t[i] = size_word(n, k, i);
         i += 1;
     }
 }
 
-// The rows of the pair at place x = 32 i + j of the table.
-fn fill_rows(near: &[u8], n: usize, k: usize, x: usize, t: &mut [u16])
-    requires { ⌜ Ranged (now near) n k × (Pair n (x / 32) (x % 32) × FilledTo (markedProblem (now near) n k) (now t) (32 + 16 * x)) ⌝ }
-    ensures { λ _. ⌜ FilledTo (markedProblem (now (near .entry)) n k) (now (t .exit)) (32 + 16 * (x + 1)) ⌝ }
+// The block of an edge, the same for each: all channels but the row's own.
+fn edge_rows(k: usize) -> [u16; 16]
+    requires { ⌜ k ≤ 16 ⌝ }
+    ensures { λ r. ⌜ r ≡ edgeRows k ⌝ }
 {
-    let bars = joined(near, x / 32, x % 32);
     let all = (bounded::power(k) - 1) as u16;
-    let at = 32 + 16 * x;
+    let mut rows = [0u16; 16];
     let mut a: usize = 0;
-    while a < k {
-        t[at + a] = row(all, bars, a);
+    while a < 16 {
+        rows[a] = bounded::without16(all, a);
         a += 1;
     }
+    rows
 }
 
-// The rows of place x, which may be of one item, or of an item beyond n: these are all 0.
-fn fill_place(near: &[u8], n: usize, k: usize, x: usize, t: &mut [u16])
-    requires { ⌜ Ranged (now near) n k × ((x < 32 * n) × FilledTo (markedProblem (now near) n k) (now t) (32 + 16 * x)) ⌝ }
-    ensures { λ _. ⌜ FilledTo (markedProblem (now (near .entry)) n k) (now (t .exit)) (32 + 16 * (x + 1)) ⌝ }
+// Whether place x = 32 i + j of the marks is that of an edge between two vertices i < j below n.
+fn is_edge(near: &[u8], n: usize, x: usize) -> bool
+    requires { ⌜ (length (now near) ≡ 1024) × (x < 1024) ⌝ }
+    ensures { λ r. ⌜ r ≡ isEdge (now (near .entry)) n x ⌝ }
 {
-    if n <= x % 32 {
-        return;
-    }
-    if x / 32 == x % 32 {
-        return;
-    }
-    fill_rows(near, n, k, x, t);
+    (x / 32 < x % 32) & ((x % 32 < n) & (near[x] == 1))
 }
 
-// Fills a table of zeros with the colouring problem of n vertices and k channels.
-fn fill_table(near: &[u8], n: usize, k: usize, t: &mut [u16])
-    requires { ⌜ Ranged (now near) n k × FilledTo (markedProblem (now near) n k) (now t) 0 ⌝ }
-    ensures { λ _. ⌜ now (t .exit) ≡ tableOf (markedProblem (now (near .entry)) n k) ⌝ }
+// Enters the block of the edge at place x, if there is one.
+fn enter_place(near: &[u8], n: usize, x: usize, rows: &[u16; 16], t: &mut [u16])
+    requires { ⌜ (length (now near) ≡ 1024) × (x < 1024) × Located (now t) ⌝ }
+    ensures { λ _. ⌜ PlaceEntered (now (near .entry)) n x (now (rows .entry)) (now (t .entry)) (now (t .exit)) ⌝ }
 {
-    fill_sizes(near, n, k, t);
+    if !is_edge(near, n, x) {
+        return;
+    }
+    table::enter(t, x / 32, x % 32, rows);
+}
+
+// Enters the block of each edge. A pair without an edge has none.
+fn enter_edges(near: &[u8], n: usize, rows: &[u16; 16], t: &mut [u16])
+    requires { ⌜ (length (now near) ≡ 1024) × (n ≤ 32) × EnteredTo (now near) n 0 (now rows) (now t) (now t) ⌝ }
+    ensures { λ _. ⌜ EnteredTo (now (near .entry)) n (32 * n) (now (rows .entry)) (now (t .entry)) (now (t .exit)) ⌝ }
+{
     let mut x: usize = 0;
     while x < 32 * n {
-        fill_place(near, n, k, x, t);
+        enter_place(near, n, x, rows, t);
         x += 1;
     }
+}
+
+// Fills a table of all ones with the colouring problem of n vertices and k channels.
+fn fill_table(near: &[u8], n: usize, k: usize, t: &mut [u16])
+    requires { ⌜ Ranged (now near) n k × (1 ≤ k) × Blank (now t) ⌝ }
+    ensures { λ _. ⌜ Filled (markedProblem (now (near .entry)) n k) (now (t .exit)) ⌝ }
+{
+    fill_sizes(n, k, t);
+    table::put_places(t);
+    let rows = edge_rows(k);
+    enter_edges(near, n, &rows, t);
 }
 
 // ---- the job
@@ -126,7 +124,7 @@ fn write(near: &[u8], n: usize, k: usize, sheet: &mut [u8]) -> Coloured
     ensures answer { λ r. ⌜ r ≡ (writeJob (markedProblem (now (near .entry)) n k) (now (sheet .entry))) .answer ⌝ }
     ensures buffer { λ _. ⌜ now (sheet .exit) ≡ (writeJob (markedProblem (now (near .entry)) n k) (now (sheet .entry))) .buffer ⌝ }
 {
-    let mut t = [0u16; 16416];
+    let mut t = [65535u16; 16992];
     fill_table(near, n, k, &mut t);
     match compose::write_sheet(&t, 1, sheet) {
         Composed::TooShort => Coloured::Refused(ColourRefusal::Buffer),

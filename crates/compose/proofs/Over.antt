@@ -1,13 +1,13 @@
 -- What a caller of the writer finds in its buffer. Assumes nothing.
-use mathlib.Core.Path.{_≡_, ap, _∙_}
+use mathlib.Core.Path.{_≡_, ap}
 use mathlib.Core.List.{List}
 use Prim.Native.Nat.{ℕ, _≤_, _<_}
 use lib.ListN.{length, take, drop}
 use lib.Seq.{take-append-seam}
 use borrow.Author.Tests.{lt-ltb, le-ltb}
 use Rattle.problem.specs.Problem.{Problem}
-use Rattle.problem.specs.Held.{held, tableOf, Bounded}
-use Rattle.problem.proofs.HeldTable.{held-same}
+use Rattle.problem.specs.Held.{held, Bounded, Filled}
+use Rattle.problem.proofs.HeldTable.{held-filled}
 use Rattle.sheet.specs.Sheet.{Layout}
 use Rattle.jobs.specs.Trace.{fronted}
 use Rattle.compose.specs.Compose.{sheetBytes, sheetOver}
@@ -28,5 +28,5 @@ module _ (L : Layout) (v : ℕ) (P : Problem) (b : List ℕ) where
   sheet-stands = take-append-seam (sheetBytes L v P) (drop (length (sheetBytes L v P)) b)
 
   -- over a table that was filled with the problem
-  pub sheet-over-table : Bounded P → (t : List ℕ) → t ≡ tableOf P → sheetOver L v (held t) b ≡ sheetOver L v P b
-  sheet-over-table B t e = ap (λ (Q : Problem). sheetOver L v Q b) (ap held e ∙ held-same P B)
+  pub sheet-over-table : Bounded P → {t : List ℕ} → Filled P t → sheetOver L v (held t) b ≡ sheetOver L v P b
+  sheet-over-table B F = ap (λ (Q : Problem). sheetOver L v Q b) (held-filled B F)

@@ -3,7 +3,7 @@ use mathlib.Core.Path.{_≡_, refl, sym, ap, _∙_, subst}
 use mathlib.Core.Bool.{Bool, true, false, not, _&&_}
 use mathlib.Core.Logic.{_⊎_, inl, inr, ⊎-elim, _≢_, _↔_, Iff·rfl}
 use mathlib.Core.List.{List}
-use Prim.Native.Nat.{ℕ, _-_, _^_, _<_}
+use Prim.Native.Nat.{ℕ, _+_, _-_, _^_, _<_}
 use lib.Dec.{T, eqb}
 use native.Mathlib.Nat.{lt-trans, lt-of-le-of-lt}
 use lib.Bits.{bitAnd, and-le-l}
@@ -12,10 +12,10 @@ use Rattle.bounded.specs.Bounded.{imp, allBelow, atLowest}
 use Rattle.bounded.specs.Mask.{bit, without}
 use Rattle.bounded.proofs.Truth.{T-ext, T-of, T-not, T-false, T-true, split, clash, and-iff, imp-iff, imp-fails, not-iff, eqb-iff}
 use Rattle.bounded.proofs.Bounded.{all-iff, any-iff}
-use Rattle.bounded.proofs.Mask.{bit-and, bit-not16, bit-without32, within}
-use Rattle.bounded.proofs.Loops.{all-intro, all-fail, lowest-or, at-lowest-is, at-lowest-none, at-lowest-same}
+use Rattle.bounded.proofs.Mask.{bit-and, bit-not16, bit-without32, without-met, within}
+use Rattle.bounded.proofs.Loops.{all-intro, all-fail, lowest-or, at-lowest-is, at-lowest-none, at-lowest-same, at-lowest-ext}
 use Rattle.problem.specs.Problem.{Problem, State, allOther, allThird, unspoilt, breakAt, unbroken, spoils, spoiler, breaks, firstBreak}
-use Rattle.problem.specs.Held.{rowWord, held}
+use Rattle.problem.specs.Held.{rowWord, rowsAt, held}
 use Rattle.problem.specs.Masks.{stateOf}
 use Rattle.problem.specs.declared.Masks.{Masks}
 use Rattle.problem.specs.declared.Cover.{Cover}
@@ -24,10 +24,10 @@ use Rattle.problem.specs.declared.Break.{Break}
 use Rattle.problem.specs.declared.Break.the-variants.{Nowhere}
 use Rattle.problem.proofs.Reflect.{Fits, allOther-iff, allThird-iff, Substitutes, spoils-iff, unspoilt-iff}
 use Rattle.problem.proofs.Spoiler.{breaks-iff}
-use Rattle.problem.proofs.HeldTable.{row-lt}
-use Rattle.held.specs.Ready.{Ready}
+use Rattle.problem.proofs.HeldTable.{row-lt, row-met}
+use Rattle.held.specs.Ready.{Ready, Value, Near, Among}
 use Rattle.cover.specs.Words.{spoilerIn, firstBreakIn, coversIn, servedIn, allServedIn, others, thirds}
-use Rattle.held.proofs.Laws.{row-says, live-value, active-32, word-iff, word-lt}
+use Rattle.held.proofs.Laws.{row-says, near-free, part-values, live-value, domain-values, active-32, word-iff, word-lt}
 
 -- ---- the first break in a set
 
@@ -43,6 +43,15 @@ module _ (P : Problem) (s : State) (rest i a j b l : ℕ) where
 
   unspoilt-in : unspoilt (spoilerIn P s rest i a j b l) ≡ imp (bit rest l) (unspoilt (spoiler P s i a j b l))
   unspoilt-in = ⊎-elim (λ e. rw e (ap unspoilt (in-set e))) (λ e. rw e (ap unspoilt (off-set e))) (split (bit rest l))
+
+-- a variable that breaks the cover is one of the set
+pub break-member : (P : Problem) (s : State) (rest i a j b l : ℕ) → T (not (unspoilt (spoilerIn P s rest i a j b l))) → T (bit rest l)
+break-member P s rest i a j b l h =
+    imp-fails (bit rest l) (unspoilt (spoiler P s i a j b l)) (λ u. not-iff (unspoilt (spoilerIn P s rest i a j b l)) .0 h (subst T (sym (unspoilt-in P s rest i a j b l)) u)) .0
+
+holds-is : (x : Cover) → T (unspoilt x) → x ≡ Holds
+holds-is (Spoilt c) t = absurd t
+holds-is Holds t = refl
 
 -- the break that an answer tells of is one where the answer is spoilt
 unbroken-at : (l : ℕ) (x : Cover) → unbroken (breakAt l x) ≡ unspoilt x
@@ -101,6 +110,10 @@ thirds-iff x i j l p q k = rw (bit-without32 (without 32 x i) j l q k, bit-witho
 pub apart : (x l i : ℕ) → bit x l ≡ true → bit x i ≡ false → l ≢ i
 apart x l i p q e = clash (ap (λ (k : ℕ). bit x k) (sym e) ∙ p) q
 
+-- what is not in a set is not in a part of it
+pub part-out : (x y i : ℕ) → bit x i ≡ false → bit (bitAnd x y) i ≡ false
+part-out x y i e = bit-and x y i ∙ ap (λ (b : Bool). b && bit y i) e
+
 pub others-out : (x i : ℕ) → i < 32 → bit (others x i) i ≡ false
 others-out x i p = T-false _ (λ h. others-iff x i i p p .0 h .1 refl)
 
@@ -133,6 +146,20 @@ module _ {t : List ℕ} {m : Masks} (R : Ready t m) where
         says v =
             bit-and w (65535 - rowWord P i l a) c
             ∙ ap (λ (x : Bool). bit w c && x) (bit-not16 (rowWord P i l a) c (row-lt P i l a) v ∙ ap not (row-says (R .table) i l a c))
+
+    -- the same from the words of the table, which may have bits that l lacks
+    pub spoilers-raw : (p q : ℕ) → p ≡ rowsAt j l → q ≡ rowsAt i l → getD t (q + a) 0 < 2 ^ 16 → Value t i a → Value t j b → l < 32 → l ≢ i → l ≢ j
+        → bitAnd (bitAnd (getD (m .domains) l 0) (getD t (p + b) 0)) (65535 - getD t (q + a) 0) ≡ spoilersWord
+    spoilers-raw p q ep eq small vi vj k di dj =
+        let own = domain-values R l k in
+        let e : bitAnd (getD (m .domains) l 0) (getD t (p + b) 0) ≡ w = ap (λ (x : ℕ). bitAnd (getD (m .domains) l 0) (getD t (x + b) 0)) ep ∙ row-met (R .table) j b l (vj .listed) (λ z. dj (sym z)) (getD (m .domains) l 0) (own .small) (own .within) in
+        let part = part-values own (rowWord (held t) j l b) in
+        let f : bitAnd w (getD t (q + a) 0) ≡ bitAnd w (rowWord (held t) i l a) = ap (λ (x : ℕ). bitAnd w (getD t (x + a) 0)) eq ∙ row-met (R .table) i a l (vi .listed) (λ z. di (sym z)) w (part .small) (part .within) in
+        ap (λ (x : ℕ). bitAnd x (65535 - getD t (q + a) 0)) e ∙ sym (without-met 16 w (getD t (q + a) 0) (part .small) small)
+        ∙ ap (λ (x : ℕ). bitAnd w (65535 - x)) f ∙ without-met 16 w (rowWord (held t) i l a) (part .small) (row-lt (held t) i l a)
+      where
+        w : ℕ
+        w = bitAnd (getD (m .domains) l 0) (rowWord (held t) j l b)
 
     pub spoilers-lt : l < 32 → spoilersWord < 2 ^ 16
     spoilers-lt k = lt-of-le-of-lt (and-le-l _ (65535 - rowWord (held t) i l a)) (word-lt R l _ k)
@@ -213,6 +240,43 @@ module _ {t : List ℕ} {m : Masks} (R : Ready t m) where
       go (inr none) =
           at-lowest-none f g Nowhere 32 none
           ∙ sym (at-lowest-none (breaks P (stateOf m) i b a) h Nowhere (P .n) (λ l q u. let k = active-32 R l (breaks-iff (R .fits) i b a l .0 u .0) in none l k (of l k u)))
+
+  -- a variable that has no block with i spoils no cover by a value of i
+  near-spoiler : (i a j b x : ℕ) → Value t i a → Near t i x → (l : ℕ) → l < 32 → l ≢ i → bit x l ≡ false → spoiler (held t) (stateOf m) i a j b l ≡ Holds
+  near-spoiler i a j b x v near l k d e =
+      holds-is _ (unspoilt-iff (R .fits) i a j b l .1 (λ c o al. near-free (R .table) i a l x v near k d e c (R .fits .live-lt l c o)))
+
+  -- so the first break among the neighbours of i is the first break
+  module _ (rest i a j b x : ℕ) (v : Value t i a) (near : Near t i x) (out : bit rest i ≡ false) where
+    near-in : (l : ℕ) → l < 32 → spoilerIn (held t) (stateOf m) (bitAnd rest x) i a j b l ≡ spoilerIn (held t) (stateOf m) rest i a j b l
+    near-in l k =
+        ⊎-elim
+        (λ e. ⊎-elim
+        (λ n. in-set _ _ _ _ _ _ _ _ (bit-and rest x l ∙ (λ k. e k && n k)) ∙ sym (in-set _ _ _ _ _ _ _ _ e))
+        (λ n. off-set _ _ _ _ _ _ _ _ (bit-and rest x l ∙ (λ k. e k && n k)) ∙ sym (in-set _ _ _ _ _ _ _ _ e ∙ near-spoiler i a j b x v near l k (apart rest l i e out) n))
+        (split (bit x l)))
+        (λ e. off-set _ _ _ _ _ _ _ _ (bit-and rest x l ∙ ap (λ (y : Bool). y && bit x l) e) ∙ sym (off-set _ _ _ _ _ _ _ _ e))
+        (split (bit rest l))
+
+    pub near-break : firstBreakIn (held t) (stateOf m) (bitAnd rest x) i a j b ≡ firstBreakIn (held t) (stateOf m) rest i a j b
+    unfolding firstBreakIn
+    near-break = at-lowest-ext 32 _ _ _ _ Nowhere (λ l k. ap (λ (y : Cover). not (unspoilt y)) (near-in l k)) (λ l k. ap (breakAt l) (near-in l k))
+
+  -- and a value that serves there serves
+  pub near-served : (rest good i j w x : ℕ) → Among m i good → Near t i x → bit rest i ≡ false → servedIn (held t) (stateOf m) (bitAnd rest x) good i j w ≡ servedIn (held t) (stateOf m) rest good i j w
+  unfolding servedIn
+  near-served rest good i j w x among near out =
+      T-ext (
+        λ h. let y = any-iff 16 _ .0 h in any-iff 16 _ .1 (y .0, y .1, subst T (same (y .0)) (y .2)),
+        λ h. let y = any-iff 16 _ .0 h in any-iff 16 _ .1 (y .0, y .1, subst T (sym (same (y .0))) (y .2)),
+      )
+    where
+      same : (u : ℕ) → (bit good u && coversIn (held t) (stateOf m) (bitAnd rest x) i u j w) ≡ (bit good u && coversIn (held t) (stateOf m) rest i u j w)
+      same u =
+          ⊎-elim
+          (λ e. ap (λ (y : Break). bit good u && unbroken y) (near-break rest i u j w x (live-value R i u (among .live u (T-of e))) near out))
+          (λ e. rw e)
+          (split (bit good u))
 
   -- the same with a set that is known to be the others
   pub other-by : (rest i : ℕ) → rest ≡ others (m .active) i → i < 32 → (f : ℕ → Bool) → allBelow 32 (λ l. imp (bit rest l) (f l)) ≡ allOther (held t) (stateOf m) i f

@@ -1,13 +1,20 @@
 -- Covering as the code tests it: loops to 32 and 16 over the members of masks.
 use mathlib.Core.Bool.{Bool, true, false, not, _&&_}
 use Prim.Native.Nat.{ℕ}
+use lib.Bits.{bitAnd}
+use lib.Dec.{eqb}
 use Rattle.bounded.specs.Bounded.{imp, allBelow, anyBelow, atLowest}
-use Rattle.bounded.specs.Mask.{bit, without}
-use Rattle.problem.specs.Problem.{Problem, State, unspoilt, breakAt, unbroken, spoiler}
+use Rattle.bounded.specs.Mask.{bit, maskOf, without}
+use Rattle.problem.specs.Held.{rowWord}
+use Rattle.problem.specs.Problem.{Problem, State, maxValues, unspoilt, breakAt, unbroken, spoiler}
 use Rattle.problem.specs.declared.Cover.{Cover}
 use Rattle.problem.specs.declared.Cover.the-variants.{Holds}
 use Rattle.problem.specs.declared.Break.{Break}
 use Rattle.problem.specs.declared.Break.the-variants.{Nowhere}
+
+-- the values of i that are allowed with every value of a set of l
+unfoldable pub allowedWith : Problem → (x i l : ℕ) → ℕ
+allowedWith P x i l = maskOf maxValues (λ u. eqb (bitAnd x (rowWord P i l u)) x)
 
 module _ (P : Problem) (s : State) where
   -- the cover test at a variable of a set; at any other nothing spoils

@@ -3,23 +3,35 @@
 ghost use mathlib.Core.Path.{_≡_};
 ghost use mathlib.Core.Bool.{_&&_, not, true, false};
 ghost use mathlib.Core.Logic.{_≢_};
-ghost use Prim.Native.Nat.{_<_, _+_};
+ghost use Prim.Native.Nat.{_<_, _≤_, _+_};
+ghost use lib.Bits.{bitAnd};
 ghost use Rattle.bounded.specs.Bounded.{imp};
 ghost use Rattle.bounded.specs.Mask.{bit};
 ghost use Rattle.problem.specs.Problem.{spoiler as spoilerAt, breakAt};
-ghost use Rattle.problem.specs.Held.{held};
+ghost use Rattle.problem.specs.Held.{tableLength, rowsAt, held, RowTable};
 ghost use Rattle.problem.specs.Masks.{stateOf, sets};
-ghost use Rattle.held.specs.Ready.{Ready, Value, Among};
-ghost use Rattle.cover.specs.Words.{spoilerIn, firstBreakIn, coversIn, servedIn, allServedIn, thirds};
+ghost use Rattle.held.specs.Ready.{Ready, Value, Values, Among};
+ghost use Rattle.cover.specs.Words.{firstBreakIn, allowedWith, servedIn, allServedIn, thirds};
 use bounded::has16;
-use bounded::has32;
 use bounded::lowest16;
+use bounded::lowest32;
+use bounded::weight;
 use bounded::without32;
-use held::row;
+use held::neighbours;
+use held::row_among;
+use held::rows_at;
 use problem::Break;
 use problem::Cover;
-use problem::unbroken;
 use problem::unspoilt;
+
+// Where the rows of j towards l start; those of i start at `own`. Mostly j is i, and the place is known.
+fn rows_or(t: &[u16], i: usize, j: usize, l: usize, own: usize) -> usize
+    requires { ⌜ RowTable (now t) × (own ≡ rowsAt i l) × (own + 16 ≤ tableLength) × (j < 32) × (l < 32) × (l ≢ j) ⌝ }
+    ensures is { λ r. ⌜ r ≡ rowsAt j l ⌝ }
+    ensures within { λ r. ⌜ r + 16 ≤ tableLength ⌝ }
+{
+    if j == i { own } else { rows_at(t, j, l) }
+}
 
 // The cover test: the lowest value in the domain of l that is allowed with value b of j and not with value a of i, or that there is none.
 fn spoiler(
@@ -35,8 +47,10 @@ fn spoiler(
     requires { ⌜ Ready (now t) (sets active (now on)) × Value (now t) i a × Value (now t) j b × (l < 32) × (l ≢ i) × (l ≢ j) ⌝ }
     ensures { λ r. ⌜ r ≡ spoilerAt (held (now (t .entry))) (stateOf (sets active (now (on .entry)))) i a j b l ⌝ }
 {
-    let w = on[l] & row(t, j, l, b);
-    let spoilers = w & !row(t, i, l, a);
+    let own = rows_at(t, i, l);
+    let other = rows_or(t, i, j, l, own);
+    let w = on[l] & t[other + b];
+    let spoilers = w & !t[own + a];
     if spoilers == 0 {
         Cover::Holds
     } else {
@@ -56,28 +70,6 @@ pub fn third_set(active: u32, i: usize, j: usize) -> u32
 
 // ---- covering at a set of variables
 
-// The cover test at a variable of `rest`; at any other nothing spoils.
-fn spoiler_in(
-    t: &[u16],
-    active: u32,
-    on: &[u16; 32],
-    rest: u32,
-    i: usize,
-    a: usize,
-    j: usize,
-    b: usize,
-    l: usize,
-) -> Cover
-    requires { ⌜ Ready (now t) (sets active (now on)) × Value (now t) i a × Value (now t) j b × (bit rest i ≡ false) × (bit rest j ≡ false) × (l < 32) ⌝ }
-    ensures { λ r. ⌜ r ≡ spoilerIn (held (now (t .entry))) (stateOf (sets active (now (on .entry)))) rest i a j b l ⌝ }
-{
-    if has32(rest, l) {
-        spoiler(t, active, on, i, a, j, b, l)
-    } else {
-        Cover::Holds
-    }
-}
-
 // The break that the test's answer tells of, where it was made at l.
 fn break_at(l: usize, found: Cover) -> Break
     ensures { λ r. ⌜ r ≡ breakAt l found ⌝ }
@@ -93,6 +85,32 @@ fn break_at(l: usize, found: Cover) -> Break
 
 // The lowest variable of `rest`, where neither i nor j is, at which value a of i does not cover value b of j, and the lowest value that
 // spoils it there.
+fn break_in(
+    t: &[u16],
+    active: u32,
+    on: &[u16; 32],
+    rest: u32,
+    i: usize,
+    a: usize,
+    j: usize,
+    b: usize,
+) -> Break
+    requires { ⌜ Ready (now t) (sets active (now on)) × Value (now t) i a × Value (now t) j b × (bit rest i ≡ false) × (bit rest j ≡ false) ⌝ }
+    ensures { λ r. ⌜ r ≡ firstBreakIn (held (now (t .entry))) (stateOf (sets active (now (on .entry)))) rest i a j b ⌝ }
+{
+    let mut left = rest;
+    while left != 0 {
+        let l = lowest32(left);
+        let found = spoiler(t, active, on, i, a, j, b, l);
+        if !unspoilt(found) {
+            return break_at(l, found);
+        }
+        left = without32(left, l);
+    }
+    Break::Nowhere
+}
+
+// The same, looked for at the neighbours of i: a variable that has no block with i allows a everything.
 pub fn first_break(
     t: &[u16],
     active: u32,
@@ -106,41 +124,29 @@ pub fn first_break(
     requires { ⌜ Ready (now t) (sets active (now on)) × Value (now t) i a × Value (now t) j b × (bit rest i ≡ false) × (bit rest j ≡ false) ⌝ }
     ensures { λ r. ⌜ r ≡ firstBreakIn (held (now (t .entry))) (stateOf (sets active (now (on .entry)))) rest i a j b ⌝ }
 {
-    let mut l: usize = 0;
-    while l < 32 {
-        let found = spoiler_in(t, active, on, rest, i, a, j, b, l);
-        if !unspoilt(found) {
-            return break_at(l, found);
-        }
-        l += 1;
-    }
-    Break::Nowhere
+    break_in(t, active, on, rest & neighbours(t, i), i, a, j, b)
 }
 
 // ---- a value in another's place
 
-fn served_by(
-    t: &[u16],
-    active: u32,
-    on: &[u16; 32],
-    rest: u32,
-    good: u16,
-    i: usize,
-    j: usize,
-    w: usize,
-    u: usize,
-) -> bool
-    requires { ⌜ Ready (now t) (sets active (now on)) × Among (sets active (now on)) i good × Value (now t) j w × (bit rest i ≡ false) × (bit rest j ≡ false) × (u < 16) ⌝ }
-    ensures { λ r. ⌜ r ≡ (bit good u && coversIn (held (now (t .entry))) (stateOf (sets active (now (on .entry)))) rest i u j w) ⌝ }
+// Of the values `some` of i, those that are allowed with every value of the set x of l. The loop is never left early, and loads each row, so
+// that the compiler can do many at once.
+fn allowed_with(t: &[u16], some: u16, x: u16, i: usize, l: usize) -> u16
+    requires { ⌜ RowTable (now t) × Values (now t) i some × Values (now t) l x × (i < 32) × (l < 32) × (l ≢ i) ⌝ }
+    ensures { λ r. ⌜ r ≡ bitAnd some (allowedWith (held (now (t .entry))) x i l) ⌝ }
 {
-    if has16(good, u) {
-        unbroken(first_break(t, active, on, rest, i, u, j, w))
-    } else {
-        false
+    let at = rows_at(t, i, l);
+    let mut word: u16 = 0;
+    let mut u: usize = 0;
+    while u < 16 {
+        word = word | weight(x & t[at + u] == x, u);
+        u += 1;
     }
+    some & word
 }
 
-// Some value of i, of the set `good`, covers value w of j at each variable of `rest`.
+// Some value of i, of the set `good`, covers value w of j at each variable of `rest`. Only the neighbours of i are asked, one by one, each of
+// all values of `good` that are left.
 pub fn served(
     t: &[u16],
     active: u32,
@@ -151,17 +157,21 @@ pub fn served(
     j: usize,
     w: usize,
 ) -> bool
-    requires { ⌜ Ready (now t) (sets active (now on)) × Among (sets active (now on)) i good × Value (now t) j w × (bit rest i ≡ false) × (bit rest j ≡ false) ⌝ }
+    requires { ⌜ Ready (now t) (sets active (now on)) × Among (sets active (now on)) i good × Value (now t) j w × (bit rest i ≡ false) × (bit rest j ≡ false) × (i < 32) ⌝ }
     ensures { λ r. ⌜ r ≡ servedIn (held (now (t .entry))) (stateOf (sets active (now (on .entry)))) rest good i j w ⌝ }
 {
-    let mut u: usize = 0;
-    while u < 16 {
-        if served_by(t, active, on, rest, good, i, j, w, u) {
-            return true;
+    let mut some = good;
+    let mut left = rest & neighbours(t, i);
+    while left != 0 {
+        let l = lowest32(left);
+        let x = row_among(t, on[l], j, l, w);
+        some = allowed_with(t, some, x, i, l);
+        if some == 0 {
+            return false;
         }
-        u += 1;
+        left = without32(left, l);
     }
-    false
+    some != 0
 }
 
 // A value that is itself one of `good` needs no other in its place.
@@ -175,7 +185,7 @@ fn served_if(
     j: usize,
     w: usize,
 ) -> bool
-    requires { ⌜ Ready (now t) (sets active (now on)) × Among (sets active (now on)) j good × Among (sets active (now on)) j bad × (bit rest j ≡ false) × (w < 16) ⌝ }
+    requires { ⌜ Ready (now t) (sets active (now on)) × Among (sets active (now on)) j good × Among (sets active (now on)) j bad × (bit rest j ≡ false) × (w < 16) × (j < 32) ⌝ }
     ensures { λ r. ⌜ r ≡ imp (bit bad w && not (bit good w)) (servedIn (held (now (t .entry))) (stateOf (sets active (now (on .entry)))) rest good j j w) ⌝ }
 {
     if has16(bad, w) & !has16(good, w) {
@@ -194,7 +204,7 @@ fn each_served(
     bad: u16,
     j: usize,
 ) -> bool
-    requires { ⌜ Ready (now t) (sets active (now on)) × Among (sets active (now on)) j good × Among (sets active (now on)) j bad × (bit rest j ≡ false) ⌝ }
+    requires { ⌜ Ready (now t) (sets active (now on)) × Among (sets active (now on)) j good × Among (sets active (now on)) j bad × (bit rest j ≡ false) × (j < 32) ⌝ }
     ensures { λ r. ⌜ r ≡ allServedIn (held (now (t .entry))) (stateOf (sets active (now (on .entry)))) rest good bad j ⌝ }
 {
     let mut w: usize = 0;
@@ -218,7 +228,7 @@ pub fn all_served(
     bad: u16,
     j: usize,
 ) -> bool
-    requires { ⌜ Ready (now t) (sets active (now on)) × Among (sets active (now on)) j good × Among (sets active (now on)) j bad × (bit rest j ≡ false) ⌝ }
+    requires { ⌜ Ready (now t) (sets active (now on)) × Among (sets active (now on)) j good × Among (sets active (now on)) j bad × (bit rest j ≡ false) × (j < 32) ⌝ }
     ensures { λ r. ⌜ r ≡ allServedIn (held (now (t .entry))) (stateOf (sets active (now (on .entry)))) rest good bad j ⌝ }
 {
     if bad & good == bad {

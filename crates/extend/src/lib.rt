@@ -9,8 +9,6 @@ ghost use Rattle.problem.specs.Extend.{planOf};
 ghost use Rattle.problem.specs.Held.{held, RowTable};
 ghost use Rattle.problem.specs.Masks.{stateOf, masksOf, Proper, sets};
 ghost use Rattle.held.specs.Ready.{Ready};
-ghost use Rattle.sheet.specs.Sheet.{Keeps, layout};
-ghost use Rattle.sheet.specs.Relation.{problemOf};
 ghost use Rattle.jobs.specs.PutBack.{planFits, checkTrace, afterCheck, putBackOver, putBackJob};
 ghost use Rattle.replay.specs.Walk.{ended, lawfulEnd};
 ghost use Rattle.extend.specs.Plan.{entryFits, Entries, pairFits, pairsOf};
@@ -171,25 +169,16 @@ pub fn put_back_over(t: &[u16], trace: &[u8], plan: &[u8], out: &mut [u8]) -> Ex
     put_back_sized(t, trace, plan, out)
 }
 
-// Putting back over the table of a sheet that keeps the layout.
-fn put_back_sheet(s: &[u8], trace: &[u8], plan: &[u8], out: &mut [u8]) -> Extended
-    requires { ⌜ Keeps layout (now s) ⌝ }
-    ensures { λ r. ⌜ (r ≡ (putBackOver (problemOf layout (now (s .entry))) (now (trace .entry)) (now (plan .entry)) (now (out .entry))) .answer) × (now (out .exit) ≡ (putBackOver (problemOf layout (now (s .entry))) (now (trace .entry)) (now (plan .entry)) (now (out .entry))) .result) ⌝ }
-{
-    let mut t = [0u16; 16416];
-    table::fill_table(s, &mut t);
-    put_back_over(&t, trace, plan, out)
-}
-
 // Puts back what a trace took out: the plan of the whole sheet from one for the items left. A refusal leaves the result as it was.
 pub fn put_back(s: &[u8], trace: &[u8], plan: &[u8], out: &mut [u8]) -> Extended
     ensures { λ r. ⌜ (r ≡ (putBackJob (now (s .entry)) (now (trace .entry)) (now (plan .entry)) (now (out .entry))) .answer) × (now (out .exit) ≡ (putBackJob (now (s .entry)) (now (trace .entry)) (now (plan .entry)) (now (out .entry))) .result) ⌝ }
 {
-    match read_sheet::read_sheet(s) {
+    let mut t = [65535u16; 16992];
+    match read_sheet::read_table(s, &mut t) {
         SheetRead::Refused(r) => Extended::Refused(ExtendRefusal::Sheet(r)),
         SheetRead::Accepted {
             variables: _,
             blocks: _,
-        } => put_back_sheet(s, trace, plan, out),
+        } => put_back_over(&t, trace, plan, out),
     }
 }

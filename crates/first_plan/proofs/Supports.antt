@@ -2,7 +2,7 @@
 use mathlib.Core.Path.{_≡_, refl, sym, ap, subst, _∙_}
 use mathlib.Core.Bool.{true}
 use mathlib.Core.List.{List}
-use mathlib.Core.Logic.{_⊎_, inl, inr, _≢_}
+use mathlib.Core.Logic.{_⊎_, inl, inr, _≢_, ⊎-elim}
 use Prim.Native.Nat.{ℕ, _^_, _<_}
 use native.Mathlib.Omega.{arith}
 use lib.Bits.{bitAnd, bitOr}
@@ -25,32 +25,36 @@ use Rattle.first_plan.specs.Steps.{Supported, Narrowed, Emptied}
 
 -- ---- a union of rows
 
--- x has all that is allowed with a value of the domain of i that is not in `rest`
-pub record Gathered (P : Problem) (domain i j x rest : ℕ) : Type 0 where
-  pub has : (c a : ℕ) → T (bit domain a) → (T (bit rest a) → ⊥) → Allowed P i a j c → T (bit x c)
+-- of the values `was` of j, x has all that are allowed with a value of the domain of i that is not in `rest`
+pub record Gathered (P : Problem) (was domain i j x rest : ℕ) : Type 0 where
+  pub within : (c : ℕ) → T (bit x c) → T (bit was c)
+  pub has : (c a : ℕ) → T (bit was c) → T (bit domain a) → (T (bit rest a) → ⊥) → Allowed P i a j c → T (bit x c)
 
-pub gather-none : (P : Problem) (domain i j : ℕ) → Gathered P domain i j 0 domain
-gather-none P domain i j = record { has = λ c a on off h. absurd (off on) }
+pub gather-none : (P : Problem) (was domain i j : ℕ) → Gathered P was domain i j 0 domain
+gather-none P was domain i j = record { within = λ c h. absurd (T-not (bit-none c) h); has = λ c a w on off h. absurd (off on) }
 
-module _ {t : List ℕ} (R : RowTable t) (domain i j x rest : ℕ) where
-  pub gather-more : (a : ℕ) → domain < 2 ^ 16 → a < 16 → Gathered (held t) domain i j x rest → Gathered (held t) domain i j (bitOr x (rowWord (held t) i j a)) (without 16 rest a)
-  gather-more a l k G = record { has = λ c b on off h. subst T (sym (bit-or x _ c)) (or-iff (bit x c) _ .1 (go c b on off h (T-dec (bit rest b)))) }
+module _ {t : List ℕ} (R : RowTable t) (was domain i j x rest : ℕ) where
+  pub gather-more : (a : ℕ) → domain < 2 ^ 16 → a < 16 → Gathered (held t) was domain i j x rest → Gathered (held t) was domain i j (bitOr x (bitAnd was (rowWord (held t) i j a))) (without 16 rest a)
+  gather-more a l k G =
+      record {
+        within = λ c h. ⊎-elim (λ o. G .within c o) (λ o. and-iff (bit was c) (bit row c) .0 (subst T (bit-and was row c) o) .0) (or-iff (bit x c) _ .0 (subst T (bit-or x _ c) h));
+        has = λ c b w on off h. subst T (sym (bit-or x _ c)) (or-iff (bit x c) _ .1 (go c b w on off h (T-dec (bit rest b))));
+      }
     where
+      row : ℕ
+      row = rowWord (held t) i j a
+
       small : (b : ℕ) → T (bit domain b) → b < 16
       small b on = elim (lt-dec b 16) [ inl h ↦ h | inr h ↦ absurd (T-not (bit-high 16 domain b l h) on) ]
 
-      go : (c b : ℕ) → T (bit domain b) → (T (bit (without 16 rest a) b) → ⊥) → Allowed (held t) i b j c → T (bit rest b) ⊎ (T (bit rest b) → ⊥) → T (bit x c) ⊎ T (bit (rowWord (held t) i j a) c)
-      go c b on off h (inr n) = inl (G .has c b on n h)
-      go c b on off h (inl y) =
+      go : (c b : ℕ) → T (bit was c) → T (bit domain b) → (T (bit (without 16 rest a) b) → ⊥) → Allowed (held t) i b j c → T (bit rest b) ⊎ (T (bit rest b) → ⊥) → T (bit x c) ⊎ T (bit (bitAnd was row) c)
+      go c b w on off h (inr n) = inl (G .has c b w on n h)
+      go c b w on off h (inl y) =
           let e : b ≡ a = without-gone 16 bit-without16 rest a k b (small b on) y off in
-          inr (subst T (sym (row-says R i j a c)) (subst (λ (z : ℕ). Allowed (held t) i z j c) e h))
+          inr (subst T (sym (bit-and was row c)) (and-iff (bit was c) (bit row c) .1 (w, subst T (sym (row-says R i j a c)) (subst (λ (z : ℕ). Allowed (held t) i z j c) e h))))
 
-  pub gathered : (was : ℕ) → rest ≡ 0 → Gathered (held t) domain i j x rest → Supported (held t) was domain i j (bitAnd was x)
-  gathered was e G =
-      record {
-        within = λ c h. and-iff (bit was c) (bit x c) .0 (subst T (bit-and was x c) h) .0;
-        keeps = λ c a w on h. subst T (sym (bit-and was x c)) (and-iff (bit was c) (bit x c) .1 (w, G .has c a on (λ y. T-not (ap (λ (z : ℕ). bit z a) e ∙ bit-none a) y) h));
-      }
+pub gathered : {P : Problem} {was domain i j x rest : ℕ} → rest ≡ 0 → Gathered P was domain i j x rest → Supported P was domain i j x
+gathered e G = record { within = G .within; keeps = λ c a w on h. G .has c a w on (λ y. T-not (ap (λ (z : ℕ). bit z a) e ∙ bit-none a) y) h }
 
 pub all-stay : (P : Problem) (was domain i j : ℕ) → Supported P was domain i j was
 all-stay P was domain i j = record { within = λ c h. h; keeps = λ c a w on h. w }

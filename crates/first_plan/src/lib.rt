@@ -10,14 +10,15 @@ ghost use Rattle.problem.specs.Problem.{remove as removed};
 ghost use Rattle.problem.specs.Held.{held, RowTable};
 ghost use Rattle.problem.specs.Masks.{stateOf, masksOf, sets};
 ghost use Rattle.problem.proofs.Reflect.{Live};
-ghost use Rattle.held.specs.Ready.{Ready};
+ghost use Rattle.held.specs.Ready.{Ready, Values};
 ghost use Rattle.first_plan.specs.First.{firstPlan};
 ghost use Rattle.first_plan.specs.Steps.{answer, choose as chosen, Next, Supported, Sweeps, Opens};
 use bounded::lowest16;
 use bounded::lowest32;
 use bounded::without16;
 use bounded::without32;
-use held::row;
+use held::neighbours;
+use held::row_among;
 use problem::Masks;
 
 // Whether there is a plan, and the plan.
@@ -51,50 +52,6 @@ fn without_if(x: u32, b: bool, j: usize) -> u32
     if b { without32(x, j) } else { x }
 }
 
-// ---- pairs that bar something
-
-// Some value of the set x of i bars some value of the set y of j.
-fn bars(t: &[u16], x: u16, y: u16, i: usize, j: usize) -> bool
-    requires { ⌜ RowTable (now t) × (i < 32) × (j < 32) × (j ≢ i) ⌝ }
-{
-    let mut rest = x;
-    while rest != 0 {
-        let a = lowest16(rest);
-        rest = without16(rest, a);
-        if y & row(t, i, j, a) != y {
-            return true;
-        }
-    }
-    false
-}
-
-// The active variables that bar something with i.
-fn neighbours_of(t: &[u16], active: u32, on: &[u16; 32], i: usize) -> u32
-    requires { ⌜ RowTable (now t) × (i < 32) ⌝ }
-{
-    let mut rest = without32(active, i);
-    let mut near = rest;
-    while rest != 0 {
-        let j = lowest32(rest);
-        rest = without32(rest, j);
-        near = without_if(near, !bars(t, on[i], on[j], i, j), j);
-    }
-    near
-}
-
-// The same for every variable. It says only where looking for supports is worth it, so nothing is promised of it.
-fn neighbours(t: &[u16], active: u32, on: &[u16; 32]) -> [u32; 32]
-    requires { ⌜ RowTable (now t) ⌝ }
-{
-    let mut near = [0u32; 32];
-    let mut i: usize = 0;
-    while i < 32 {
-        near[i] = neighbours_of(t, active, on, i);
-        i += 1;
-    }
-    near
-}
-
 // ---- a choice made
 
 // Variable i has v: it is active no more, and every other domain loses what is barred with v.
@@ -111,7 +68,7 @@ fn choose(t: &[u16], m: Masks, i: usize, v: usize) -> Choice
         let j = lowest32(rest);
         rest = without32(rest, j);
         let was = m.domains[j];
-        let left = was & row(t, i, j, v);
+        let left = row_among(t, was, i, j, v);
         on[j] = left;
         changed = without_if(changed, left == was, j);
     }
@@ -126,7 +83,7 @@ fn choose(t: &[u16], m: Masks, i: usize, v: usize) -> Choice
 
 // Of the values `was` of j, those with a support in the domain of i. It stops where all have one.
 fn supported(t: &[u16], was: u16, domain: u16, i: usize, j: usize) -> u16
-    requires { ⌜ RowTable (now t) × (i < 32) × (j < 32) × (j ≢ i) ⌝ }
+    requires { ⌜ RowTable (now t) × Values (now t) j was × Values (now t) i domain × (i < 32) × (j < 32) × (j ≢ i) ⌝ }
     ensures { λ r. ⌜ Supported (held (now (t .entry))) was domain i j r ⌝ }
 {
     let mut x: u16 = 0;
@@ -134,21 +91,22 @@ fn supported(t: &[u16], was: u16, domain: u16, i: usize, j: usize) -> u16
     while rest != 0 {
         let a = lowest16(rest);
         rest = without16(rest, a);
-        x = x | row(t, i, j, a);
-        if was & x == was {
+        x = x | row_among(t, was, i, j, a);
+        if x == was {
             return was;
         }
     }
-    was & x
+    x
 }
 
-// At every variable of `near`, the values without a support at i go off, until a domain is empty.
-fn spread(t: &[u16], near: u32, active: u32, on: &mut [u16; 32], i: usize) -> Swept
+// At every active neighbour of i, the values without a support at i go off, until a domain is empty. The neighbours say only where looking
+// for supports is worth it, so nothing rests on them.
+fn spread(t: &[u16], active: u32, on: &mut [u16; 32], i: usize) -> Swept
     requires { ⌜ Ready (now t) (sets active (now on)) × (i < 32) × (bit active i ≡ true) ⌝ }
     ensures { λ r. ⌜ Sweeps (now (t .entry)) active (now (on .entry)) r (now (on .exit)) ⌝ }
 {
     let domain = on[i];
-    let mut rest = without32(near & active, i);
+    let mut rest = without32(neighbours(t, i) & active, i);
     let mut changed = rest;
     if domain == 0 {
         return Swept {
@@ -178,7 +136,7 @@ fn spread(t: &[u16], near: u32, active: u32, on: &mut [u16; 32], i: usize) -> Sw
 
 // From the variables `first` on, values without a support go off, and from those that lost any, again. Each turn but the first 32 follows
 // from a value that went off, so 1024 are enough; nothing rests on that.
-fn narrow(t: &[u16], near: &[u32; 32], m: Masks, first: u32) -> Opened
+fn narrow(t: &[u16], m: Masks, first: u32) -> Opened
     requires { ⌜ Ready (now t) m ⌝ }
     ensures { λ r. ⌜ Opens (now (t .entry)) (stateOf m) r ⌝ }
 {
@@ -188,7 +146,7 @@ fn narrow(t: &[u16], near: &[u32; 32], m: Masks, first: u32) -> Opened
     let mut turns: usize = 1024;
     while todo != 0 {
         let i = lowest32(todo);
-        let s = spread(t, near[i], active, &mut on, i);
+        let s = spread(t, active, &mut on, i);
         if s.dead | (turns == 0) {
             let masks = Masks {
                 active,
@@ -212,21 +170,21 @@ fn narrow(t: &[u16], near: &[u32; 32], m: Masks, first: u32) -> Opened
 // ---- the two ways at a value
 
 // Variable i has v.
-fn attempt(t: &[u16], near: &[u32; 32], m: Masks, i: usize, v: usize) -> Opened
+fn attempt(t: &[u16], m: Masks, i: usize, v: usize) -> Opened
     requires { ⌜ Ready (now t) m × Live (stateOf m) i v ⌝ }
     ensures { λ r. ⌜ Opens (now (t .entry)) (chosen (held (now (t .entry))) (stateOf m) i v) r ⌝ }
 {
     let c = choose(t, m, i, v);
     let masks = c.masks;
-    narrow(t, near, masks, c.changed)
+    narrow(t, masks, c.changed)
 }
 
 // Variable i has another value than v.
-fn refute(t: &[u16], near: &[u32; 32], m: Masks, i: usize, v: usize) -> Opened
+fn refute(t: &[u16], m: Masks, i: usize, v: usize) -> Opened
     requires { ⌜ Ready (now t) m × (i < 32) × (v < 16) ⌝ }
     ensures { λ r. ⌜ Opens (now (t .entry)) (removed (held (now (t .entry))) (stateOf m) i v) r ⌝ }
 {
-    narrow(t, near, steps::remove(t, m, i, v), 1u32 << i)
+    narrow(t, steps::remove(t, m, i, v), 1u32 << i)
 }
 
 // ---- the search
@@ -235,7 +193,7 @@ fn refute(t: &[u16], near: &[u32; 32], m: Masks, i: usize, v: usize) -> Opened
 // next value: the compiler makes a jump of that call, and at most 32 calls lie within one another.
 
 // The first plan: the next variable, and its values. The plan is written where there is one, and left as it was where there is none.
-fn pick(t: &&[u16], near: &[u32; 32], active: u32, on: &mut [u16; 32], plan: &mut [u8; 32]) -> bool
+fn pick(t: &&[u16], active: u32, on: &mut [u16; 32], plan: &mut [u8; 32]) -> bool
     requires { ⌜ Ready (now (now t)) (sets active (now on)) × (length (now plan) ≡ 32) ⌝ }
     ensures { λ r. ⌜ answer r (now (plan .exit)) ≡ firstPlan (held (now (now (t .entry)))) (stateOf (sets active (now (on .entry)))) (now (plan .entry)) ⌝ }
 {
@@ -243,18 +201,11 @@ fn pick(t: &&[u16], near: &[u32; 32], active: u32, on: &mut [u16; 32], plan: &mu
     if 32 <= i {
         return true;
     }
-    tries(t, near, active, on, plan, i)
+    tries(t, active, on, plan, i)
 }
 
 // The same where the next variable is i: the lowest value left of it with the variables after i, or else the values after that one.
-fn tries(
-    t: &&[u16],
-    near: &[u32; 32],
-    active: u32,
-    on: &mut [u16; 32],
-    plan: &mut [u8; 32],
-    i: usize,
-) -> bool
+fn tries(t: &&[u16], active: u32, on: &mut [u16; 32], plan: &mut [u8; 32], i: usize) -> bool
     requires { ⌜ Ready (now (now t)) (sets active (now on)) × Next (sets active (now on)) i × (length (now plan) ≡ 32) ⌝ }
     ensures { λ r. ⌜ answer r (now (plan .exit)) ≡ firstPlan (held (now (now (t .entry)))) (stateOf (sets active (now (on .entry)))) (now (plan .entry)) ⌝ }
 {
@@ -265,25 +216,25 @@ fn tries(
     let v = lowest16(domain);
     let domains = *on;
     let state = Masks { active, domains };
-    let o = attempt(*t, near, state, i, v);
+    let o = attempt(*t, state, i, v);
     if o.open {
         let was = plan[i];
         plan[i] = v as u8;
         let left = o.masks;
         let mut next = left.domains;
-        if pick(t, near, left.active, &mut next, plan) {
+        if pick(t, left.active, &mut next, plan) {
             return true;
         }
         plan[i] = was;
     }
-    let rest = refute(*t, near, state, i, v);
+    let rest = refute(*t, state, i, v);
     if !rest.open {
         return false;
     }
     let left = rest.masks;
     let domains = left.domains;
     *on = domains;
-    tries(t, near, left.active, on, plan, i)
+    tries(t, left.active, on, plan, i)
 }
 
 // The first plan of a state, or none. Items out keep what `plan` says of them, and all items do where there is none.
@@ -295,14 +246,13 @@ pub fn first_plan(t: &[u16], m: Masks, plan: [u8; 32]) -> Found
     if crowd::crowded(t, m.active, &m.domains) {
         return Found { ok: false, plan };
     }
-    let near = neighbours(t, m.active, &m.domains);
-    let o = narrow(t, &near, m, m.active);
+    let o = narrow(t, m, m.active);
     if !o.open {
         return Found { ok: false, plan };
     }
     let left = o.masks;
     let mut on = left.domains;
     let mut found = plan;
-    let ok = pick(&t, &near, left.active, &mut on, &mut found);
+    let ok = pick(&t, left.active, &mut on, &mut found);
     Found { ok, plan: found }
 }

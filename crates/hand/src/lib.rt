@@ -9,8 +9,6 @@ ghost use Rattle.problem.specs.Problem.{maxValues, stateFits, noneEmpty, snake 
 ghost use Rattle.problem.specs.Masks.{stateOf, sets, Proper};
 ghost use Rattle.problem.specs.Held.{held, RowTable};
 ghost use Rattle.held.specs.Ready.{Ready};
-ghost use Rattle.sheet.specs.Sheet.{layout, Keeps};
-ghost use Rattle.sheet.specs.Relation.{problemOf};
 ghost use Rattle.jobs.specs.Hand.{callRefused, callOver, callJob};
 ghost use Rattle.hand.specs.Parts.{fitsAt, callEliminated};
 use bounded::has32;
@@ -158,22 +156,16 @@ pub fn call_over(t: &[u16], st: ManualState, i: u64) -> CallAnswer
     )
 }
 
-fn call_sheet(s: &[u8], st: ManualState, i: u64) -> CallAnswer
-    requires { ⌜ Keeps layout (now s) ⌝ }
-    ensures { λ a. ⌜ a ≡ callOver (problemOf layout (now (s .entry))) st i ⌝ }
-{
-    let mut t = [0u16; 16416];
-    table::fill_table(s, &mut t);
-    call_over(&t, st, i)
-}
-
-// A hand call on a sheet: over its table.
+// A hand call on a sheet: it is read, its table filled on the way, and the call is over the table.
 pub fn hand_call(s: &[u8], st: ManualState, i: u64) -> CallAnswer
     ensures { λ r. ⌜ r ≡ callJob (now (s .entry)) st i ⌝ }
 {
-    let read = read_sheet::read_sheet(s);
-    match read {
+    let mut t = [65535u16; 16992];
+    match read_sheet::read_table(s, &mut t) {
         SheetRead::Refused(r) => refused_call(ManualRefusal::Sheet(r), st),
-        SheetRead::Accepted { variables, blocks } => call_sheet(s, st, i),
+        SheetRead::Accepted {
+            variables: _,
+            blocks: _,
+        } => call_over(&t, st, i),
     }
 }

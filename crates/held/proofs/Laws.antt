@@ -1,26 +1,27 @@
 -- Rows of a table and sets of a state that fits it, as words. Assumes nothing.
 use mathlib.Core.Path.{_≡_, sym, ap, _∙_, subst}
 use mathlib.Core.Bool.{Bool, true, false, not}
-use mathlib.Core.Logic.{inl, inr, _↔_}
+use mathlib.Core.Logic.{inl, inr, _≢_, _↔_}
 use mathlib.Core.List.{List}
 use Prim.Native.Nat.{ℕ, _^_, _≤_, _<_}
 use native.Mathlib.Omega.{arith}
 use native.Mathlib.Nat.{lt-of-le-of-lt}
-use lib.Dec.{T, eqb}
+use lib.Dec.{T, eqb, ltb}
 use lib.Bits.{bitAnd, and-le-l}
 use lib.ListN.{getD}
+use borrow.Author.Tests.{not-false}
 use Rattle.bounded.specs.Bounded.{imp, allBelow, anyBelow}
-use Rattle.bounded.specs.Mask.{bit}
-use Rattle.bounded.proofs.Truth.{T-ext, T-of, T-dec, T-false, and-iff, imp-iff, not-iff}
+use Rattle.bounded.specs.Mask.{bit, maskOf}
+use Rattle.bounded.proofs.Truth.{T-ext, T-of, T-dec, T-false, and-iff, imp-iff, not-iff, ltb-iff}
 use Rattle.bounded.proofs.Bounded.{all-iff, any-iff}
-use Rattle.bounded.proofs.Mask.{bit-and, zero-bits}
+use Rattle.bounded.proofs.Mask.{bit-and, bit-mask, bit-mask-all, mask-lt, zero-bits}
 use Rattle.problem.specs.Problem.{Problem, State, allActive, allLive, anyLive}
 use Rattle.problem.specs.Held.{rowWord, heldSize, heldVariables, held, RowTable}
 use Rattle.problem.specs.Masks.{stateOf}
 use Rattle.problem.specs.declared.Masks.{Masks}
 use Rattle.problem.proofs.Reflect.{Active, Live, Allowed, Fits, allActive-iff, allLive-iff, anyLive-iff}
-use Rattle.problem.proofs.HeldTable.{row-word, held-bounded, held-few, heldValue-iff}
-use Rattle.held.specs.Ready.{Ready, Value, Among}
+use Rattle.problem.proofs.HeldTable.{row-word, row-only, held-bounded, held-few, held-narrow, heldValue-iff, far-free}
+use Rattle.held.specs.Ready.{Ready, Value, Values, Near, Among}
 
 module _ {P : Problem} {s : State} (F : Fits P s) where
   pub allActive-32 : P .n ≤ 32 → (f : ℕ → Bool) → allBelow 32 (λ l. imp (s .active l) (f l)) ≡ allActive P s f
@@ -41,9 +42,46 @@ module _ {P : Problem} {s : State} (F : Fits P s) where
 pub row-says : {t : List ℕ} → RowTable t → (i j a c : ℕ) → bit (rowWord (held t) i j a) c ≡ (held t) .allowed i a j c
 row-says R = row-word (held-bounded R)
 
+-- the values that j has, as a set
+pub all-values : {t : List ℕ} → RowTable t → (j : ℕ) → Values t j (maskOf 16 (λ c. ltb c ((held t) .size j)))
+all-values {t} R j =
+    record {
+      small = mask-lt 16 (λ c. ltb c ((held t) .size j));
+      within = λ c h. ltb-iff c ((held t) .size j) .0 (subst T (bit-mask-all 16 (λ c. ltb c ((held t) .size j)) (λ k l. omega (arith, held-narrow R j, ltb-iff k ((held t) .size j) .0 l)) c) h);
+    }
+
+-- met with them a row is the same
+pub row-all : {t : List ℕ} → RowTable t → (i j a : ℕ) → bitAnd (maskOf 16 (λ c. ltb c ((held t) .size j))) (rowWord (held t) i j a) ≡ rowWord (held t) i j a
+row-all {t} R i j a =
+    row-only (held t) i j a (bitAnd all (rowWord (held t) i j a)) (lt-of-le-of-lt (and-le-l all _) (mask-lt 16 (λ c. ltb c ((held t) .size j))))
+    (λ c l. bit-and all (rowWord (held t) i j a) c ∙ T-ext (
+      λ h. subst T (row-says R i j a c) (and-iff (bit all c) (bit (rowWord (held t) i j a) c) .0 h .1),
+      λ h. and-iff (bit all c) (bit (rowWord (held t) i j a) c) .1 (
+        subst T (sym (bit-mask 16 (λ c. ltb c ((held t) .size j)) c l)) (ltb-iff c ((held t) .size j) .1 (held-bounded R .listed i a j c h .3)),
+        subst T (sym (row-says R i j a c)) h,
+      ),
+    ))
+  where
+    all : ℕ
+    all = maskOf 16 (λ c. ltb c ((held t) .size j))
+
 -- no two values of one variable are allowed
 pub allowed-apart : {t : List ℕ} → RowTable t → (i a j b : ℕ) → j ≡ i → false ≡ (held t) .allowed i a j b
 allowed-apart R i a j b e = sym (T-false _ (λ h. held-bounded R .listed i a j b h .4 (sym e)))
+
+-- a part of a set of values
+pub part-values : {t : List ℕ} {j x : ℕ} → Values t j x → (y : ℕ) → Values t j (bitAnd x y)
+part-values {t} {j} {x} vs y =
+    record {
+      small = lt-of-le-of-lt (and-le-l x y) (vs .small);
+      within = λ c h. vs .within c (and-iff (bit x c) (bit y c) .0 (subst T (bit-and x y c) h) .0);
+    }
+
+-- ---- neighbours
+
+-- a variable that is not a neighbour of i bars nothing with a value of i
+pub near-free : {t : List ℕ} → RowTable t → (i a j x : ℕ) → Value t i a → Near t i x → j < 32 → j ≢ i → bit x j ≡ false → (b : ℕ) → b < (held t) .size j → Allowed (held t) i a j b
+near-free {t} R i a j x v near l d e b k = far-free R i a j (v .listed) (λ q. d (sym q)) (not-false _ (sym (near .all j l) ∙ e)) b k
 
 module _ {t : List ℕ} {m : Masks} (R : Ready t m) where
   -- a value in a domain is a value of the problem
@@ -56,6 +94,11 @@ module _ {t : List ℕ} {m : Masks} (R : Ready t m) where
 
   pub active-32 : (l : ℕ) → Active (stateOf m) l → l < 32
   active-32 l o = omega (arith, R .fits .active-lt l o, held-few t)
+
+  -- a domain is a set of values of its variable
+  pub domain-values : (j : ℕ) → j < 32 → Values t j (getD (m .domains) j 0)
+  unfolding stateOf
+  domain-values j k = record { small = R .proper .domain-lt j k; within = λ c h. R .fits .live-lt j c h }
 
   -- the members of a domain that are allowed with a value
   pub word-iff : (i v j c : ℕ) → T (bit (bitAnd (getD (m .domains) j 0) (rowWord (held t) i j v)) c) ↔ (Live (stateOf m) j c × Allowed (held t) i v j c)

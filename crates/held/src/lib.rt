@@ -4,13 +4,14 @@ ghost use mathlib.Core.Path.{_≡_};
 ghost use mathlib.Core.Bool.{true, false};
 ghost use mathlib.Core.Logic.{_≢_};
 ghost use Prim.Native.Nat.{_<_, _≤_, _+_, _*_};
+ghost use lib.Bits.{bitAnd};
 ghost use lib.Dec.{ltb};
 ghost use Rattle.bounded.specs.Bounded.{imp};
 ghost use Rattle.bounded.specs.Mask.{bit, maskOf};
 ghost use Rattle.problem.specs.Problem.{noneEmpty, anyLive, full, sizeSum};
-ghost use Rattle.problem.specs.Held.{rowWord, held, RowTable};
+ghost use Rattle.problem.specs.Held.{rowWord, tableLength, rowsAt, held, Located, RowTable};
 ghost use Rattle.problem.specs.Masks.{stateOf, masksOf, sets, Proper};
-ghost use Rattle.held.specs.Ready.{Ready, Value};
+ghost use Rattle.held.specs.Ready.{Ready, Value, Values, Near};
 use bounded::has16;
 use bounded::has32;
 use problem::Masks;
@@ -58,12 +59,35 @@ pub fn size_sum(t: &[u16]) -> usize
 
 // ---- rows
 
-// The values of another variable j that are allowed with value a of i. Where the row stands is known here, and to what fills the table.
+// Where the 16 rows of i towards another variable j start: the list of places tells, and nothing else knows it.
+pub fn rows_at(t: &[u16], i: usize, j: usize) -> usize
+    requires { ⌜ Located (now t) × (i < 32) × (j < 32) × (i ≢ j) ⌝ }
+    ensures is { λ r. ⌜ r ≡ rowsAt i j ⌝ }
+    ensures within { λ r. ⌜ r + 16 ≤ tableLength ⌝ }
+{
+    let place = t[32 + (32 * i + j)] as usize;
+    if i < j {
+        1120 + 32 * place
+    } else {
+        1120 + (32 * place + 16)
+    }
+}
+
+// Of a set of values of j, those that are allowed with value a of another variable i. The word in the table may have bits beyond the size
+// of j, and the set has none.
+pub fn row_among(t: &[u16], set: u16, i: usize, j: usize, a: usize) -> u16
+    requires { ⌜ RowTable (now t) × Values (now t) j set × Value (now t) i a × (j < 32) × (j ≢ i) ⌝ }
+    ensures { λ r. ⌜ r ≡ bitAnd set (rowWord (held (now (t .entry))) i j a) ⌝ }
+{
+    set & t[rows_at(t, i, j) + a]
+}
+
+// The values of another variable j that are allowed with value a of i.
 pub fn row(t: &[u16], i: usize, j: usize, a: usize) -> u16
-    requires { ⌜ RowTable (now t) × (i < 32) × (j < 32) × (a < 16) × (j ≢ i) ⌝ }
+    requires { ⌜ RowTable (now t) × Value (now t) i a × (j < 32) × (j ≢ i) ⌝ }
     ensures { λ r. ⌜ r ≡ rowWord (held (now (t .entry))) i j a ⌝ }
 {
-    t[32 + ((i * 32 + j) * 16 + a)]
+    row_among(t, values_below(size(t, j)), i, j, a)
 }
 
 // Value a of i is allowed with value b of j. No two values of one variable are, and there is no row between them.
@@ -74,8 +98,23 @@ pub fn pair_allowed(t: &[u16], i: usize, a: usize, j: usize, b: usize) -> bool
     if j == i {
         false
     } else {
-        has16(row(t, i, j, a), b)
+        has16(t[rows_at(t, i, j) + a], b)
     }
+}
+
+// Two sets of 16 as one of 32.
+fn joined(low: u16, high: u16) -> u32
+    ensures { λ r. ⌜ r ≡ low + 65536 * high ⌝ }
+{
+    (low as u32) + 65536 * (high as u32)
+}
+
+// The variables that have a block with i. Any other bars nothing with it.
+pub fn neighbours(t: &[u16], i: usize) -> u32
+    requires { ⌜ RowTable (now t) × (i < 32) ⌝ }
+    ensures { λ r. ⌜ Near (now (t .entry)) i r ⌝ }
+{
+    !joined(t[1056 + i], t[1088 + i])
 }
 
 // ---- a state

@@ -6,8 +6,8 @@ use Prim.Native.Nat.{ℕ, _+_, _*_, _≤_, _<_}
 use lib.ListN.{length}
 use borrow.Author.Tests.{lt-ltb, le-ltb, eq-eqb, ne-eqb}
 use Rattle.problem.specs.Problem.{Problem, sizeSum}
-use Rattle.problem.specs.Held.{held, tableOf, RowTable}
-use Rattle.problem.proofs.HeldTable.{held-same, table-rows}
+use Rattle.problem.specs.Held.{held, RowTable, Filled}
+use Rattle.problem.proofs.HeldTable.{held-filled, filled-rows}
 use Rattle.sheet.specs.Sheet.{layout, readSheet, variablesOf, Keeps}
 use Rattle.sheet.specs.Relation.{problemOf}
 use Rattle.sheet.specs.declared.SheetRefusal.{SheetRefusal}
@@ -39,11 +39,12 @@ pub variables-of : (s : List ℕ) → (problemOf layout s) .n ≡ variablesOf s
 unfolding problemOf
 variables-of s = refl
 
--- the table that a sheet fills holds its problem
-pub sheet-table : (s t : List ℕ) → Keeps layout s → t ≡ tableOf (problemOf layout s) → RowTable t × (held t ≡ problemOf layout s)
-sheet-table s t K e =
+-- a sheet that is accepted keeps the layout, and the table that it fills can be read and holds its problem
+pub sheet-table : (s t : List ℕ) (n m : ℕ) → readSheet layout s ≡ read.Accepted n m → (Keeps layout s → Filled (problemOf layout s) t) → Keeps layout s × RowTable t × (held t ≡ problemOf layout s)
+sheet-table s t n m e F =
+    let K = keeps layout s n m e in
     let B = problem-bounded s K in
-    (subst RowTable (sym e) (table-rows (problemOf layout s) B), ap held e ∙ held-same (problemOf layout s) B)
+    (K, filled-rows B (F K), held-filled B (F K))
 
 module _ {A : Type 0} (s : List ℕ) (refused : SheetRefusal → A) (over : Problem → A) where
   -- the sheet's refusal comes first

@@ -1,8 +1,6 @@
 // A sheet moved to the other version: it is read, its table filled, and the same problem written in the other version.
 ghost use mathlib.Core.Path.{_≡_};
 ghost use Rattle.problem.specs.Held.{held, RowTable};
-ghost use Rattle.sheet.specs.Sheet.{layout, versionOf, Keeps};
-ghost use Rattle.sheet.specs.Relation.{problemOf};
 ghost use Rattle.compose.specs.Parts.{Version};
 ghost use Rattle.moved.specs.Move.{moveNumber, otherVersion, moveOver, moveJob};
 use compose::Composed;
@@ -50,28 +48,17 @@ fn move_over(t: &[u16], v: usize, target: &mut [u8]) -> Moved
     }
 }
 
-// The move of a sheet that keeps the layout: over its table.
-fn move_kept(s: &[u8], target: &mut [u8]) -> Moved
-    requires { ⌜ Keeps layout (now s) ⌝ }
-    ensures answer { λ r. ⌜ r ≡ (moveOver (otherVersion (versionOf (now (s .entry)))) (problemOf layout (now (s .entry))) (now (target .entry))) .answer ⌝ }
-    ensures target { λ _. ⌜ now (target .exit) ≡ (moveOver (otherVersion (versionOf (now (s .entry)))) (problemOf layout (now (s .entry))) (now (target .entry))) .target ⌝ }
-{
-    let mut t = [0u16; 16416];
-    table::fill_table(s, &mut t);
-    let v = other_version(sheet::byte(s, 0));
-    move_over(&t, v, target)
-}
-
 // Writes the sheet in the other version at the target's front. A refused move leaves the target as it was.
 pub fn move_sheet(sheet: &[u8], target: &mut [u8]) -> Moved
     ensures answer { λ r. ⌜ r ≡ (moveJob (now (sheet .entry)) (now (target .entry))) .answer ⌝ }
     ensures target { λ _. ⌜ now (target .exit) ≡ (moveJob (now (sheet .entry)) (now (target .entry))) .target ⌝ }
 {
-    match read_sheet::read_sheet(sheet) {
+    let mut t = [65535u16; 16992];
+    match read_sheet::read_table(sheet, &mut t) {
         SheetRead::Refused(r) => Moved::Refused(MoveRefusal::Sheet(r)),
         SheetRead::Accepted {
             variables: _,
             blocks: _,
-        } => move_kept(sheet, target),
+        } => move_over(&t, other_version(sheet::byte(sheet, 0)), target),
     }
 }

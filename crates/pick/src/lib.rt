@@ -5,8 +5,6 @@ ghost use Prim.Native.Nat.{_≤_, _+_, _*_};
 ghost use lib.ListN.{length};
 ghost use Rattle.problem.specs.Problem.{sizeSum};
 ghost use Rattle.problem.specs.Held.{held, RowTable};
-ghost use Rattle.sheet.specs.Sheet.{layout, Keeps};
-ghost use Rattle.sheet.specs.Relation.{problemOf};
 ghost use Rattle.problem.specs.Masks.{masksOf};
 ghost use Rattle.pick.specs.Pick.{pickNumber, leftBy, runTrace, firstLeft, planLeft, pickRefused, outcomeOf, pickDone, pickOver, pickJob};
 use held::size_sum;
@@ -141,29 +139,18 @@ pub fn pick_over(t: &[u16], trace: &mut [u8], plan: &mut [u8]) -> Picked
     pick_sized(t, trace, plan)
 }
 
-// Picking over the table of a sheet that keeps the layout.
-fn pick_sheet(s: &[u8], trace: &mut [u8], plan: &mut [u8]) -> Picked
-    requires { ⌜ Keeps layout (now s) ⌝ }
-    ensures answer { λ r. ⌜ r ≡ (pickOver (problemOf layout (now (s .entry))) (now (trace .entry)) (now (plan .entry))) .answer ⌝ }
-    ensures trace { λ _. ⌜ now (trace .exit) ≡ (pickOver (problemOf layout (now (s .entry))) (now (trace .entry)) (now (plan .entry))) .trace ⌝ }
-    ensures plan { λ _. ⌜ now (plan .exit) ≡ (pickOver (problemOf layout (now (s .entry))) (now (trace .entry)) (now (plan .entry))) .plan ⌝ }
-{
-    let mut t = [0u16; 16416];
-    table::fill_table(s, &mut t);
-    pick_over(&t, trace, plan)
-}
-
 // Picking: lent a sheet, a trace buffer and a buffer for the plan. A refused pick leaves both as they were.
 pub fn pick(s: &[u8], trace: &mut [u8], plan: &mut [u8]) -> Picked
     ensures answer { λ r. ⌜ r ≡ (pickJob (now (s .entry)) (now (trace .entry)) (now (plan .entry))) .answer ⌝ }
     ensures trace { λ _. ⌜ now (trace .exit) ≡ (pickJob (now (s .entry)) (now (trace .entry)) (now (plan .entry))) .trace ⌝ }
     ensures plan { λ _. ⌜ now (plan .exit) ≡ (pickJob (now (s .entry)) (now (trace .entry)) (now (plan .entry))) .plan ⌝ }
 {
-    match read_sheet::read_sheet(s) {
+    let mut t = [65535u16; 16992];
+    match read_sheet::read_table(s, &mut t) {
         SheetRead::Refused(r) => refused(PickRefusal::Sheet(r)),
         SheetRead::Accepted {
             variables: _,
             blocks: _,
-        } => pick_sheet(s, trace, plan),
+        } => pick_over(&t, trace, plan),
     }
 }

@@ -1,22 +1,23 @@
--- The table of a problem holds that problem, and its rows tell what is allowed, both ways round. Assumes nothing.
+-- A table filled with a problem holds that problem, and its rows tell what is allowed, both ways round. Assumes nothing.
 use mathlib.Core.Path.{_≡_, refl, sym, ap, _∙_, subst}
 use mathlib.Core.Bool.{Bool, true, false, not, _&&_}
-use mathlib.Core.Logic.{_⊎_, inl, inr, _≢_, _↔_}
+use mathlib.Core.Logic.{_⊎_, inl, inr, ⊎-elim, _≢_, _↔_}
 use mathlib.Core.List.{List}
-use Prim.Native.Nat.{ℕ, _-_, _/_, _%_, _^_, _≤_, _<_}
+use Prim.Native.Nat.{ℕ, _+_, _^_, _≤_, _<_}
 use native.Mathlib.Omega.{arith}
+use native.Mathlib.Nat.{lt-of-le-of-lt}
+use lib.Bits.{bitAnd, and-le-l}
 use lib.Dec.{T, eqb}
 use lib.ListN.{getD}
 use lib.Pow.{pow-mono}
 use borrow.Author.Tests.{lt-ltb, le-ltb}
 use Rattle.bounded.specs.Bounded.{lowest}
 use Rattle.bounded.specs.Mask.{bit, maskOf}
-use Rattle.bounded.proofs.Truth.{T-ext, and-iff, not-iff, eqb-iff, ltb-iff, lt-dec}
+use Rattle.bounded.proofs.Truth.{T-ext, T-of, split, and-iff, not-iff, eqb-iff, ltb-iff, lt-dec}
 use Rattle.bounded.proofs.Bounded.{lowest-unique, lowest-le, lowest-least}
-use Rattle.bounded.proofs.Mask.{mask-lt, mask-is, bit-mask-all, bit-none}
-use Rattle.bounded.proofs.Table.{length-tab, getD-tab}
+use Rattle.bounded.proofs.Mask.{mask-lt, mask-is, mask-ext, bit-and, bit-mask-all, bit-none}
 use Rattle.problem.specs.Problem.{Problem, sizeSum}
-use Rattle.problem.specs.Held.{rowWord, tableLength, rowPlace, heldSize, heldVariables, heldValue, rowAllows, heldRow, held, RowTable, tableEntry, tableOf, Bounded}
+use Rattle.problem.specs.Held.{rowWord, rowsAt, heldSize, heldVariables, heldValue, rowAllows, farFrom, heldRow, held, RowTable, Bounded, Two, Filled}
 use Rattle.problem.proofs.Count.{sizes-within}
 use Rattle.problem.proofs.Same.{problem-same}
 
@@ -81,6 +82,12 @@ held-bounded {t} R =
           (y .0, y .1, z .0, z .1, x .1 .1);
     }
 
+-- a value that is below a size is one of the problem's
+pub held-value : {t : List ℕ} → RowTable t → (j c : ℕ) → c < (held t) .size j → T (heldValue t j c)
+unfolding held
+held-value {t} R j c l =
+    heldValue-iff t j c .1 (elim (lt-dec j (heldVariables t)) [ inl m ↦ m | inr m ↦ absurd (let e = R .ended j m in omega arith) ], l)
+
 -- ---- a row
 
 -- a word with these bits is the row
@@ -112,86 +119,101 @@ module _ {P : Problem} (B : Bounded P) (i j a : ℕ) where
   pub row-within : rowWord P i j a < 2 ^ P .size j
   row-within = rw row-sized (mask-lt (P .size j) (P .allowed i a j))
 
+-- ---- a row of a table that can be read
+
+module _ {t : List ℕ} (R : RowTable t) (i a j : ℕ) (one : T (heldValue t i a)) (apart : i ≢ j) where
+  -- either row tells
+  pub row-tells : (b : ℕ) → T (heldValue t j b) → bit (getD t (rowsAt i j + a) 0) b ≡ (held t) .allowed i a j b
+  unfolding held rowAllows
+  row-tells b other =
+      T-ext (
+        λ h. simp and-iff (
+          heldRow-iff t i a j b .1 ((one, (other, apart)), h),
+          heldRow-iff t j b i a .1 ((other, (one, λ e. apart (sym e))), subst T (R .turned i a j b one other apart) h),
+        ),
+        λ h. heldRow-iff t i a j b .0 ((simp and-iff at h) .0) .1,
+      )
+
+  -- a set of values of j, met with the word at the row's place, is met with the row
+  pub row-met : (x : ℕ) → x < 2 ^ 16 → ((c : ℕ) → T (bit x c) → c < (held t) .size j) → bitAnd x (getD t (rowsAt i j + a) 0) ≡ bitAnd x (rowWord (held t) i j a)
+  row-met x l within =
+      mask-ext 16 (bitAnd x (getD t (rowsAt i j + a) 0)) (bitAnd x (rowWord (held t) i j a))
+      (lt-of-le-of-lt (and-le-l x _) l) (lt-of-le-of-lt (and-le-l x _) l)
+      (λ c k. bit-and x (getD t (rowsAt i j + a) 0) c ∙ ⊎-elim
+      (λ e. ap (λ (z : Bool). bit x c && z) (row-tells c (held-value R j c (within c (T-of e))) ∙ sym (row-word (held-bounded R) i j a c)))
+      (λ e. rw e)
+      (split (bit x c)) ∙ sym (bit-and x (rowWord (held t) i j a) c))
+
+  -- a variable without a block bars nothing
+  pub far-free : farFrom t i j ≡ true → (b : ℕ) → b < (held t) .size j → T ((held t) .allowed i a j b)
+  unfolding rowAllows
+  far-free e b l =
+      let other = held-value R j b l in
+      subst T (row-tells b other) (R .far i a j b one other apart e)
+
 -- ---- the table of a problem
 
-module _ (P : Problem) (B : Bounded P) where
-  size-entry : (k : ℕ) → k < 32 → tableEntry P k ≡ P .size k
-  unfolding tableEntry
-  size-entry k l = rw (lt-ltb k 32 l, tableEntry)
-
-  row-entry : (k : ℕ) → 32 ≤ k → tableEntry P k ≡ rowWord P ((k - 32) / 512) ((k - 32) / 16 % 32) ((k - 32) % 16)
-  unfolding tableEntry
-  row-entry k l = rw (le-ltb k 32 l, tableEntry)
-
-  held-size : (i : ℕ) → heldSize (tableOf P) i ≡ P .size i
-  unfolding heldSize tableOf
+module _ {P : Problem} {t : List ℕ} (B : Bounded P) (F : Filled P t) where
+  held-size : (i : ℕ) → heldSize t i ≡ P .size i
+  unfolding heldSize
   held-size i = go (lt-dec i 32)
     where
-      go : (i < 32) ⊎ (32 ≤ i) → heldSize (tableOf P) i ≡ P .size i
-      go (inl l) = rw (lt-ltb i 32 l) (getD-tab tableLength (tableEntry P) i 0 (omega arith) ∙ size-entry i l)
+      go : (i < 32) ⊎ (32 ≤ i) → heldSize t i ≡ P .size i
+      go (inl l) = rw (lt-ltb i 32 l) (F .sizes i l)
       go (inr l) = rw (le-ltb i 32 l) (sym (B .none i (omega (arith, B .few))))
 
-  held-variables : heldVariables (tableOf P) ≡ P .n
+  held-variables : heldVariables t ≡ P .n
   unfolding heldVariables
   held-variables =
-      lowest-unique 32 (λ i. eqb (heldSize (tableOf P) i) 0) (P .n) (B .few)
-      (λ k l h. let e : heldSize (tableOf P) k ≡ 0 = eqb-iff (heldSize (tableOf P) k) 0 .0 h in omega (arith, B .some k l, held-size k))
-      (λ l. eqb-iff (heldSize (tableOf P) (P .n)) 0 .1 (held-size (P .n) ∙ B .none (P .n) (omega arith)))
+      lowest-unique 32 (λ i. eqb (heldSize t i) 0) (P .n) (B .few)
+      (λ k l h. let e : heldSize t k ≡ 0 = eqb-iff (heldSize t k) 0 .0 h in omega (arith, B .some k l, held-size k))
+      (λ l. eqb-iff (heldSize t (P .n)) 0 .1 (held-size (P .n) ∙ B .none (P .n) (omega arith)))
 
-  held-value : (i a : ℕ) → T (heldValue (tableOf P) i a) ↔ ((i < P .n) × (a < P .size i))
-  held-value i a =
+  value-iff : (i a : ℕ) → T (heldValue t i a) ↔ ((i < P .n) × (a < P .size i))
+  value-iff i a =
       let e = held-variables in
       let f = held-size i in
-      (λ h. let x = heldValue-iff (tableOf P) i a .0 h in (omega arith, omega arith), λ h. heldValue-iff (tableOf P) i a .1 (omega arith, omega arith))
+      (λ h. let x = heldValue-iff t i a .0 h in (omega arith, omega arith), λ h. heldValue-iff t i a .1 (omega arith, omega arith))
 
-  -- the row of value a of i towards j stands at its place
-  table-row : (i j a : ℕ) → i < 32 → j < 32 → a < 16 → getD (tableOf P) (rowPlace i j a) 0 ≡ rowWord P i j a
-  unfolding tableOf
-  table-row i j a li lj la =
-      let k : ℕ = rowPlace i j a in
-      let ei : (rowPlace i j a - 32) / 512 ≡ i = omega arith in
-      let ej : (rowPlace i j a - 32) / 16 % 32 ≡ j = omega arith in
-      let ea : (rowPlace i j a - 32) % 16 ≡ a = omega arith in
-      getD-tab tableLength (tableEntry P) (rowPlace i j a) 0 (omega arith) ∙ (row-entry (rowPlace i j a) (omega arith) ∙ rw (ei, ej, ea))
+  module _ (i a j b : ℕ) (x : T (heldValue t i a)) (y : T (heldValue t j b)) (d : i ≢ j) where
+    two : Two P i j
+    two = record { one = value-iff i a .0 x .0; other = value-iff j b .0 y .0; apart = d }
 
-  table-allows : (i a j b : ℕ) → i < 32 → a < 16 → j < 32 → rowAllows (tableOf P) i a j b ≡ P .allowed i a j b
-  unfolding rowAllows
-  table-allows i a j b li la lj = ap (λ (x : ℕ). bit x b) (table-row i j a li lj la) ∙ row-word B i j a b
+    says : rowAllows t i a j b ≡ P .allowed i a j b
+    says = F .rows i a j b two (value-iff i a .0 x .1) (value-iff j b .0 y .1)
 
-  -- a value of the problem is within the table
-  in-table : (i a : ℕ) → i < P .n → a < P .size i → (i < 32) × (a < 16)
-  in-table i a l m = (omega (arith, B .few), omega (arith, B .narrow i))
+    free : farFrom t i j ≡ true → T (rowAllows t i a j b)
+    free e = subst T (sym says) (F .far i a j b two (value-iff i a .0 x .1) (value-iff j b .0 y .1) e)
 
-  held-allowed : (i a j b : ℕ) → (heldRow (tableOf P) i a j b && heldRow (tableOf P) j b i a) ≡ P .allowed i a j b
+  filled-turned : (i a j b : ℕ) → T (heldValue t i a) → T (heldValue t j b) → i ≢ j → rowAllows t i a j b ≡ rowAllows t j b i a
+  filled-turned i a j b x y d = says i a j b x y d ∙ P .symmetric i a j b ∙ sym (says j b i a y x (λ e. d (sym e)))
+
+  held-allowed : (i a j b : ℕ) → (heldRow t i a j b && heldRow t j b i a) ≡ P .allowed i a j b
   held-allowed i a j b =
       T-ext (
-        λ h. let x = heldRow-iff (tableOf P) i a j b .0 ((simp and-iff at h) .0) in
-            let y = held-value i a .0 (x .0 .0) in
-            let z = held-value j b .0 (x .0 .1 .0) in
-            let p = in-table i a (y .0) (y .1) in
-            subst T (table-allows i a j b (p .0) (p .1) (in-table j b (z .0) (z .1) .0)) (x .1),
+        λ h. let x = heldRow-iff t i a j b .0 ((simp and-iff at h) .0) in subst T (says i a j b (x .0 .0) (x .0 .1 .0) (x .0 .1 .1)) (x .1),
         λ h. let x = B .listed i a j b h in
-            let p = in-table i a (x .0) (x .1) in
-            let q = in-table j b (x .2) (x .3) in
-            let vi = held-value i a .1 (x .0, x .1) in
-            let vj = held-value j b .1 (x .2, x .3) in
+            let vi = value-iff i a .1 (x .0, x .1) in
+            let vj = value-iff j b .1 (x .2, x .3) in
+            let r : T (rowAllows t i a j b) = subst T (sym (says i a j b vi vj (x .4))) h in
             simp and-iff (
-              heldRow-iff (tableOf P) i a j b .1 ((vi, (vj, x .4)), subst T (sym (table-allows i a j b (p .0) (p .1) (q .0))) h),
-              heldRow-iff (tableOf P) j b i a .1 ((vj, (vi, λ e. x .4 (sym e))), subst T (sym (table-allows j b i a (q .0) (q .1) (p .0))) (subst T (P .symmetric i a j b) h)),
+              heldRow-iff t i a j b .1 ((vi, (vj, x .4)), r),
+              heldRow-iff t j b i a .1 ((vj, (vi, λ e. x .4 (sym e))), subst T (filled-turned i a j b vi vj (x .4)) r),
             ),
       )
 
-  -- the problem that the table holds is the problem that it was made of
-  pub held-same : held (tableOf P) ≡ P
+  -- the problem that the table holds is the one that it is filled with: the same variables, sizes and relation
+  pub held-filled : held t ≡ P
   unfolding held
-  held-same = problem-same (held (tableOf P)) P held-variables held-size held-allowed
+  held-filled = problem-same (held t) P held-variables held-size held-allowed
 
-  pub table-rows : RowTable (tableOf P)
-  unfolding tableOf
-  table-rows =
+  -- and the table can be read
+  pub filled-rows : RowTable t
+  filled-rows =
       record {
-        long = length-tab tableLength (tableEntry P);
+        located = F .located;
         narrow = λ i. omega (arith, held-size i, B .narrow i);
         ended = λ i l. held-size i ∙ B .none i (omega (arith, held-variables));
-        words = λ i j a li lj la d. table-row i j a li lj la ∙ ap (λ (Q : Problem). rowWord Q i j a) (sym held-same);
+        turned = filled-turned;
+        far = λ i a j b x y d e. free i a j b x y d e;
       }

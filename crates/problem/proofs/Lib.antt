@@ -14,7 +14,9 @@ pub mod OneCall
 pub mod Order
 pub mod Bridge
 pub mod Same
+pub mod Places
 pub mod HeldTable
+pub mod Filling
 pub mod Solvable
 pub mod Samples
 pub mod BothWays

@@ -4,5 +4,7 @@ pub mod Manual
 pub mod Extend
 pub mod Masks
 pub mod Solutions
+pub mod Places
 pub mod Held
+pub mod Filling
 pub mod Samples

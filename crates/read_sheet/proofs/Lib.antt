@@ -1,1 +1,5 @@
 pub mod Causes
+pub mod Stores
+pub mod Rows
+pub mod Pass
+pub mod Fronts

@@ -8,8 +8,6 @@ ghost use Rattle.problem.specs.Reduce.{endOf};
 ghost use Rattle.problem.specs.Held.{held, RowTable};
 ghost use Rattle.problem.specs.Masks.{stateOf};
 ghost use Rattle.held.specs.Ready.{Ready};
-ghost use Rattle.sheet.specs.Sheet.{layout, Keeps};
-ghost use Rattle.sheet.specs.Relation.{problemOf};
 ghost use Rattle.jobs.specs.Run.{runRefused, runDone, runOver, runJob};
 use held::full_masks;
 use held::size_sum;
@@ -102,25 +100,16 @@ pub fn run_over(t: &[u16], b: &mut [u8]) -> Reduced
     run_table(t, b)
 }
 
-// The run of a sheet that keeps the layout: over its table.
-fn run_sheet(s: &[u8], b: &mut [u8]) -> Reduced
-    requires { ⌜ Keeps layout (now s) ⌝ }
-    ensures { λ r. ⌜ (r ≡ (runOver (problemOf layout (now (s .entry))) (now (b .entry))) .answer) × (now (b .exit) ≡ (runOver (problemOf layout (now (s .entry))) (now (b .entry))) .buffer) ⌝ }
-{
-    let mut t = [0u16; 16416];
-    table::fill_table(s, &mut t);
-    run_over(&t, b)
-}
-
 // The run: lent a sheet and a buffer for the trace. A refused run leaves the buffer as it was.
 pub fn reduce(s: &[u8], b: &mut [u8]) -> Reduced
     ensures { λ r. ⌜ (r ≡ (runJob (now (s .entry)) (now (b .entry))) .answer) × (now (b .exit) ≡ (runJob (now (s .entry)) (now (b .entry))) .buffer) ⌝ }
 {
-    match read_sheet::read_sheet(s) {
+    let mut t = [65535u16; 16992];
+    match read_sheet::read_table(s, &mut t) {
         SheetRead::Refused(r) => refused(ReduceRefusal::Sheet(r)),
         SheetRead::Accepted {
             variables: _,
             blocks: _,
-        } => run_sheet(s, b),
+        } => run_over(&t, b),
     }
 }

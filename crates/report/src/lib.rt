@@ -4,7 +4,9 @@ ghost use Prim.Native.Nat.{_+_, _*_, _≤_};
 ghost use lib.ListN.{length};
 ghost use Rattle.bounded.specs.Bounded.{oneIf, countBelow, sumTo};
 ghost use Rattle.bounded.specs.Mask.{bit};
+ghost use Rattle.problem.specs.Problem.{sizeSum};
 ghost use Rattle.problem.specs.Masks.{stateOf};
+ghost use Rattle.sheet.specs.Bytes.{Is};
 ghost use Rattle.sheet.specs.Sheet.{layout, Keeps};
 ghost use Rattle.sheet.specs.Relation.{problemOf};
 ghost use Rattle.jobs.specs.Trace.{fronted};
@@ -17,6 +19,7 @@ use jobs::RecordRead;
 use jobs::ReduceOutcome;
 use problem::End;
 use problem::Masks;
+use sheet::byte;
 
 // ---- counts of the last state
 
@@ -87,6 +90,21 @@ fn put_steps(out: &mut [u8], at: usize, trace: &[u8], steps: usize) -> usize
 
 // ---- the text
 
+// The sum of the sizes that a sheet lists.
+fn size_sum(s: &[u8]) -> usize
+    requires { ⌜ Keeps layout (now s) ⌝ }
+    ensures { λ r. ⌜ Is (sizeSum (problemOf layout (now (s .entry)))) 513 r ⌝ }
+{
+    let n = byte(s, 5);
+    let mut sum: usize = 0;
+    let mut i: usize = 0;
+    while i < n {
+        sum += byte(s, 8 + i);
+        i += 1;
+    }
+    sum
+}
+
 // The text of a run that was not refused: the first line, the step lines and the last line.
 pub fn put_run(out: &mut [u8], s: &[u8], trace: &[u8], end: End, steps: usize, m: Masks) -> usize
     requires { ⌜ Keeps layout (now s) × (Ran (problemOf layout (now s)) (now trace) end steps m × (reportRoom ≤ length (now out))) ⌝ }
@@ -94,7 +112,7 @@ pub fn put_run(out: &mut [u8], s: &[u8], trace: &[u8], end: End, steps: usize, m
     ensures within { λ r. ⌜ r ≤ reportRoom ⌝ }
 {
     let n = s[5] as usize;
-    let sum = table::size_sum(s);
+    let sum = size_sum(s);
     let variables = count_bits(m.active, 32);
     let values = count_values(m);
     let p = text::put_first_line(out, 0, n, sum);

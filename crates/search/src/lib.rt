@@ -1,6 +1,8 @@
 // The next step in the order that the format requires: the lowest kind that holds anywhere, then the lowest fields.
 ghost use mathlib.Core.Path.{_≡_};
 ghost use Prim.Native.Nat.{_<_, _≤_, _+_};
+ghost use mathlib.Core.Bool.{true};
+ghost use Rattle.problem.specs.Problem.{noneEmpty};
 ghost use Rattle.problem.specs.Held.{held};
 ghost use Rattle.problem.specs.Masks.{stateOf, sets};
 ghost use Rattle.problem.specs.Reduce.{nextOfKind, next as nextOf};
@@ -15,7 +17,7 @@ use unsupported::next_unsupported;
 
 // The lowest step of a kind.
 fn next_of_kind(t: &[u16], active: u32, on: &[u16; 32], kind: usize) -> Next
-    requires { ⌜ Ready (now t) (sets active (now on)) × (1 ≤ kind) × (kind ≤ 5) ⌝ }
+    requires { ⌜ Ready (now t) (sets active (now on)) × (noneEmpty (held (now t)) (stateOf (sets active (now on))) ≡ true) × (1 ≤ kind) × (kind ≤ 5) ⌝ }
     ensures { λ r. ⌜ r ≡ nextOfKind (held (now (t .entry))) (stateOf (sets active (now (on .entry)))) kind ⌝ }
 {
     match kind {

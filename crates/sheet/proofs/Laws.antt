@@ -23,10 +23,6 @@ use Rattle.sheet.specs.declared.SheetRead.the-variants.{Accepted, Refuse
 pub pos : {k : ℕ} → 0 < k → k ≡ suc (k - 1)
 pos h = omega arith
 
--- one row less
-pub mul-step : (k w : ℕ) → 0 < k → k * w ≡ (k - 1) * w + w
-mul-step k w h = ap (λ (x : ℕ). x * w) (pos h) ∙ suc-mul (k - 1) w
-
 pub rows-small : (z w : ℕ) → z ≤ 16 → w ≤ 2 → z * w ≤ 32
 rows-small z w a b = mul-le-mul {n₂ = 16} {m₂ = 2} a b
 

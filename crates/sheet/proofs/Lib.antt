@@ -4,3 +4,4 @@ pub mod Versions
 pub mod Allows
 pub mod Words
 pub mod Refusals
+pub mod Table

@@ -1,6 +1,6 @@
 -- The row of a setting towards another item: what the bytes of an accepted sheet say of it. Assumes nothing.
 use mathlib.Core.Path.{_≡_, refl, sym, ap, _∙_}
-use mathlib.Core.Bool.{true, false}
+use mathlib.Core.Bool.{true}
 use mathlib.Core.Logic.{_⊎_, inl, inr, ⊎-elim, _≢_}
 use mathlib.Core.List.{List}
 use Prim.Native.Nat.{ℕ, _+_, _-_, _*_, _^_, _≤_, _<_}
@@ -13,10 +13,10 @@ use Rattle.bounded.proofs.Truth.{lt-dec}
 use Rattle.bounded.proofs.Mask.{mask-lt, bit-mask, bit-high, full-bit}
 use Rattle.problem.specs.Problem.{Problem}
 use Rattle.problem.specs.Held.{rowWord}
-use Rattle.problem.proofs.HeldTable.{row-only, row-none, row-word}
+use Rattle.problem.proofs.HeldTable.{row-only, row-word}
 use Rattle.sheet.specs.Bytes.{numberAt}
 use Rattle.sheet.specs.Sheet.{Layout, layout, versionOf, variablesOf, sizeAt, rowWidth, Keeps}
-use Rattle.sheet.specs.Relation.{rowsFrom, rowsOf, rowIn, rowsAllow, pairAllowed, listed, allowedOf, problemOf}
+use Rattle.sheet.specs.Relation.{rowsFrom, rowsOf, rowIn, rowsAllow, pairAllowed, listed, problemOf}
 use Rattle.sheet.specs.Parts.{pairRows}
 use Rattle.sheet.specs.Row.{wordAt, blockRow, ownRow, turnedRow, sheetRow, sampleSheet, sampleShorter, sampleMixed, AllRows, sampleRows, mixedRows}
 use Rattle.sheet.specs.declared.Rows.{Rows}
@@ -31,11 +31,6 @@ module _ (L : Layout) (s : List ℕ) where
   pub rows-down : (i j : ℕ) → j ≤ i → pairRows L s i j ≡ rowsOf L s j i
   unfolding pairRows
   rows-down i j h = simp (le-ltb i j h)
-
-  -- nothing is allowed
-  pub none-allowed : (i a j : ℕ) → ((b : ℕ) → allowedOf L s i a j b ≡ false) → 0 ≡ rowWord (problemOf L s) i j a
-  unfolding problemOf
-  none-allowed i a j h = row-none (problemOf L s) i j a h
 
   module _ (y : Keeps L s) (i a j : ℕ) (on : listed L s i a ≡ true) (other : j < variablesOf s) where
     -- what is right at the settings of j, and has no bit beyond them, is the row

@@ -3,7 +3,7 @@ ghost use mathlib.Core.Path.{_≡_};
 ghost use Prim.Native.Nat.{_+_, _*_, _<_, _≤_};
 ghost use lib.ListN.{length};
 ghost use Rattle.sheet.specs.Bytes.{byteAt, numberAt, Is};
-ghost use Rattle.sheet.specs.Sheet.{layout, sheetNumber, variablesOf, rowWidth, rowBytes, Front};
+ghost use Rattle.sheet.specs.Sheet.{layout, sheetNumber, variablesOf, rowWidth, Front};
 ghost use Rattle.sheet.specs.Parts.{Width};
 ghost use Rattle.sheet.specs.declared.Rows.the-variants.{At};
 
@@ -119,12 +119,4 @@ pub fn width_of(s: &[u8], j: usize) -> usize
     ensures { λ r. ⌜ Width (rowWidth layout (now (s .entry)) j) r ⌝ }
 {
     row_width(byte(s, 0), byte(s, 8 + j))
-}
-
-// The bytes of all rows of the block of i and j.
-pub fn row_bytes(s: &[u8], i: usize, j: usize) -> usize
-    requires { ⌜ Front (now s) × ((i < variablesOf (now s)) × (j < variablesOf (now s))) ⌝ }
-    ensures { λ r. ⌜ Is (rowBytes layout (now (s .entry)) i j) 33 r ⌝ }
-{
-    byte(s, 8 + i) * width_of(s, j)
 }

@@ -1,28 +1,30 @@
 -- The snake rule over words, and the search for a snake step. Assumes nothing.
 use mathlib.Core.Path.{_≡_}
-use mathlib.Core.Bool.{false}
-use mathlib.Core.Logic.{_↔_, Iff·rfl}
+use mathlib.Core.Bool.{false, not}
+use mathlib.Core.Logic.{_↔_, Iff·rfl, ⊎-elim}
 use mathlib.Core.List.{List}
 use Prim.Native.Nat.{ℕ, _<_}
 use lib.Dec.{T}
 use lib.Bits.{bitAnd}
 use lib.ListN.{getD}
+use Rattle.bounded.specs.Bounded.{imp}
 use Rattle.bounded.specs.Mask.{bit}
-use Rattle.bounded.proofs.Truth.{T-ext, imp-iff, not-iff}
+use Rattle.bounded.proofs.Truth.{T-ext, T-of, T-true, split, and-iff, imp-iff, imp-fails, not-iff}
+use Rattle.bounded.proofs.Mask.{bit-and}
 use Rattle.problem.specs.Problem.{Problem, State, snake}
 use Rattle.problem.specs.Held.{rowWord, held}
 use Rattle.problem.specs.Masks.{stateOf}
 use Rattle.problem.specs.declared.Masks.{Masks}
 use Rattle.problem.proofs.Reflect.{Live, Allowed, Fits, allLive-iff, anyLive-iff, SnakeServes, snakeServes-iff, snake-iff}
 use Rattle.problem.proofs.HeldTable.{held-few, held-narrow}
-use Rattle.held.specs.Ready.{Ready}
-use Rattle.cover.specs.Words.{allServedIn, thirds}
+use Rattle.held.specs.Ready.{Ready, Value, Near}
+use Rattle.cover.specs.Words.{allServedIn, others, thirds}
 use Rattle.snake.specs.Parts.{snakeAt, snakeVariable}
 use Rattle.problem.specs.Reduce.{stepIf, first, nextSnake}
 use Rattle.problem.specs.declared.Record.the-variants.{Snake}
 use Rattle.problem.specs.declared.Next.the-variants.{Nothing}
-use Rattle.held.proofs.Laws.{live-value, active-32, word-iff}
-use Rattle.cover.proofs.Laws.{allServedIn-iff, thirds-iff}
+use Rattle.held.proofs.Laws.{near-free, live-value, active-32, word-iff}
+use Rattle.cover.proofs.Laws.{allServedIn-iff, thirds-iff, other-apart}
 use Rattle.problem.proofs.Search.{first-off, wide-two, outside}
 use Rattle.held.proofs.Bounds.{no-value, no-domain}
 
@@ -50,6 +52,19 @@ module _ {t : List ℕ} {m : Masks} (R : Ready t m) where
 
       is : (c : ℕ) → T (bit good c) ↔ (Live (stateOf m) j c × Allowed (held t) i v j c)
       is c = word-iff R i v j c
+
+  -- a variable that has no block with i bars nothing with v, so each where the rule fails is a neighbour
+  pub snake-near : (rest i v x : ℕ) → rest ≡ others (m .active) i → Value t i v → Near t i x → (j : ℕ) → j < 32 → T (not (imp (bit rest j) (snakeAt (held t) (stateOf m) i v j))) → T (bit (bitAnd rest x) j)
+  snake-near rest i v x e val near j l h =
+      let y = imp-fails (bit rest j) (snakeAt (held t) (stateOf m) i v j) (not-iff (imp (bit rest j) (snakeAt (held t) (stateOf m) i v j)) .0 h) in
+      let d = other-apart rest (m .active) i j e (val .variable) (T-true _ (y .0)) in
+      simp (bit-and, and-iff) (
+        y .0,
+        ⊎-elim
+            (λ q. T-of q)
+            (λ q. absurd (y .1 (snakeAt-iff (R .fits) i v j .1 (λ w o n. absurd (n (near-free (R .table) i v j x val near l d q w (R .fits .live-lt j w o)))))))
+            (split (bit x j)),
+      )
 
 module _ {t : List ℕ} {m : Masks} (R : Ready t m) where
   abbrev P : Problem

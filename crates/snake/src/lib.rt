@@ -13,12 +13,14 @@ ghost use Rattle.cover.specs.Words.{others};
 ghost use Rattle.snake.specs.Parts.{snakeAt, snakeVariable};
 use bounded::has16;
 use bounded::has32;
+use bounded::lowest32;
 use bounded::without32;
 use cover::all_served;
 use cover::first_break;
 use cover::third_set;
+use held::neighbours;
 use held::pair_allowed;
-use held::row;
+use held::row_among;
 use problem::Next;
 use problem::Record;
 use problem::is_step;
@@ -46,31 +48,29 @@ pub fn snake_serves(
     }
 }
 
-// What the snake rule asks of j, where j is one of `rest`: the active variables other than i.
+// What the snake rule asks of j, one of `rest`: the active variables other than i.
 fn snake_at(t: &[u16], active: u32, on: &[u16; 32], rest: u32, i: usize, v: usize, j: usize) -> bool
-    requires { ⌜ Ready (now t) (sets active (now on)) × Value (now t) i v × (rest ≡ others active i) × (j < 32) ⌝ }
+    requires { ⌜ Ready (now t) (sets active (now on)) × Value (now t) i v × (rest ≡ others active i) × (j < 32) × (bit rest j ≡ true) ⌝ }
     ensures { λ r. ⌜ r ≡ imp (bit rest j) (snakeAt (held (now (t .entry))) (stateOf (sets active (now (on .entry)))) i v j) ⌝ }
 {
-    if has32(rest, j) {
-        let domain = on[j];
-        let good = domain & row(t, i, j, v);
-        all_served(t, active, on, without32(rest, j), good, domain, j)
-    } else {
-        true
-    }
+    let domain = on[j];
+    let good = row_among(t, domain, i, j, v);
+    all_served(t, active, on, without32(rest, j), good, domain, j)
 }
 
+// A variable that has no block with i bars nothing with v, and is passed over.
 fn snake_others(t: &[u16], active: u32, on: &[u16; 32], i: usize, v: usize) -> bool
     requires { ⌜ Ready (now t) (sets active (now on)) × Value (now t) i v ⌝ }
     ensures { λ r. ⌜ r ≡ allOther (held (now (t .entry))) (stateOf (sets active (now (on .entry)))) i (snakeAt (held (now (t .entry))) (stateOf (sets active (now (on .entry)))) i v) ⌝ }
 {
     let rest = without32(active, i);
-    let mut j: usize = 0;
-    while j < 32 {
+    let mut left = rest & neighbours(t, i);
+    while left != 0 {
+        let j = lowest32(left);
         if !snake_at(t, active, on, rest, i, v, j) {
             return false;
         }
-        j += 1;
+        left = without32(left, j);
     }
     true
 }

@@ -1,28 +1,30 @@
 -- Snake substitution over words, and the search for one. Assumes nothing.
 use mathlib.Core.Path.{_≡_}
-use mathlib.Core.Bool.{false}
+use mathlib.Core.Bool.{false, not}
 use mathlib.Core.Logic.{_⊎_, inl, inr, _↔_, Iff·rfl, ⊎-elim}
 use mathlib.Core.List.{List}
 use Prim.Native.Nat.{ℕ, _<_}
 use lib.Dec.{T}
 use lib.Bits.{bitAnd}
 use lib.ListN.{getD}
+use Rattle.bounded.specs.Bounded.{imp}
 use Rattle.bounded.specs.Mask.{bit}
-use Rattle.bounded.proofs.Truth.{T-ext, T-dec, imp-iff}
+use Rattle.bounded.proofs.Truth.{T-ext, T-of, T-true, T-dec, split, and-iff, imp-iff, imp-fails, not-iff}
+use Rattle.bounded.proofs.Mask.{bit-and}
 use Rattle.problem.specs.Problem.{Problem, State, snakeSubstitution, slideSpares}
 use Rattle.problem.specs.Held.{rowWord, held}
 use Rattle.problem.specs.Masks.{stateOf}
 use Rattle.problem.specs.declared.Masks.{Masks}
 use Rattle.problem.proofs.Reflect.{Live, Allowed, Fits, allLive-iff, anyLive-iff, Substitutes, SlideServes, slideServes-iff, snakeSubstitution-iff}
 use Rattle.problem.proofs.HeldTable.{held-few, held-narrow}
-use Rattle.held.specs.Ready.{Ready}
-use Rattle.cover.specs.Words.{allServedIn, thirds}
+use Rattle.held.specs.Ready.{Ready, Value, Near}
+use Rattle.cover.specs.Words.{allServedIn, others, thirds}
 use Rattle.snake_substitution.specs.Parts.{slideAt, substitutionValue, substitutionVariable}
 use Rattle.problem.specs.Reduce.{stepIf, first, nextSnakeSubstitutionBy, nextSnakeSubstitution}
 use Rattle.problem.specs.declared.Record.the-variants.{SnakeSubstitution}
 use Rattle.problem.specs.declared.Next.the-variants.{Nothing}
-use Rattle.held.proofs.Laws.{live-value, active-32, word-iff}
-use Rattle.cover.proofs.Laws.{allServedIn-iff, thirds-iff}
+use Rattle.held.proofs.Laws.{near-free, live-value, active-32, word-iff}
+use Rattle.cover.proofs.Laws.{allServedIn-iff, thirds-iff, other-apart}
 use Rattle.problem.proofs.Search.{first-off, wide-three, outside}
 use Rattle.held.proofs.Bounds.{no-value, not-live, no-domain}
 
@@ -65,6 +67,20 @@ module _ {t : List ℕ} {m : Masks} (R : Ready t m) where
           let x = f (isBad d .1 (o, al), g) in
           let y = isGood (x .0) .0 (x .2 .0) in
           (x .0, y .0, (y .1, λ l act ne sp. x .2 .1 l (active-32 R l act) (thirds-iff (m .active) i k l p q (active-32 R l act) .1 ((act, λ e. sp (tt, e)), ne))))
+
+  -- a variable that has no block with i bars nothing with a: each of its values serves for itself, so each where the rule fails is a
+  -- neighbour
+  pub slide-near : (rest i b a x : ℕ) → rest ≡ others (m .active) i → Value t i a → Near t i x → (k : ℕ) → k < 32 → T (not (imp (bit rest k) (slideAt (held t) (stateOf m) i b a k))) → T (bit (bitAnd rest x) k)
+  slide-near rest i b a x e val near k l h =
+      let y = imp-fails (bit rest k) (slideAt (held t) (stateOf m) i b a k) (not-iff (imp (bit rest k) (slideAt (held t) (stateOf m) i b a k)) .0 h) in
+      let d = other-apart rest (m .active) i k e (val .variable) (T-true _ (y .0)) in
+      simp (bit-and, and-iff) (
+        y .0,
+        ⊎-elim
+            (λ q. T-of q)
+            (λ q. absurd (y .1 (slideAt-iff (R .fits) i b a k .1 (λ w o al. (w, o, (near-free (R .table) i a k x val near l d q w (R .fits .live-lt k w o), λ n act ne sp c oc ac. ac))))))
+            (split (bit x k)),
+      )
 
 module _ {t : List ℕ} {m : Masks} (R : Ready t m) where
   abbrev P : Problem

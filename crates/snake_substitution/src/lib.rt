@@ -13,14 +13,16 @@ ghost use Rattle.cover.specs.Words.{others};
 ghost use Rattle.snake_substitution.specs.Parts.{slideAt, substitutionValue, substitutionVariable};
 use bounded::has16;
 use bounded::has32;
+use bounded::lowest32;
 use bounded::without32;
 use cover::all_served;
-use held::row;
+use held::neighbours;
+use held::row_among;
 use problem::Next;
 use problem::Record;
 use problem::is_step;
 
-// What the slide rule asks of k, where k is one of `rest`: the active variables other than i. Covering is asked for at these but k.
+// What the slide rule asks of k, one of `rest`: the active variables other than i. Covering is asked for at these but k.
 fn slide_at(
     t: &[u16],
     active: u32,
@@ -31,30 +33,28 @@ fn slide_at(
     a: usize,
     k: usize,
 ) -> bool
-    requires { ⌜ Ready (now t) (sets active (now on)) × Value (now t) i b × Value (now t) i a × (rest ≡ others active i) × (k < 32) ⌝ }
+    requires { ⌜ Ready (now t) (sets active (now on)) × Value (now t) i b × Value (now t) i a × (rest ≡ others active i) × (k < 32) × (bit rest k ≡ true) ⌝ }
     ensures { λ r. ⌜ r ≡ imp (bit rest k) (slideAt (held (now (t .entry))) (stateOf (sets active (now (on .entry)))) i b a k) ⌝ }
 {
-    if has32(rest, k) {
-        let domain = on[k];
-        let good = domain & row(t, i, k, a);
-        let bad = domain & row(t, i, k, b);
-        all_served(t, active, on, without32(rest, k), good, bad, k)
-    } else {
-        true
-    }
+    let domain = on[k];
+    let good = row_among(t, domain, i, k, a);
+    let bad = row_among(t, domain, i, k, b);
+    all_served(t, active, on, without32(rest, k), good, bad, k)
 }
 
+// A variable that has no block with i bars nothing with a: each of its values serves for itself, and it is passed over.
 fn slide_others(t: &[u16], active: u32, on: &[u16; 32], i: usize, b: usize, a: usize) -> bool
     requires { ⌜ Ready (now t) (sets active (now on)) × Value (now t) i b × Value (now t) i a ⌝ }
     ensures { λ r. ⌜ r ≡ allOther (held (now (t .entry))) (stateOf (sets active (now (on .entry)))) i (slideAt (held (now (t .entry))) (stateOf (sets active (now (on .entry)))) i b a) ⌝ }
 {
     let rest = without32(active, i);
-    let mut k: usize = 0;
-    while k < 32 {
+    let mut left = rest & neighbours(t, i);
+    while left != 0 {
+        let k = lowest32(left);
         if !slide_at(t, active, on, rest, i, b, a, k) {
             return false;
         }
-        k += 1;
+        left = without32(left, k);
     }
     true
 }

@@ -1,6 +1,6 @@
 -- Sweeps: what one keeps, that one which changes nothing ends them, and that 513 are enough. Assumes nothing.
 use mathlib.Core.Path.{_≡_, refl, sym, ap, _∙_, fun-ext, subst}
-use mathlib.Core.Bool.{Bool, true, false, _&&_}
+use mathlib.Core.Bool.{true, false, _&&_}
 use mathlib.Core.Logic.{_⊎_, inl, inr, _≢_}
 use mathlib.Core.List.{List}
 use Prim.Native.Nat.{ℕ, zero, suc, _+_, _-_, _≤_, _<_}
@@ -11,49 +11,34 @@ use lib.ListN.{getD}
 use lib.Seq.{ext-getD}
 use borrow.Author.Tests.{eqb-true}
 use Rattle.bounded.specs.Table.{tab}
-use Rattle.bounded.proofs.Truth.{T-ext, T-dec, and-iff, not-iff}
-use Rattle.bounded.proofs.Bounded.{all-iff}
+use Rattle.bounded.proofs.Truth.{T-ext, T-not, T-false, and-iff, eq-dec}
 use Rattle.bounded.proofs.Loops.{all-each}
-use Rattle.problem.specs.Problem.{Problem, State, full, anyLive, unsupported, liveCount, sizeSum}
+use Rattle.bounded.proofs.Mask.{bit-none, mask-is}
+use Rattle.problem.specs.Problem.{Problem, State, full, noneEmpty, liveCount, sizeSum}
 use Rattle.problem.specs.Manual.{supported, prune, pruneTimes, startTurns, start}
 use Rattle.problem.specs.Held.{held, RowTable}
 use Rattle.problem.specs.Masks.{stateOf, masksOf, Proper}
 use Rattle.problem.specs.declared.Masks.{Masks}
-use Rattle.problem.proofs.Reflect.{Active, Live, Allowed, Fits, anyLive-iff, supported-iff, unsupported-iff}
+use Rattle.problem.proofs.Reflect.{Active, Live, Fits, supported-iff, noneEmpty-iff}
 use Rattle.problem.proofs.HeldTable.{held-most}
 use Rattle.problem.proofs.Start.{prune-fits, start-fits, start-consistent}
 use Rattle.problem.proofs.Count.{full-count}
 use Rattle.problem.proofs.Bridge.{masks-back, masks-proper}
 use Rattle.held.specs.Ready.{Ready}
 use Rattle.held.proofs.After.{state-held, ready-held}
-use Rattle.start.specs.Parts.{noneBare, domainLeft, sameDomains, maxTurns}
+use Rattle.support.specs.Words.{domainLeft}
+use Rattle.start.specs.Parts.{sameDomains, maxTurns}
 
 -- ---- one sweep
 
--- a value in its domain has a support at every other active variable where none tells that it has none
-pub none-bare-is : (P : Problem) (s : State) → Fits P s → P .n ≤ 32 → (i a : ℕ) → Live s i a → noneBare P s i a ≡ supported P s i a
-unfolding noneBare
-none-bare-is P s F few i a o =
-    T-ext (
-      λ h. supported-iff F i a .1 (λ j act d. some j act d (simp (all-iff, not-iff) at h) (T-dec (anyLive P s j (λ b. P .allowed i a j b)))),
-      λ h. simp (all-iff, not-iff)
-          (λ k l u. let x = unsupported-iff F i a k .0 u in
-          let y = supported-iff F i a .0 h k (x .1) (x .2) in
-          x .3 (y .0) (y .1) (y .2)),
-    )
+-- where some active variable is emptied, no value is left: it has no support there, or is one of that variable itself
+pub emptied-left : (P : Problem) (s : State) → Fits P s → noneEmpty P s ≡ false → (i : ℕ) → 0 ≡ domainLeft P s i
+unfolding domainLeft prune
+emptied-left P s F e i = mask-is 16 0 (prune P s .live i) (omega arith) (λ c l. bit-none c ∙ sym (T-false _ (λ h. T-not e (noneEmpty-iff F .1 (λ k a. go c (and-iff (s .live i c) (supported P s i c) .0 h) k a (eq-dec k i))))))
   where
-    some : (j : ℕ) → Active s j → j ≢ i → ((k : ℕ) → k < 32 → T (unsupported P s i a k) → ⊥) → T (anyLive P s j (λ b. P .allowed i a j b)) ⊎ (T (anyLive P s j (λ b. P .allowed i a j b)) → ⊥) → (b : ℕ) × Live s j b × Allowed P i a j b
-    some j act d f (inl t) = anyLive-iff F j (λ b. P .allowed i a j b) .0 t
-    some j act d f (inr n) =
-        absurd (f j (omega (arith, F .active-lt j act)) (unsupported-iff F i a j .1 (o, act, d, λ c live al. n (anyLive-iff F j (λ b. P .allowed i a j b) .1 (c, live, al)))))
-
-pub stays-is : (P : Problem) (s : State) → Fits P s → P .n ≤ 32 → (i a : ℕ) → s .live i a ≡ true → noneBare P s i a ≡ prune P s .live i a
-unfolding prune
-stays-is P s F few i a e = none-bare-is P s F few i a (subst T (sym e) tt) ∙ ap (λ (b : Bool). b && supported P s i a) (sym e)
-
-pub goes-is : (P : Problem) (s : State) (i a : ℕ) → s .live i a ≡ false → false ≡ prune P s .live i a
-unfolding prune
-goes-is P s i a e = ap (λ (b : Bool). b && supported P s i a) (sym e)
+    go : (c : ℕ) → T (s .live i c) × T (supported P s i c) → (k : ℕ) → Active s k → (k ≡ i) ⊎ (k ≢ i) → (b : ℕ) × Live s k b
+    go c y k a (inl q) = (c, subst (λ (z : ℕ). Live s z c) (sym q) (y .0))
+    go c y k a (inr d) = let z = supported-iff F i c .0 (y .1) k a d in (z .0, z .1)
 
 -- the masks of a sweep: the active variables as they were, and the domains that are left
 pub sweep-masks : (P : Problem) (m r : Masks) → Proper m → r .active ≡ m .active → r .domains ≡ tab 32 (domainLeft P (stateOf m)) → r ≡ masksOf (prune P (stateOf m))

@@ -1,64 +1,34 @@
 // docs/FORMAT.md, "Taking out by hand": the start, by sweeps over a filled table until one changes nothing.
 ghost use mathlib.Core.Path.{_≡_};
-ghost use mathlib.Core.Bool.{true};
 ghost use Prim.Native.Nat.{_<_};
-ghost use Rattle.problem.specs.Problem.{full};
+ghost use Rattle.problem.specs.Problem.{full, noneEmpty};
 ghost use Rattle.problem.specs.Manual.{prune, pruneTimes};
 ghost use Rattle.problem.specs.Masks.{stateOf, masksOf, sets};
 ghost use Rattle.problem.specs.Held.{held, RowTable};
 ghost use Rattle.held.specs.Ready.{Ready};
-ghost use Rattle.sheet.specs.Sheet.{layout, Keeps};
-ghost use Rattle.sheet.specs.Relation.{problemOf};
 ghost use Rattle.jobs.specs.Hand.{startRefused, startOver, startJob};
-ghost use Rattle.start.specs.Parts.{noneBare, domainLeft, sameDomains, maxTurns};
-use bounded::has16;
+ghost use Rattle.support.specs.Words.{domainLeft};
+ghost use Rattle.start.specs.Parts.{sameDomains, maxTurns};
 use jobs::ManualState;
 use jobs::StartAnswer;
 use jobs::StartOutcome;
 use problem::Masks;
 use sheet::SheetRead;
 use sheet::SheetRefusal;
+use support::supported;
 
 // ---- one sweep
 
-// At no other active variable is value a of i without a support.
-fn none_bare(t: &[u16], active: u32, on: &[u16; 32], i: usize, a: usize) -> bool
-    requires { ⌜ Ready (now t) (sets active (now on)) × (i < 32) × (a < 16) ⌝ }
-    ensures { λ r. ⌜ r ≡ noneBare (held (now (t .entry))) (stateOf (sets active (now (on .entry)))) i a ⌝ }
-{
-    let mut k: usize = 0;
-    while k < 32 {
-        if unsupported::unsupported(t, active, on, i, a, k) {
-            return false;
-        }
-        k += 1;
-    }
-    true
-}
-
-// Value a of i is in its domain and has a support at every other active variable.
-fn stays(t: &[u16], active: u32, on: &[u16; 32], i: usize, a: usize) -> bool
-    requires { ⌜ Ready (now t) (sets active (now on)) × (i < 32) × (a < 16) ⌝ }
-    ensures { λ r. ⌜ r ≡ prune (held (now (t .entry))) (stateOf (sets active (now (on .entry)))) .live i a ⌝ }
-{
-    if has16(on[i], a) {
-        none_bare(t, active, on, i, a)
-    } else {
-        false
-    }
-}
-
-fn domain_left(t: &[u16], active: u32, on: &[u16; 32], i: usize) -> u16
-    requires { ⌜ Ready (now t) (sets active (now on)) × (i < 32) ⌝ }
+// The domain of i after one sweep. `lasts` says that no item in is without a setting on; at one that is, nothing has a partner.
+fn domain_left(t: &[u16], active: u32, on: &[u16; 32], lasts: bool, i: usize) -> u16
+    requires { ⌜ Ready (now t) (sets active (now on)) × (lasts ≡ noneEmpty (held (now t)) (stateOf (sets active (now on)))) × (i < 32) ⌝ }
     ensures { λ r. ⌜ r ≡ domainLeft (held (now (t .entry))) (stateOf (sets active (now (on .entry)))) i ⌝ }
 {
-    let mut x: u16 = 0;
-    let mut a: usize = 0;
-    while a < 16 {
-        x += bounded::weight(stays(t, active, on, i, a), a);
-        a += 1;
+    if lasts {
+        supported(t, active, on, i)
+    } else {
+        0
     }
-    x
 }
 
 // Each setting without a partner at some other item goes off, all judged by the state before the sweep.
@@ -66,10 +36,11 @@ fn prune_once(t: &[u16], m: Masks) -> Masks
     requires { ⌜ Ready (now t) m ⌝ }
     ensures { λ r. ⌜ r ≡ masksOf (prune (held (now (t .entry))) (stateOf m)) ⌝ }
 {
+    let lasts = held::none_empty(t, m.active, &m.domains);
     let mut r = m;
     let mut i: usize = 0;
     while i < 32 {
-        r.domains[i] = domain_left(t, m.active, &m.domains, i);
+        r.domains[i] = domain_left(t, m.active, &m.domains, lasts, i);
         i += 1;
     }
     r
@@ -132,15 +103,6 @@ pub fn start_over(t: &[u16]) -> StartAnswer
     }
 }
 
-fn start_sheet(s: &[u8]) -> StartAnswer
-    requires { ⌜ Keeps layout (now s) ⌝ }
-    ensures { λ r. ⌜ r ≡ startOver (problemOf layout (now (s .entry))) ⌝ }
-{
-    let mut t = [0u16; 16416];
-    table::fill_table(s, &mut t);
-    start_over(&t)
-}
-
 // A state with no items in and no settings on.
 fn refused_start(r: SheetRefusal) -> StartAnswer
     ensures { λ a. ⌜ a ≡ startRefused r ⌝ }
@@ -153,13 +115,16 @@ fn refused_start(r: SheetRefusal) -> StartAnswer
     }
 }
 
-// The start of a sheet: over its table.
+// The start of a sheet: it is read, its table filled on the way, and the start is over the table.
 pub fn start(s: &[u8]) -> StartAnswer
     ensures { λ r. ⌜ r ≡ startJob (now (s .entry)) ⌝ }
 {
-    let read = read_sheet::read_sheet(s);
-    match read {
+    let mut t = [65535u16; 16992];
+    match read_sheet::read_table(s, &mut t) {
         SheetRead::Refused(r) => refused_start(r),
-        SheetRead::Accepted { variables, blocks } => start_sheet(s),
+        SheetRead::Accepted {
+            variables: _,
+            blocks: _,
+        } => start_over(&t),
     }
 }

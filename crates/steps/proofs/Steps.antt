@@ -1,40 +1,33 @@
 -- The two steps over masks: a value removed, and a variable eliminated. Assumes nothing.
 use mathlib.Core.Path.{_≡_, refl, sym, ap, _∙_, subst}
-use mathlib.Core.Bool.{Bool, true, false, not, _&&_, _||_, and-true, or-false}
+use mathlib.Core.Bool.{Bool, true, false, not, _&&_, _||_, and-true}
 use mathlib.Core.Logic.{_⊎_, inl, inr, _≢_, ⊎-elim}
 use mathlib.Core.List.{List}
-use Prim.Native.Nat.{ℕ, _+_, _^_, _<_}
+use Prim.Native.Nat.{ℕ, _^_, _<_}
 use native.Mathlib.Omega.{arith}
 use native.Mathlib.Nat.{lt-of-le-of-lt}
 use lib.Dec.{T, eqb}
-use lib.Bits.{bitAnd, bitOr, and-le-l}
+use lib.Bits.{bitAnd, and-le-l}
 use lib.ListN.{getD, set, length-set}
 use lib.Seq.{getD-set-same, getD-set-other}
 use borrow.Author.Tests.{eqb-true, eqb-false}
-use Rattle.bounded.specs.Bounded.{anyBelow}
+use Rattle.bounded.specs.Bounded.{anyBelow, lowest}
 use Rattle.bounded.specs.Mask.{bit, maskOf, without}
 use Rattle.bounded.proofs.Truth.{T-ext, T-of, T-false, split, and-iff, or-iff, eqb-iff, eq-dec}
 use Rattle.bounded.proofs.Bounded.{any-iff}
-use Rattle.bounded.proofs.Loops.{any-next}
-use Rattle.bounded.proofs.Mask.{bit-and, bit-or, bit-none, bit-mask, bit-without16, bit-without32, mask-is}
+use Rattle.bounded.proofs.Mask.{bit-and, bit-none, bit-mask, bit-without16, bit-without32, mask-is}
+use Rattle.bounded.proofs.Members.{lowest-member}
 use Rattle.problem.specs.Problem.{remove, eliminate}
 use Rattle.problem.specs.Held.{held}
 use Rattle.problem.specs.Masks.{stateOf, masksOf, Proper}
 use Rattle.problem.specs.declared.Masks.{Masks}
 use Rattle.problem.proofs.Reflect.{turn, eliminate-live}
 use Rattle.problem.proofs.Bridge.{masks-is}
-use Rattle.held.specs.Ready.{Ready}
+use Rattle.held.specs.Ready.{Ready, Near}
 use Rattle.cover.specs.Words.{others}
-use Rattle.steps.specs.Words.{domainAfter, supportedBy, partnersOf}
-use Rattle.held.proofs.Laws.{live-value, word-lt}
-
--- ---- a union of rows
-
-pub gather-on : (f : ℕ → Bool) (x y v c : ℕ) → bit x c ≡ anyBelow v f → f v ≡ bit y c → bit (bitOr x y) c ≡ anyBelow (v + 1) f
-gather-on f x y v c e h = bit-or x y c ∙ (rw (e, ← h) (sym (any-next f v)))
-
-pub gather-off : (f : ℕ → Bool) (x v c : ℕ) → bit x c ≡ anyBelow v f → f v ≡ false → bit x c ≡ anyBelow (v + 1) f
-gather-off f x v c e h = e ∙ sym (any-next f v ∙ (rw h (or-false (anyBelow v f))))
+use Rattle.steps.specs.Words.{domainAfter}
+use Rattle.support.specs.Words.{supportedBy, partnersOf}
+use Rattle.held.proofs.Laws.{near-free, live-value, word-lt}
 
 module _ {t : List ℕ} {m : Masks} (R : Ready t m) where
   -- ---- a value removed
@@ -107,3 +100,19 @@ module _ {t : List ℕ} {m : Masks} (R : Ready t m) where
     where
       partners : ℕ
       partners = maskOf 16 (λ c. anyBelow 16 (supportedBy (held t) (getD (m .domains) i 0) i j c))
+
+  -- all values of j stay where i has a value and j has no block with it
+  pub domain-free : (i j near : ℕ) → Near t i near → i < 32 → j < 32 → j ≢ i → getD (m .domains) i 0 ≢ 0 → bit near j ≡ false → getD (m .domains) j 0 ≡ domainAfter (held t) (stateOf m) i j
+  unfolding domainAfter stateOf
+  domain-free i j near N p q d some far =
+      mask-is 16 (getD (m .domains) j 0) (eliminate (held t) (stateOf m) i .live j) (R .proper .domain-lt j q)
+      (λ c k. T-ext (
+        λ h. eliminate-live (held t) (stateOf m) (R .fits) i j c .1 (h, (d, (v, v-live, turn (held t) i v j c (near-free (R .table) i v j near (live-value R i v v-live) N q d far c (R .fits .live-lt j c h))))),
+        λ h. eliminate-live (held t) (stateOf m) (R .fits) i j c .0 h .0,
+      ))
+    where
+      v : ℕ
+      v = lowest 16 (bit (getD (m .domains) i 0))
+
+      v-live : T (bit (getD (m .domains) i 0) v)
+      v-live = lowest-member 16 (getD (m .domains) i 0) (R .proper .domain-lt i p) some .1

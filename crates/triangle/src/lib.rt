@@ -19,7 +19,7 @@ use cover::first_break;
 use cover::served;
 use cover::third_set;
 use held::pair_allowed;
-use held::row;
+use held::row_among;
 use problem::Next;
 use problem::Record;
 use problem::is_step;
@@ -51,7 +51,7 @@ fn fold_at(t: &[u16], active: u32, on: &[u16; 32], rest: u32, i: usize, j: usize
     ensures { λ r. ⌜ r ≡ imp (bit (getD (now (on .entry)) j 0) v) (foldAt (held (now (t .entry))) (stateOf (sets active (now (on .entry)))) i j v) ⌝ }
 {
     if has16(on[j], v) {
-        let good = on[i] & row(t, j, i, v);
+        let good = row_among(t, on[i], j, i, v);
         served(t, active, on, rest, good, i, j, v)
     } else {
         true

@@ -1,10 +1,10 @@
 -- `colour::write`: the table holds the problem, and its sheet is written. Assumes nothing.
 use mathlib.Core.Path.{refl, sym, ap, _∙_}
-use Rattle.problem.proofs.HeldTable.{table-rows}
-use Rattle.graph.specs.Scan.{isMarked}
+use Rattle.problem.proofs.HeldTable.{filled-rows}
+use Rattle.table.proofs.Blank.{blank-local}
 use Rattle.colour.specs.Parts.{markedProblem}
-use Rattle.colour.proofs.Filling.{colouring-bounded}
-use Rattle.colour.proofs.Job.{blank-table, colouredOf, write-answers, write-leaves}
+use Rattle.colour.proofs.Filling.{marked-bounded}
+use Rattle.colour.proofs.Job.{colouredOf, write-answers, write-leaves}
 use borrow.Author.Needs.{needs}
 use Rattle.colour.proofs.write.Statement.{statement}
 use Rattle.colour.proofs.write.Tie as tie
@@ -14,8 +14,8 @@ slice-aggregate-fill-table c = search needs
 
 fill-table-requires : tie.Need-fill-table-requires
 fill-table-requires c κs =
-    let a = c .before .before .before .args in
-    (c .before .before .before .pre .0, blank-table (markedProblem (a .near .now) (a .n) (a .k)))
+    let p = c .before .before .before .pre in
+    (p .0, p .1, blank-local)
 
 slice-aggregate-write-sheet : tie.Need-slice-aggregate-write-sheet
 slice-aggregate-write-sheet c = search needs
@@ -24,7 +24,7 @@ write-sheet-requires : tie.Need-write-sheet-requires
 write-sheet-requires c κs =
     let a = c .before .before .before .before .before .before .before .args in
     let p = c .before .before .before .before .before .before .before .pre in
-    (rw (c .before .before .before .fill-table .ensures) (table-rows (markedProblem (a .near .now) (a .n) (a .k)) (colouring-bounded (a .n) (a .k) (isMarked (a .near .now)) (p .0 .vertices) (p .1) (p .0 .channels))), record { taken = refl })
+    (filled-rows (marked-bounded (a .near .now) (a .n) (a .k) (p .0) (p .1)) (c .before .before .before .fill-table .ensures), record { taken = refl })
 
 enum-told : tie.Need-enum-told
 enum-told c = search needs
@@ -40,7 +40,7 @@ returns c =
     let a = c .before .before .before .before .before .before .before .before .before .before .before .before .args in
     let p = c .before .before .before .before .before .before .before .before .before .before .before .before .pre in
     let P = markedProblem (a .near .now) (a .n) (a .k) in
-    let B = colouring-bounded (a .n) (a .k) (isMarked (a .near .now)) (p .0 .vertices) (p .1) (p .0 .channels) in
+    let B = marked-bounded (a .near .now) (a .n) (a .k) (p .0) (p .1) in
     let t = c .before .before .before .before .before .before .before .before .fill-table .ensures in
     let w = c .before .before .before .before .write-sheet .ensures in
     (ap colouredOf (sym (c .enum-told .given .1) ∙ w .0) ∙ write-answers P B _ (a .sheet .now) t, w .1 ∙ write-leaves P B _ (a .sheet .now) t)
@@ -53,7 +53,7 @@ returns-2 c =
     let a = c .before .before .before .before .before .before .before .before .before .before .before .before .before .args in
     let p = c .before .before .before .before .before .before .before .before .before .before .before .before .before .pre in
     let P = markedProblem (a .near .now) (a .n) (a .k) in
-    let B = colouring-bounded (a .n) (a .k) (isMarked (a .near .now)) (p .0 .vertices) (p .1) (p .0 .channels) in
+    let B = marked-bounded (a .near .now) (a .n) (a .k) (p .0) (p .1) in
     let t = c .before .before .before .before .before .before .before .before .before .fill-table .ensures in
     let w = c .before .before .before .before .before .write-sheet .ensures in
     (ap colouredOf (sym (c .before .w .given .1) ∙ w .0) ∙ write-answers P B _ (a .sheet .now) t, w .1 ∙ write-leaves P B _ (a .sheet .now) t)

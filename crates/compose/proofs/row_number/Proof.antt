@@ -2,7 +2,7 @@
 use mathlib.Core.Path.{_∙_}
 use native.Mathlib.Omega.{arith}
 use denote.Ref.{now}
-use Rattle.problem.proofs.HeldTable.{held-bounded, row-sized, row-within, held-few, held-narrow}
+use Rattle.problem.proofs.HeldTable.{held-bounded, held-value, row-sized, row-within, held-few, held-narrow}
 use borrow.Author.Needs.{needs}
 use Rattle.compose.proofs.row_number.Statement.{statement}
 use Rattle.compose.proofs.row_number.Tie as tie
@@ -13,7 +13,7 @@ row-requires c κs =
     let p = c .before .pre .0 in
     let few = held-few (now (a .t)) in
     let narrow = held-narrow (p .table) (a .i) in
-    (p .table, omega arith, omega arith, omega arith, λ e. omega arith)
+    (p .table, record { variable = omega arith; value = omega arith; listed = held-value (p .table) (a .i) (a .a) (c .before .pre .1) }, omega arith, λ e. omega arith)
 
 cast-result : tie.Need-cast-result
 cast-result c = search needs

@@ -15,7 +15,7 @@ has16-requires-2 c κs = search needs
 served-requires : tie.Need-served-requires
 served-requires c κs =
     let p = c .before .before .before .before .pre in
-    (p .0, p .1, live-value (p .0) _ _ (p .2 .live _ (T-of (sym (c .before .before .has16 .ensures) ∙ both _ _ (c .if1 .taken) .0))), p .3, p .3)
+    (p .0, p .1, live-value (p .0) _ _ (p .2 .live _ (T-of (sym (c .before .before .has16 .ensures) ∙ both _ _ (c .if1 .taken) .0))), p .3, p .3, p .5)
 
 returns : tie.Need-returns
 returns c = rw (← c .before .before .before .has16 .ensures, ← c .before .before .has162 .ensures, c .before .if1 .taken) (c .served .ensures)

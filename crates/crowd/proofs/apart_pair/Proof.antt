@@ -7,7 +7,7 @@ use borrow.Author.Needs.{needs}
 use Rattle.bounded.specs.Mask.{bit}
 use Rattle.bounded.proofs.Truth.{clash}
 use Rattle.problem.specs.Held.{held}
-use Rattle.problem.proofs.HeldTable.{held-narrow}
+use Rattle.problem.proofs.HeldTable.{held-narrow, held-value}
 use Rattle.crowd.proofs.Laws.{Below, below-none, below-more, below-end}
 use Rattle.crowd.proofs.apart_pair.Statement.{statement}
 use Rattle.crowd.proofs.apart_pair.Tie as tie
@@ -22,7 +22,10 @@ loop-holds : tie.Need-loop-holds Inv-loop μ-loop
 loop-holds c = (rw (c .size .ensures) (held-narrow (c .before .before .pre .0) _), below-none _ _ _)
 
 row-requires : tie.Need-row-requires Inv-loop μ-loop
-row-requires c κs = let p = c .before .before .before .before .pre in let l = c .before .loop .inv .0 in (p .0, p .1, p .2, omega arith, p .3)
+row-requires c κs =
+    let p = c .before .before .before .before .pre in
+    let l = c .before .loop .inv .0 in
+    (p .0, record { variable = p .1; value = omega arith; listed = held-value (p .0) _ _ (rw (← c .before .before .size .ensures) (c .loop-test .taken)) }, p .2, p .3)
 
 has16-requires : tie.Need-has16-requires Inv-loop μ-loop
 has16-requires c κs = let l = c .before .before .loop .inv .0 in omega arith

@@ -28,23 +28,23 @@ use Rattle.first_plan.proofs.refute.Reads as refute-reads
 use Rattle.first_plan.proofs.+pick+tries.{statement}
 use Rattle.first_plan.proofs.+pick+tries.Tie.{close}
 
-abbrev μ-pick : Measures 5 pick-kinds.ps ℕ
-μ-pick κs a = a .1 .1 .0 * 65537 + 65536
+abbrev μ-pick : Measures 4 pick-kinds.ps ℕ
+μ-pick κs a = a .1 .0 * 65537 + 65536
 
-abbrev μ-tries : Measures 5 tries-kinds.ps ℕ
-μ-tries κs a = a .1 .1 .0 * 65537 + getD (a .1 .1 .1 .0 .now) (a .1 .1 .1 .1 .1 .0) 0
+abbrev μ-tries : Measures 4 tries-kinds.ps ℕ
+μ-tries κs a = a .1 .0 * 65537 + getD (a .1 .1 .0 .now) (a .1 .1 .1 .1 .0) 0
 
-abbrev pick-at : ℕ → In 5 pick-kinds.ps
-pick-at t = and 5 pick-kinds.ps (is 5 pick-kinds.ps μ-pick t) pick.Pre
+abbrev pick-at : ℕ → In 4 pick-kinds.ps
+pick-at t = and 4 pick-kinds.ps (is 4 pick-kinds.ps μ-pick t) pick.Pre
 
-abbrev pick-below : ℕ → In 5 pick-kinds.ps
-pick-below t = and 5 pick-kinds.ps (falls 5 pick-kinds.ps _<_ μ-pick t) pick.Pre
+abbrev pick-below : ℕ → In 4 pick-kinds.ps
+pick-below t = and 4 pick-kinds.ps (falls 4 pick-kinds.ps _<_ μ-pick t) pick.Pre
 
-abbrev tries-at : ℕ → In 5 tries-kinds.ps
-tries-at t = and 5 tries-kinds.ps (is 5 tries-kinds.ps μ-tries t) tries.Pre
+abbrev tries-at : ℕ → In 4 tries-kinds.ps
+tries-at t = and 4 tries-kinds.ps (is 4 tries-kinds.ps μ-tries t) tries.Pre
 
-abbrev tries-below : ℕ → In 5 tries-kinds.ps
-tries-below t = and 5 tries-kinds.ps (falls 5 tries-kinds.ps _<_ μ-tries t) tries.Pre
+abbrev tries-below : ℕ → In 4 tries-kinds.ps
+tries-below t = and 4 tries-kinds.ps (falls 4 tries-kinds.ps _<_ μ-tries t) tries.Pre
 
 pick-lowest32-requires : (t : ℕ) → pick-lts.Need-lowest32-requires (
   lowest32-reads.Asked,
@@ -224,7 +224,7 @@ tries-returns-2 : (t : ℕ) → tries-lts.Need-returns-2 (
 tries-returns-2 t c =
     let p = c .before .before .before .before .before .before .before .before .before .before .before .before .before .before .pre .1 in
     let w = c .before .before .before .before .before .before .before .before .before .before .before .before .before .before .args .plan .now in
-    ap (λ (ok : Bool). answer ok (c .before .pick .last .1 .1 .1 .1 .0)) (sym (c .if3 .taken)) ∙ taken (p .0) _ _ (p .1) (c .before .before .before .before .before .before .before .before .before .before .before .before .if1 .left) (c .before .before .before .before .before .before .before .before .before .before .before .lowest16 .ensures) (c .before .before .before .before .before .before .before .before .attempt .ensures) w (p .2) _ (c .before .pick .ensures) (c .if3 .taken)
+    ap (λ (ok : Bool). answer ok (c .before .pick .last .1 .1 .1 .0)) (sym (c .if3 .taken)) ∙ taken (p .0) _ _ (p .1) (c .before .before .before .before .before .before .before .before .before .before .before .before .if1 .left) (c .before .before .before .before .before .before .before .before .before .before .before .lowest16 .ensures) (c .before .before .before .before .before .before .before .before .attempt .ensures) w (p .2) _ (c .before .pick .ensures) (c .if3 .taken)
 
 tries-element-write-plan-2 : (t : ℕ) → tries-lts.Need-element-write-plan-2 (
   lowest16-reads.Asked,

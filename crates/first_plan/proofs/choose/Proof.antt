@@ -4,7 +4,7 @@ use borrow.Author.Needs.{needs}
 use Rattle.bounded.proofs.Mask.{bit-without32}
 use Rattle.bounded.proofs.Members.{Left, left-all, left-next, left-lowest, left-other}
 use Rattle.problem.specs.Masks.{masksOf}
-use Rattle.held.proofs.Laws.{live-value}
+use Rattle.held.proofs.Laws.{live-value, domain-values}
 use Rattle.first_plan.proofs.Choices.{Passed, passed-none, passed-more, passed-all, choose-rest}
 use Rattle.first_plan.proofs.choose.Statement.{statement}
 use Rattle.first_plan.proofs.choose.Tie as tie
@@ -38,13 +38,13 @@ mul-was c = let l = left-lowest 32 bit-without32 (c .before .before .before .loo
 element-copy-out-was : tie.Need-element-copy-out-was Inv-loop μ-loop
 element-copy-out-was c = let l = left-lowest 32 bit-without32 (c .before .before .before .loop .inv .1) (c .before .before .loop-test .taken) (c .before .lowest32 .ensures) .0 in search needs
 
-row-requires : tie.Need-row-requires Inv-loop μ-loop
-row-requires c κs =
+row-among-requires : tie.Need-row-among-requires Inv-loop μ-loop
+row-among-requires c κs =
     let p = c .before .before .before .before .before .before .before .before .pre in
     let w = c .before .before .before .before .loop in
     let l = left-lowest 32 bit-without32 (w .inv .1) (c .before .before .before .loop-test .taken) (c .before .before .lowest32 .ensures) in
     let i = live-value (p .0) _ _ (p .1) in
-    (p .0 .table, i .variable, l .0, i .value, left-other 32 bit-without32 (c .before .before .before .before .before .before .before .before .args .t2 .active) (c .before .before .before .before .before .before .before .before .args .i) (w .inv .1) (c .before .before .before .before .before .before .without32 .ensures) (i .variable) (l .0) (l .1))
+    (p .0 .table, domain-values (p .0) _ (l .0), i, l .0, left-other 32 bit-without32 (c .before .before .before .before .before .before .before .before .args .t2 .active) (c .before .before .before .before .before .before .before .before .args .i) (w .inv .1) (c .before .before .before .before .before .before .without32 .ensures) (i .variable) (l .0) (l .1))
 
 mul-on-2 : tie.Need-mul-on-2 Inv-loop μ-loop
 mul-on-2 c = let l = left-lowest 32 bit-without32 (c .before .before .before .before .before .loop .inv .1) (c .before .before .before .before .loop-test .taken) (c .before .before .before .lowest32 .ensures) .0 in search needs
@@ -64,7 +64,7 @@ loop-again c =
     let w = c .before .before .before .before .before .before .loop in
     let l = left-lowest 32 bit-without32 (w .inv .1) (c .before .before .before .before .before .loop-test .taken) (c .before .before .before .before .lowest32 .ensures) in
     let d = left-other 32 bit-without32 (c .before .before .before .before .before .before .before .before .before .before .args .t2 .active) (c .before .before .before .before .before .before .before .before .before .before .args .i) (w .inv .1) (c .before .before .before .before .before .before .before .before .without32 .ensures) (live-value (p .0) _ _ (p .1) .variable) (l .0) (l .1) in
-    (rw (c .before .before .before .without322 .ensures, c .before .row .ensures) (passed-more (p .0) _ _ _ _ _ (l .0) d (w .inv .0)), rw (c .before .before .before .without322 .ensures) (left-next _ (w .inv .1)))
+    (rw (c .before .before .before .without322 .ensures, c .before .row-among .ensures) (passed-more (p .0) _ _ _ _ _ (l .0) d (w .inv .0)), rw (c .before .before .before .without322 .ensures) (left-next _ (w .inv .1)))
 
 returns : tie.Need-returns Inv-loop μ-loop
 unfolding masksOf
@@ -86,7 +86,7 @@ choose-spec =
     without32-requires-2
     mul-was
     element-copy-out-was
-    row-requires
+    row-among-requires
     mul-on-2
     array-write-on-2
     without-if-requires

@@ -17,42 +17,36 @@ use Rattle.first_plan.proofs.narrow.Statement.{statement}
 use Rattle.first_plan.proofs.narrow.Tie as tie
 
 abbrev Inv-loop : tie.InvT-loop
-Inv-loop t near first active on₀ todo₀ turns₀ on todo turns = Left 32 active todo × Narrowed t (stateOf (sets active on₀)) (sets active on)
+Inv-loop t first active on₀ todo₀ turns₀ on todo turns = Left 32 active todo × Narrowed t (stateOf (sets active on₀)) (sets active on)
 
 abbrev μ-loop : tie.MeasureT-loop
-μ-loop t near first active on₀ todo₀ turns₀ on todo turns = turns
+μ-loop t first active on₀ todo₀ turns₀ on todo turns = turns
 
 loop-holds : tie.Need-loop-holds Inv-loop μ-loop
 loop-holds c = let p = c .before .before .pre in (left-and 32 _ (c .before .before .args .first) (p .proper .active-lt), narrowed-same p)
 
-mul-spread : tie.Need-mul-spread Inv-loop μ-loop
-mul-spread c = let l = left-lowest 32 bit-without32 (c .before .before .loop .inv .0) (c .before .loop-test .taken) (c .lowest32 .ensures) .0 in search needs
-
-element-copy-out-spread : tie.Need-element-copy-out-spread Inv-loop μ-loop
-element-copy-out-spread c = let l = left-lowest 32 bit-without32 (c .before .before .loop .inv .0) (c .before .loop-test .taken) (c .lowest32 .ensures) .0 in search needs
-
 spread-requires : tie.Need-spread-requires Inv-loop μ-loop
 spread-requires c κs =
-    let w = c .before .before .before .before .loop in
-    let l = left-lowest 32 bit-without32 (w .inv .0) (c .before .before .before .loop-test .taken) (c .before .before .lowest32 .ensures) in
+    let w = c .before .before .before .loop in
+    let l = left-lowest 32 bit-without32 (w .inv .0) (c .before .before .loop-test .taken) (c .before .lowest32 .ensures) in
     (w .inv .1 .ready, l .0, T-true _ (w .inv .0 .part _ (l .1)))
 
 returns : tie.Need-returns Inv-loop μ-loop
 returns c =
     let S = c .before .before .before .spread .ensures in
-    record { narrowed = narrowed-trans (c .before .before .before .before .before .before .before .before .loop .inv .1) (S .narrowed); closed = λ e. S .dead (not-false _ e) }
+    record { narrowed = narrowed-trans (c .before .before .before .before .before .before .before .loop .inv .1) (S .narrowed); closed = λ e. S .dead (not-false _ e) }
 
 without32-requires : tie.Need-without32-requires Inv-loop μ-loop
-without32-requires c κs = left-lowest 32 bit-without32 (c .before .before .before .before .before .before .before .loop .inv .0) (c .before .before .before .before .before .before .loop-test .taken) (c .before .before .before .before .before .lowest32 .ensures) .0
+without32-requires c κs = left-lowest 32 bit-without32 (c .before .before .before .before .before .before .loop .inv .0) (c .before .before .before .before .before .loop-test .taken) (c .before .before .before .before .lowest32 .ensures) .0
 
 sub-turns : tie.Need-sub-turns Inv-loop μ-loop
-sub-turns c = let h : c .before .before .before .before .before .before .before .before .before .loop .turns ≢ 0 = eqb-false _ _ (neither (c .before .before .before .before .spread .result .dead) (eqb (c .before .before .before .before .before .before .before .before .before .loop .turns) 0) (c .before .before .if1 .left) .1) in omega arith
+sub-turns c = let h : c .before .before .before .before .before .before .before .before .loop .turns ≢ 0 = eqb-false _ _ (neither (c .before .before .before .before .spread .result .dead) (eqb (c .before .before .before .before .before .before .before .before .loop .turns) 0) (c .before .before .if1 .left) .1) in omega arith
 
 loop-less : tie.Need-loop-less Inv-loop μ-loop
-loop-less c = let h : c .before .before .before .before .before .before .before .before .before .loop .turns ≢ 0 = eqb-false _ _ (neither (c .before .before .before .before .spread .result .dead) (eqb (c .before .before .before .before .before .before .before .before .before .loop .turns) 0) (c .before .before .if1 .left) .1) in omega arith
+loop-less c = let h : c .before .before .before .before .before .before .before .before .loop .turns ≢ 0 = eqb-false _ _ (neither (c .before .before .before .before .spread .result .dead) (eqb (c .before .before .before .before .before .before .before .before .loop .turns) 0) (c .before .before .if1 .left) .1) in omega arith
 
 loop-again : tie.Need-loop-again Inv-loop μ-loop
-loop-again c = (left-and 32 _ (bitOr (c .before .without32 .result) (c .before .before .before .before .spread .result .changed)) (c .before .before .before .before .before .before .before .before .before .before .before .before .pre .proper .active-lt), narrowed-trans (c .before .before .before .before .before .before .before .before .before .loop .inv .1) (c .before .before .before .before .spread .ensures .narrowed))
+loop-again c = (left-and 32 _ (bitOr (c .before .without32 .result) (c .before .before .before .before .spread .result .changed)) (c .before .before .before .before .before .before .before .before .before .before .before .pre .proper .active-lt), narrowed-trans (c .before .before .before .before .before .before .before .before .loop .inv .1) (c .before .before .before .before .spread .ensures .narrowed))
 
 returns-2 : tie.Need-returns-2 Inv-loop μ-loop
 returns-2 c = record { narrowed = c .before .loop .inv .1; closed = λ e. absurd (clash {b = true} refl e) }
@@ -63,8 +57,6 @@ narrow-spec =
     (tie.spec Inv-loop μ-loop
     loop-holds
     (λ c κs. search needs)
-    mul-spread
-    element-copy-out-spread
     spread-requires
     returns
     without32-requires

@@ -1,41 +1,54 @@
--- `hand::hand_call`: what reading the sheet finds. Assumes nothing.
-use mathlib.Core.Path.{sym, _∙_}
-use Rattle.sheet.specs.Sheet.{layout}
-use Rattle.sheet.proofs.Accepted.{keeps}
-use Rattle.jobs.proofs.Opened.{call-refused, call-kept}
+-- `hand::hand_call`: what reading the sheet finds, and the table that it fills. Assumes nothing.
+use mathlib.Core.Path.{sym, ap, _∙_}
+use Rattle.problem.specs.Problem.{Problem}
+use Rattle.jobs.specs.Hand.{callOver}
+use Rattle.jobs.proofs.Opened.{sheet-table, call-refused, call-kept}
+use Rattle.table.proofs.Blank.{blank-local}
 use borrow.Author.Needs.{needs}
 use Rattle.hand.proofs.hand_call.Statement.{statement}
 use Rattle.hand.proofs.hand_call.Tie as tie
 
-read-sheet-requires : tie.Need-read-sheet-requires
-read-sheet-requires c κs = search needs
+slice-aggregate-read-table : tie.Need-slice-aggregate-read-table
+slice-aggregate-read-table c = search needs
 
-enum-known-read : tie.Need-enum-known-read
-enum-known-read c = search needs
+read-table-requires : tie.Need-read-table-requires
+read-table-requires c κs = blank-local
+
+enum-known-r : tie.Need-enum-known-r
+enum-known-r c = search needs
 
 refused-call-requires : tie.Need-refused-call-requires
 refused-call-requires c κs = search needs
 
-enum-known-read-2 : tie.Need-enum-known-read-2
-enum-known-read-2 c = search needs
+enum-told : tie.Need-enum-told
+enum-told c = search needs
 
-call-sheet-requires : tie.Need-call-sheet-requires
-call-sheet-requires c κs = keeps layout _ _ _ (sym (c .before .before .before .read-sheet .ensures) ∙ c .before .read2 .given .1)
+slice-aggregate-call-over : tie.Need-slice-aggregate-call-over
+slice-aggregate-call-over c = search needs
+
+call-over-requires : tie.Need-call-over-requires
+call-over-requires c κs = let r = c .before .before .before .before .read-table .ensures in sheet-table _ _ _ _ (sym (r .0) ∙ c .before .enum-told .given .1) (r .1) .1
 
 returns : tie.Need-returns
-returns c = c .refused-call .ensures ∙ sym (call-refused _ _ _ _ (sym (c .before .before .before .before .read-sheet .ensures) ∙ c .before .before .read .given .1))
+returns c = c .refused-call .ensures ∙ sym (call-refused _ _ _ _ (sym (c .before .before .before .before .before .read-table .ensures .0) ∙ c .before .before .r .given .1))
 
 returns-2 : tie.Need-returns-2
-returns-2 c = c .call-sheet .ensures ∙ sym (call-kept _ _ _ (keeps layout _ _ _ (sym (c .before .before .before .before .read-sheet .ensures) ∙ c .before .before .read2 .given .1)))
+returns-2 c =
+    let a = c .before .before .before .before .before .before .before .before .args in
+    let r = c .before .before .before .before .before .read-table .ensures in
+    let x = sheet-table _ _ _ _ (sym (r .0) ∙ c .before .before .enum-told .given .1) (r .1) in
+    c .call-over .ensures ∙ ap (λ (P : Problem). callOver P (a .st) (a .i)) (x .2) ∙ sym (call-kept _ (a .st) (a .i) (x .0))
 
 pub hand-call-spec : {M : Type 1} → statement M
 hand-call-spec =
     tie.close
     (tie.spec
-    read-sheet-requires
-    enum-known-read
+    slice-aggregate-read-table
+    read-table-requires
+    enum-known-r
     refused-call-requires
-    enum-known-read-2
-    call-sheet-requires
+    enum-told
+    slice-aggregate-call-over
+    call-over-requires
     returns
     returns-2)

@@ -14,7 +14,7 @@ mul-values-below : tie.Need-mul-values-below
 mul-values-below c = search needs
 
 shared-slice-read-values-below : tie.Need-shared-slice-read-values-below
-shared-slice-read-values-below c = omega (arith, c .before .before .before .pre .0 .long)
+shared-slice-read-values-below c = omega (arith, c .before .before .before .pre .0 .located .long)
 
 cast-values-below : tie.Need-cast-values-below
 cast-values-below c = let q = c .before .before .before .pre in let a = c .before .before .before .args in omega (arith, held-narrow (q .0) (a .i), held-entry (a .t .now) (a .i) (q .2))

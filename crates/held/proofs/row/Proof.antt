@@ -1,41 +1,35 @@
--- `held::row`: the entry at the place of the row is the word of what is allowed. Assumes nothing.
+-- `held::row`: met with all values of j, the row is whole. Assumes nothing.
+use mathlib.Core.Path.{_≡_, sym, ap, _∙_, subst}
+use Prim.Native.Nat.{ℕ}
+use native.Mathlib.Omega.{arith}
+use lib.Bits.{bitAnd}
+use lib.Dec.{ltb}
+use Rattle.bounded.specs.Mask.{maskOf}
+use Rattle.problem.specs.Held.{rowWord, held}
+use Rattle.problem.proofs.HeldTable.{held-narrow}
+use Rattle.held.specs.Ready.{Values}
+use Rattle.held.proofs.Laws.{all-values, row-all}
 use borrow.Author.Needs.{needs}
 use Rattle.held.proofs.row.Statement.{statement}
 use Rattle.held.proofs.row.Tie as tie
 
-mul-result : tie.Need-mul-result
-mul-result c = search needs
+-- the set that the row is met with
+all : (c : tie.After-values-below) → c .values-below .result ≡ maskOf 16 (λ a. ltb a ((held (c .before .before .before .args .t .now)) .size (c .before .before .before .args .j)))
+all c = c .values-below .ensures ∙ ap (λ (z : ℕ). maskOf 16 (λ a. ltb a z)) (c .before .size .ensures)
 
-add-result : tie.Need-add-result
-add-result c = search needs
+size-requires : tie.Need-size-requires
+size-requires c κs = search needs
 
-mul-result-2 : tie.Need-mul-result-2
-mul-result-2 c = search needs
+values-below-requires : tie.Need-values-below-requires
+values-below-requires c κs = omega (arith, c .size .ensures, held-narrow (c .before .before .pre .0) (c .before .before .args .j))
 
-add-result-2 : tie.Need-add-result-2
-add-result-2 c = search needs
-
-add-result-3 : tie.Need-add-result-3
-add-result-3 c = search needs
-
-mul-result-3 : tie.Need-mul-result-3
-mul-result-3 c = search needs
-
-shared-slice-read-result : tie.Need-shared-slice-read-result
-shared-slice-read-result c = search needs
+row-among-requires : tie.Need-row-among-requires
+row-among-requires c κs = let p = c .before .before .before .pre in (p .0, subst (Values _ _) (sym (all c)) (all-values (p .0) _), p .1, p .2, p .3)
 
 returns : tie.Need-returns
-returns c = let p = c .before .pre in p .0 .words _ _ _ (p .1) (p .2) (p .3) (p .4)
+returns c =
+    let a = c .before .before .before .before .args in
+    c .row-among .ensures ∙ ap (λ (x : ℕ). bitAnd x (rowWord (held (a .t .now)) (a .i) (a .j) (a .a))) (all (c .before)) ∙ row-all (c .before .before .before .before .pre .0) (a .i) (a .j) (a .a)
 
 pub row-spec : {M : Type 1} → statement M
-row-spec =
-    tie.close
-    (tie.spec
-    mul-result
-    add-result
-    mul-result-2
-    add-result-2
-    add-result-3
-    mul-result-3
-    shared-slice-read-result
-    returns)
+row-spec = tie.close (tie.spec size-requires values-below-requires row-among-requires returns)

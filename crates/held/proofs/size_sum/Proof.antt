@@ -33,7 +33,7 @@ mul-sum : tie.Need-mul-sum Inv-loop μ-loop
 mul-sum c = let few = held-few (c .before .before .before .before .args .t .now) in let e = c .before .before .variables .ensures in search needs
 
 shared-slice-read-sum : tie.Need-shared-slice-read-sum Inv-loop μ-loop
-shared-slice-read-sum c = let a = c .before .before .before .before .before in omega (arith, a .pre .long, held-few (a .args .t .now), c .before .before .before .variables .ensures)
+shared-slice-read-sum c = let a = c .before .before .before .before .before in omega (arith, a .pre .located .long, held-few (a .args .t .now), c .before .before .before .variables .ensures)
 
 cast-sum : tie.Need-cast-sum Inv-loop μ-loop
 cast-sum c = let x = size-small (c .before .before .before .before .before .pre) (c .before .before .loop .i) (omega (arith, c .before .before .before .variables .ensures)) in search needs

@@ -25,7 +25,7 @@ mul-if1 : tie.Need-mul-if1 Inv-loop μ-loop
 mul-if1 c = search needs
 
 shared-slice-read-if1 : tie.Need-shared-slice-read-if1 Inv-loop μ-loop
-shared-slice-read-if1 c = omega (arith, c .before .before .before .pre .long)
+shared-slice-read-if1 c = omega (arith, c .before .before .before .pre .located .long)
 
 returns : tie.Need-returns Inv-loop μ-loop
 returns c =

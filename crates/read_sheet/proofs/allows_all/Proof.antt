@@ -1,74 +1,48 @@
--- `read_sheet::allows_all`: the answer from the start is the answer from here.
-use mathlib.Core.Path.{_≡_, refl, sym, ap, _∙_}
-use Prim.Native.Nat.{ℕ, _+_, _*_, _≤_}
-use lib.ListN.{length}
-use Rattle.sheet.specs.Sheet.{layout, allowsAll}
-use Rattle.sheet.proofs.Laws.{mul-step, all-miss, all-next, all-end}
-use borrow.Author.Needs.{needs}
+-- `read_sheet::allows_all`: the rows so far are full. Assumes nothing.
+use mathlib.Core.Path.{_≡_, sym}
+use mathlib.Core.Bool.{true}
+use Prim.Native.Nat.{ℕ, _-_, _≤_}
 use native.Mathlib.Omega.{arith}
+use lib.Dec.{eqb}
+use lib.ListN.{getD}
+use borrow.Author.Needs.{needs}
+use borrow.Author.Tests.{eq-eqb, ne-eqb}
+use Rattle.bounded.specs.Bounded.{allBelow}
+use Rattle.bounded.proofs.Loops.{all-none, all-more, all-fail, all-end}
+use Rattle.read_sheet.specs.Reading.{allFull}
 use Rattle.read_sheet.proofs.allows_all.Statement.{statement}
 use Rattle.read_sheet.proofs.allows_all.Tie as tie
 
 abbrev Inv-loop : tie.InvT-loop
-Inv-loop s w z k p lim left₀ at₀ left at = (allowsAll layout s w z k p ≡ allowsAll layout s w z left at) × (at + left * w ≤ length s)
+Inv-loop x full k a₀ a = (a ≤ k) × (allBelow a (λ (n : ℕ). eqb (getD x n 0) full) ≡ true)
 
 abbrev μ-loop : tie.MeasureT-loop
-μ-loop s w z k p lim left₀ at₀ left at = left
-
-power-requires : tie.Need-power-requires Inv-loop μ-loop
-power-requires c κs = search needs
-
-loop-holds : tie.Need-loop-holds Inv-loop μ-loop
-loop-holds c = (refl, search needs)
-
-row-requires : tie.Need-row-requires Inv-loop μ-loop
-row-requires c κs = let q = mul-step (c .before .loop .left) (c .before .before .before .before .args .w) (c .loop-test .taken) in search needs
-
-add-if1 : tie.Need-add-if1 Inv-loop μ-loop
-add-if1 c = search needs
+μ-loop x full k a₀ a = k - a
 
 returns : tie.Need-returns Inv-loop μ-loop
+unfolding allFull
 returns c =
     let l = c .before .before .before in
-    let a = c .before .before .before .before .before .before .args in
-    sym (l .loop .inv .0 ∙ all-miss layout (a .s .now) (a .w) (a .z) (l .loop .left) (l .loop .at) (c .before .before .loop-test .taken) (λ e. c .if1 .taken (omega arith)))
-
-add-at : tie.Need-add-at Inv-loop μ-loop
-add-at c = let q = mul-step (c .before .before .before .loop .left) (c .before .before .before .before .before .before .args .w) (c .before .before .loop-test .taken) in search needs
-
-sub-left : tie.Need-sub-left Inv-loop μ-loop
-sub-left c = search needs
-
-loop-less : tie.Need-loop-less Inv-loop μ-loop
-loop-less c = search needs
+    sym (all-fail _ _ (l .loop .a) (c .before .before .loop-test .taken) (ne-eqb _ _ (c .if1 .taken)))
 
 loop-again : tie.Need-loop-again Inv-loop μ-loop
 loop-again c =
     let l = c .before .before .before in
-    let a = c .before .before .before .before .before .before .args in
-    let q = mul-step (l .loop .left) (a .w) (c .before .before .loop-test .taken) in
-    (l .loop .inv .0 ∙ all-next layout (a .s .now) (a .w) (a .z) (l .loop .left) (l .loop .at) (c .before .before .loop-test .taken) (omega arith), omega arith)
+    (omega arith, all-more _ (l .loop .a) (l .loop .inv .1) (eq-eqb _ _ (c .if1 .left)))
 
 returns-2 : tie.Need-returns-2 Inv-loop μ-loop
-returns-2 c =
-    let l = c .before in
-    let a = c .before .before .before .before .args in
-    let e : l .loop .left ≡ 0 = omega arith in
-    sym (l .loop .inv .0 ∙ ap (λ (x : ℕ). allowsAll layout (a .s .now) (a .w) (a .z) x (l .loop .at)) e ∙ all-end layout (a .s .now) (a .w) (a .z) (l .loop .at))
+unfolding allFull
+returns-2 c = let l = c .before .loop in sym (all-end _ _ (l .a) (omega arith) (l .inv .1))
 
 pub allows-all-spec : {M : Type 1} → statement M
 allows-all-spec =
     tie.close
-    (tie.spec
-    Inv-loop
-    μ-loop
-    power-requires
-    loop-holds
-    row-requires
-    add-if1
+    (tie.spec Inv-loop μ-loop
+    (λ c. (omega arith, all-none _))
+    (λ c. search needs)
+    (λ c. search needs)
     returns
-    add-at
-    sub-left
-    loop-less
+    (λ c. search needs)
+    (λ c. omega arith)
     loop-again
     returns-2)

@@ -1,16 +1,16 @@
--- `read_sheet::block_of`: the cases of a block in the order of its tests.
-use borrow.Author.Tests.{not-true, not-false}
-use mathlib.Core.Path.{_≡_, sym, ap, _∙_}
+-- `read_sheet::block_of`: the cases of a block in the order of its tests. Assumes nothing.
+use mathlib.Core.Path.{_≡_, sym, _∙_}
 use mathlib.Core.Bool.{true}
-use Prim.Native.Nat.{ℕ, _+_, _*_, _≤_, _<_}
+use Prim.Native.Nat.{_+_, _*_, _≤_, _<_}
+use native.Mathlib.Omega.{arith}
 use lib.ListN.{length}
 use denote.Ref.{now}
-use Rattle.sheet.specs.Sheet.{layout, variablesOf, sizeAt, rowWidth, rowBytes, inOrder, beyond, allowsAll}
-use Rattle.sheet.specs.Parts.{Inside}
-use Rattle.sheet.specs.declared.Block.the-variants.{Next}
-use Rattle.sheet.proofs.Laws.{in-order, block-order, block-cut, block-beyond, block-bars-nothing, block-next}
 use borrow.Author.Needs.{needs}
-use native.Mathlib.Omega.{arith}
+use borrow.Author.Tests.{not-true, not-false}
+use Rattle.sheet.specs.Sheet.{layout, variablesOf, sizeAt, rowWidth, rowBytes, inOrder}
+use Rattle.sheet.proofs.Laws.{rows-small, in-order, block-order, block-cut}
+use Rattle.read_sheet.specs.Reading.{RowsRead}
+use Rattle.read_sheet.proofs.Rows.{rows-stored, block-tells, no-rows}
 use Rattle.read_sheet.proofs.block_of.Statement.{statement}
 use Rattle.read_sheet.proofs.block_of.Tie as tie
 
@@ -24,110 +24,107 @@ pair c =
     let o = in-order layout (now (a .s)) (a .least) (a .i) (a .j) (ordered c) in
     (omega (arith, o .0, o .1 .0), o .1 .0)
 
-whole : (c : tie.Else2) → let a = c .before .before .before .before .before .args in a .p + 2 + rowBytes layout (now (a .s)) (a .i) (a .j) ≤ length (now (a .s))
-whole c = omega (arith, c .before .row-bytes .ensures .is, c .if2 .left, c .before .before .before .before .before .pre .1)
+-- the sizes, and the bytes of the rows
+sizes : (c : tie.After-byte2) → (c .before .byte .result ≤ 16) × (c .byte2 .result ≤ 16)
+sizes c =
+    let a = c .before .before .before .before .before .before .args in
+    let f = c .before .before .before .before .before .before .pre .0 .sizes in
+    let p = pair (c .before .before .before) in
+    let x = f (a .j) (p .1) .1 in
+    let y = f (a .i) (p .0) .1 in
+    (omega (arith, c .before .byte .ensures .is), omega (arith, c .byte2 .ensures .is))
 
-rows : (c : tie.After-byte2) → Inside (length (now (c .before .before .before .before .before .before .before .before .args .s))) (c .before .before .width-of .result) (c .before .byte .result) (c .byte2 .result) (c .before .before .before .before .before .before .before .before .args .p + 2)
-rows c =
-    let a = c .before .before .before .before .before .before .before .before .args in
-    let f = c .before .before .before .before .before .before .before .before .pre .0 .sizes (a .j) (pair (c .before .before .before .before .before) .1) in
-    let h = whole (c .before .before .before) in
-    let w = c .before .before .width-of .ensures in
-    let e : c .byte2 .result * c .before .before .width-of .result ≡ rowBytes layout (now (a .s)) (a .i) (a .j) = rw (c .byte2 .ensures .is, w .is) in
-    record { some = w .some; few = w .few; size = omega (arith, c .before .byte .ensures .is, f .1); within = omega (arith, h, e) }
+bytes : (c : tie.After-byte2) → let a = c .before .before .before .before .before .before .args in c .byte2 .result * c .before .before .width-of .result ≡ rowBytes layout (now (a .s)) (a .i) (a .j)
+bytes c = rw (c .byte2 .ensures .is, c .before .before .width-of .ensures .is)
 
-seen-beyond : (c : tie.After-some-beyond) → let a = c .before .before .before .before .before .before .before .before .before .args in let s = now (a .s) in
-    c .some-beyond .result ≡ beyond layout s (rowWidth layout s (a .j)) (sizeAt s (a .j)) (sizeAt s (a .i)) (a .p + 2)
-seen-beyond c = c .some-beyond .ensures ∙ rw (c .before .byte2 .ensures .is, c .before .before .byte .ensures .is, c .before .before .before .width-of .ensures .is)
+small : (c : tie.After-byte2) → c .byte2 .result * c .before .before .width-of .result ≤ 32
+small c = rows-small (c .byte2 .result) (c .before .before .width-of .result) (sizes c .1) (c .before .before .width-of .ensures .few)
 
-seen-all : (c : tie.After-allows-all) → let a = c .before .before .before .before .before .before .before .before .before .before .before .args in let s = now (a .s) in
-    c .allows-all .result ≡ allowsAll layout s (rowWidth layout s (a .j)) (sizeAt s (a .j)) (sizeAt s (a .i)) (a .p + 2)
-seen-all c = c .allows-all .ensures ∙ rw (c .before .before .before .byte2 .ensures .is, c .before .before .before .before .byte .ensures .is, c .before .before .before .before .before .width-of .ensures .is)
-
-in-order-requires : tie.Need-in-order-requires
-in-order-requires c κs = search needs
+whole : (c : tie.Else2) → let a = c .before .before .before .before .before .before .before .args in a .p + 2 + rowBytes layout (now (a .s)) (a .i) (a .j) ≤ length (now (a .s))
+whole c = omega (arith, bytes (c .before), c .if2 .left, c .before .before .before .before .before .before .before .pre .1)
 
 returns : tie.Need-returns
-returns c = sym (block-order _ _ _ _ _ _ (sym (c .before .in-order .ensures) ∙ not-true _ (c .if1 .taken)))
-
-row-bytes-requires : tie.Need-row-bytes-requires
-row-bytes-requires c κs = (c .before .before .before .pre .0, (pair c .0, pair c .1))
-
-add-at : tie.Need-add-at
-add-at c = search needs
-
-sub-if2 : tie.Need-sub-if2
-sub-if2 c = search needs
-
-returns-2 : tie.Need-returns-2
-returns-2 c = sym (block-cut _ _ _ _ _ _ (ordered (c .before .before)) (omega (arith, c .before .row-bytes .ensures .is, c .if2 .taken)))
+returns c = (sym (block-order _ _ _ _ _ _ (sym (c .before .in-order .ensures) ∙ not-true _ (c .if1 .taken))), no-rows _ _ _ _ _ _)
 
 width-of-requires : tie.Need-width-of-requires
-width-of-requires c κs = (c .before .before .before .before .before .pre .0, pair (c .before .before) .1)
+width-of-requires c κs = (c .before .before .before .pre .0, pair c .1)
 
 add-byte : tie.Need-add-byte
-add-byte c = let h = pair (c .before .before .before) in let f = c .before .before .before .before .before .before .pre .0 .room in search needs
+add-byte c = let h = pair (c .before) in let f = c .before .before .before .before .pre .0 .room in search needs
 
 byte-requires : tie.Need-byte-requires
-byte-requires c κs = omega (arith, pair (c .before .before .before) .1, c .before .before .before .before .before .before .pre .0 .room)
+byte-requires c κs = omega (arith, pair (c .before) .1, c .before .before .before .before .pre .0 .room)
 
 add-byte-2 : tie.Need-add-byte-2
-add-byte-2 c = let h = pair (c .before .before .before .before) in let f = c .before .before .before .before .before .before .before .pre .0 .room in search needs
+add-byte-2 c = let h = pair (c .before .before) in let f = c .before .before .before .before .before .pre .0 .room in search needs
 
 byte-requires-2 : tie.Need-byte-requires-2
-byte-requires-2 c κs = omega (arith, pair (c .before .before .before .before) .0, c .before .before .before .before .before .before .before .pre .0 .room)
+byte-requires-2 c κs = omega (arith, pair (c .before .before) .0, c .before .before .before .before .before .pre .0 .room)
 
-some-beyond-requires : tie.Need-some-beyond-requires
-some-beyond-requires c κs = rows c
+mul-if2 : tie.Need-mul-if2
+mul-if2 c = let m = small c in search needs
+
+returns-2 : tie.Need-returns-2
+returns-2 c = (sym (block-cut _ _ _ _ _ _ (ordered (c .before .before .before .before)) (omega (arith, bytes (c .before), c .if2 .taken))), no-rows _ _ _ _ _ _)
+
+read-rows-requires : tie.Need-read-rows-requires
+read-rows-requires c κs =
+    let e = c .before in
+    let w = e .before .before .before .width-of .ensures in
+    let h = whole e in
+    let b = bytes (e .before) in
+    (record { some = w .some; wide = w .few; few = sizes (e .before) .1; within = omega (arith, h, b) }, e .before .before .before .before .before .before .before .pre .2 .long)
+
+mul-rows-tell : tie.Need-mul-rows-tell
+mul-rows-tell c = let h = pair (c .before .before .before .before .before .before .before) in let f = c .before .before .before .before .before .before .before .before .before .before .pre .0 .few in search needs
+
+add-rows-tell : tie.Need-add-rows-tell
+add-rows-tell c = let h = pair (c .before .before .before .before .before .before .before) in let f = c .before .before .before .before .before .before .before .before .before .before .pre .0 .few in search needs
+
+add-rows-tell-2 : tie.Need-add-rows-tell-2
+add-rows-tell-2 c = let h = pair (c .before .before .before .before .before .before .before) in let f = c .before .before .before .before .before .before .before .before .before .before .pre .0 .few in search needs
+
+rows-tell-requires : tie.Need-rows-tell-requires
+rows-tell-requires c κs = sizes (c .before .before .before .before)
 
 returns-3 : tie.Need-returns-3
-returns-3 c = sym (block-beyond _ _ _ _ _ _ (ordered (c .before .before .before .before .before .before .before)) (whole (c .before .before .before .before .before)) (sym (seen-beyond (c .before)) ∙ c .if3 .taken))
-
-allows-all-requires : tie.Need-allows-all-requires
-allows-all-requires c κs = rows (c .before .before)
-
-returns-4 : tie.Need-returns-4
-returns-4 c = sym (block-bars-nothing _ _ _ _ _ _ (ordered (c .before .before .before .before .before .before .before .before .before)) (whole (c .before .before .before .before .before .before .before)) (sym (seen-beyond (c .before .before .before)) ∙ c .before .before .if3 .left) (sym (seen-all (c .before)) ∙ c .if4 .taken))
-
-mul-t14 : tie.Need-mul-t14
-mul-t14 c = let h = pair (c .before .before .before .before .before .before .before .before .before) in let f = c .before .before .before .before .before .before .before .before .before .before .before .before .pre .0 .few in search needs
-
-add-t15 : tie.Need-add-t15
-add-t15 c = let h = pair (c .before .before .before .before .before .before .before .before .before) in let f = c .before .before .before .before .before .before .before .before .before .before .before .before .pre .0 .few in search needs
-
-add-t21 : tie.Need-add-t21
-add-t21 c = let h = pair (c .before .before .before .before .before .before .before .before .before) in let f = c .before .before .before .before .before .before .before .before .before .before .before .before .pre .0 .few in search needs
-
-add-t22 : tie.Need-add-t22
-add-t22 c = search needs
-
-returns-5 : tie.Need-returns-5
-returns-5 c =
-    let a = c .before .before .before .before .before .before .before .before .before .before .before .before .args in
-    ap (λ (x : ℕ). Next (32 * a .i + a .j + 1) (a .p + 2 + x)) (c .before .before .before .before .before .before .before .before .row-bytes .ensures .is)
-    ∙ sym (block-next _ _ _ _ _ _ (ordered (c .before .before .before .before .before .before .before .before .before)) (whole (c .before .before .before .before .before .before .before)) (sym (seen-beyond (c .before .before .before)) ∙ c .before .before .if3 .left) (sym (seen-all (c .before)) ∙ c .if4 .left))
+returns-3 c =
+    let b = c .before .before .before .before .before .before .before .before .before .before .before in
+    let a = b .args in
+    let s = now (a .s) in
+    let e = c .before .before .before .before in
+    let x = c .before .before .read-rows .last .1 .1 .1 .1 .0 in
+    let y = e .before in
+    let k = y .byte2 .ensures .is in
+    let z = y .before .byte .ensures .is in
+    let w = y .before .before .width-of .ensures .is in
+    let few = sizes y .1 in
+    let r : RowsRead s (rowWidth layout s (a .j)) (sizeAt s (a .i)) (a .p + 2) x = rw (k, w) at (rows-stored s (y .before .before .width-of .result) (y .byte2 .result) (a .p + 2) _ x (b .pre .2) (c .before .before .read-rows .ensures)) in (
+      c .rows-tell .ensures
+          ∙ rw (k, z, w) (block-tells s (a .least) (a .p) (a .i) (a .j) x (ordered (y .before .before .before)) (whole e) (omega arith) r),
+      record { rows = λ l q f. r },
+    )
 
 pub block-of-spec : {M : Type 1} → statement M
 block-of-spec =
     tie.close
     (tie.spec
-    in-order-requires
+    (λ c κs. search needs)
     returns
-    row-bytes-requires
-    add-at
-    sub-if2
-    returns-2
     width-of-requires
     add-byte
     byte-requires
     add-byte-2
     byte-requires-2
-    some-beyond-requires
-    returns-3
-    allows-all-requires
-    returns-4
-    mul-t14
-    add-t15
-    add-t21
-    add-t22
-    returns-5)
+    (λ c. search needs)
+    (λ c. search needs)
+    mul-if2
+    returns-2
+    read-rows-requires
+    mul-rows-tell
+    add-rows-tell
+    add-rows-tell-2
+    (λ c. search needs)
+    (λ c. search needs)
+    rows-tell-requires
+    returns-3)

@@ -1,70 +1,46 @@
--- `read_sheet::some_beyond`: the answer from the start is the answer from here.
-use mathlib.Core.Path.{_≡_, refl, sym, ap, _∙_}
-use Prim.Native.Nat.{ℕ, _+_, _*_, _≤_}
-use lib.ListN.{length}
-use Rattle.sheet.specs.Sheet.{layout, beyond}
-use Rattle.sheet.proofs.Laws.{mul-step, beyond-hit, beyond-next, beyond-end}
-use borrow.Author.Needs.{needs}
+-- `read_sheet::some_beyond`: what was found in the rows so far. Assumes nothing.
+use mathlib.Core.Path.{_≡_, sym, ap, _∙_}
+use mathlib.Core.Bool.{Bool, _||_}
+use Prim.Native.Nat.{ℕ, _-_, _≤_}
 use native.Mathlib.Omega.{arith}
+use lib.Dec.{ltb}
+use lib.ListN.{getD}
+use denote.Ref.{now}
+use borrow.Author.Needs.{needs}
+use Rattle.bounded.specs.Bounded.{anyBelow}
+use Rattle.bounded.proofs.Loops.{any-none, any-next}
+use Rattle.read_sheet.specs.Reading.{someBeyond}
 use Rattle.read_sheet.proofs.some_beyond.Statement.{statement}
 use Rattle.read_sheet.proofs.some_beyond.Tie as tie
 
 abbrev Inv-loop : tie.InvT-loop
-Inv-loop s w z k p lim left₀ at₀ left at = (beyond layout s w z k p ≡ beyond layout s w z left at) × (at + left * w ≤ length s)
+Inv-loop x full found₀ a₀ found a = (a ≤ 16) × (found ≡ anyBelow a (λ (k : ℕ). ltb full (getD x k 0)))
 
 abbrev μ-loop : tie.MeasureT-loop
-μ-loop s w z k p lim left₀ at₀ left at = left
-
-power-requires : tie.Need-power-requires Inv-loop μ-loop
-power-requires c κs = search needs
-
-loop-holds : tie.Need-loop-holds Inv-loop μ-loop
-loop-holds c = (refl, search needs)
-
-row-requires : tie.Need-row-requires Inv-loop μ-loop
-row-requires c κs = let q = mul-step (c .before .loop .left) (c .before .before .before .before .args .w) (c .loop-test .taken) in search needs
-
-returns : tie.Need-returns Inv-loop μ-loop
-returns c =
-    let l = c .before .before .before in
-    let a = c .before .before .before .before .before .before .args in
-    sym (l .loop .inv .0 ∙ beyond-hit layout (a .s .now) (a .w) (a .z) (l .loop .left) (l .loop .at) (c .before .before .loop-test .taken) (omega arith))
-
-add-at : tie.Need-add-at Inv-loop μ-loop
-add-at c = let q = mul-step (c .before .before .before .loop .left) (c .before .before .before .before .before .before .args .w) (c .before .before .loop-test .taken) in search needs
-
-sub-left : tie.Need-sub-left Inv-loop μ-loop
-sub-left c = search needs
-
-loop-less : tie.Need-loop-less Inv-loop μ-loop
-loop-less c = search needs
+μ-loop x full found₀ a₀ found a = 16 - a
 
 loop-again : tie.Need-loop-again Inv-loop μ-loop
 loop-again c =
-    let l = c .before .before .before in
-    let a = c .before .before .before .before .before .before .args in
-    let q = mul-step (l .loop .left) (a .w) (c .before .before .loop-test .taken) in
-    (l .loop .inv .0 ∙ beyond-next layout (a .s .now) (a .w) (a .z) (l .loop .left) (l .loop .at) (c .before .before .loop-test .taken) (omega arith), omega arith)
+    let l = c .before .before .loop in
+    let g = c .before .before .before .args in
+    let f : ℕ → Bool = λ (k : ℕ). ltb (g .full) (getD (now (g .x)) k 0) in
+    (omega arith, ap (λ (b : Bool). b || f (l .a)) (l .inv .1) ∙ sym (any-next f (l .a)))
 
-returns-2 : tie.Need-returns-2 Inv-loop μ-loop
-returns-2 c =
-    let l = c .before in
-    let a = c .before .before .before .before .args in
-    let e : l .loop .left ≡ 0 = omega arith in
-    sym (l .loop .inv .0 ∙ ap (λ (x : ℕ). beyond layout (a .s .now) (a .w) (a .z) x (l .loop .at)) e ∙ beyond-end layout (a .s .now) (a .w) (a .z) (l .loop .at))
+returns : tie.Need-returns Inv-loop μ-loop
+unfolding someBeyond
+returns c =
+    let l = c .before .loop in
+    let e : l .a ≡ 16 = omega arith in
+    rw e at (l .inv .1)
 
 pub some-beyond-spec : {M : Type 1} → statement M
 some-beyond-spec =
     tie.close
-    (tie.spec
-    Inv-loop
-    μ-loop
-    power-requires
-    loop-holds
-    row-requires
-    returns
-    add-at
-    sub-left
-    loop-less
+    (tie.spec Inv-loop μ-loop
+    (λ c. (omega arith, sym (any-none _)))
+    (λ c. search needs)
+    (λ c. search needs)
+    (λ c. search needs)
+    (λ c. omega arith)
     loop-again
-    returns-2)
+    returns)

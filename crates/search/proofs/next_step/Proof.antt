@@ -27,7 +27,7 @@ next-step-spec =
     (λ c κs. search needs)
     (λ c. sym (next-shut _ _ (sym (c .before .none-empty .ensures) ∙ not-true _ (c .if1 .taken))))
     (λ c. (omega arith, omega arith, kinds-none _ _))
-    (λ c κs. search needs)
+    (λ c κs. let w = c .before .before in let a = c .before .loop .inv in (w .before .before .before .pre, sym (w .before .none-empty .ensures) ∙ not-false _ (w .if1 .left), a .0, omega arith))
     (λ c κs. search needs)
     (λ c. let w = c .before .before .before .before in
     sym (next-open _ _ (sym (w .before .before .none-empty .ensures) ∙ not-false _ (w .before .if1 .left))

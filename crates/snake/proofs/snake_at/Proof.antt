@@ -1,14 +1,11 @@
 -- `snake::snake_at`. Assumes nothing.
-use mathlib.Core.Path.{sym, _∙_}
+use mathlib.Core.Path.{_∙_}
+use Rattle.held.proofs.Laws.{domain-values, word-among, domain-among}
 use Rattle.cover.proofs.Laws.{other-apart, others-out}
-use Rattle.held.proofs.Laws.{word-among, domain-among}
 use Rattle.snake.proofs.Laws.{snake-word}
 use borrow.Author.Needs.{needs}
 use Rattle.snake.proofs.snake_at.Statement.{statement}
 use Rattle.snake.proofs.snake_at.Tie as tie
-
-has32-requires : tie.Need-has32-requires
-has32-requires c κs = search needs
 
 mul-domain : tie.Need-mul-domain
 mul-domain c = search needs
@@ -16,43 +13,33 @@ mul-domain c = search needs
 element-copy-out-domain : tie.Need-element-copy-out-domain
 element-copy-out-domain c = search needs
 
-row-requires : tie.Need-row-requires
-row-requires c κs =
-    let p = c .before .before .before .before .pre in
-    let a = c .before .before .before .before .args in
-    let d = other-apart (a .rest) (a .active) _ _ (p .2) (p .1 .variable) (sym (c .before .before .has32 .ensures) ∙ c .before .if1 .taken) in
-    search needs
+row-among-requires : tie.Need-row-among-requires
+row-among-requires c κs =
+    let p = c .before .before .pre in
+    let a = c .before .before .args in
+    (p .0 .table, domain-values (p .0) _ (p .3), p .1, p .3, other-apart (a .rest) (a .active) _ _ (p .2) (p .1 .variable) (p .4))
 
 without32-requires : tie.Need-without32-requires
 without32-requires c κs = search needs
 
 all-served-requires : tie.Need-all-served-requires
 all-served-requires c κs =
-    let p = c .before .before .before .before .before .before .pre in
-    let a = c .before .before .before .before .before .before .args in
-    let d = other-apart (a .rest) (a .active) _ _ (p .2) (p .1 .variable) (sym (c .before .before .before .before .has32 .ensures) ∙ c .before .before .before .if1 .taken) in
-    (p .0, rw (c .before .row .ensures) (word-among (p .0) _ _ _), domain-among (p .0) _, rw (c .without32 .ensures) (others-out (a .rest) _ (p .3)))
+    let p = c .before .before .before .before .pre in
+    let a = c .before .before .before .before .args in
+    (p .0, rw (c .before .row-among .ensures) (word-among (p .0) _ _ _), domain-among (p .0) _, rw (c .without32 .ensures) (others-out (a .rest) _ (p .3)), p .3)
 
 returns : tie.Need-returns
 returns c =
-    let p = c .before .before .before .before .before .before .before .pre in
-    let a = c .before .before .before .before .before .before .before .args in
-    let e = sym (c .before .before .before .before .before .has32 .ensures) ∙ c .before .before .before .before .if1 .taken in
-    let d = other-apart (a .rest) (a .active) _ _ (p .2) (p .1 .variable) e in
-    rw e (c .all-served .ensures ∙ (rw (c .before .without32 .ensures, p .2, c .before .before .row .ensures) (snake-word (p .0) _ _ _ (p .1 .variable) (p .3))))
-
-returns-2 : tie.Need-returns-2
-returns-2 c = rw (sym (c .before .has32 .ensures) ∙ c .if1 .left)
+    let p = c .before .before .before .before .before .pre in
+    rw (p .4) (c .all-served .ensures ∙ (rw (c .before .without32 .ensures, p .2, c .before .before .row-among .ensures) (snake-word (p .0) _ _ _ (p .1 .variable) (p .3))))
 
 pub snake-at-spec : {M : Type 1} → statement M
 snake-at-spec =
     tie.close
     (tie.spec
-    has32-requires
     mul-domain
     element-copy-out-domain
-    row-requires
+    row-among-requires
     without32-requires
     all-served-requires
-    returns
-    returns-2)
+    returns)

@@ -1,41 +1,52 @@
--- `start::start`: what reading the sheet finds. Assumes nothing.
-use mathlib.Core.Path.{sym, _∙_}
-use Rattle.sheet.specs.Sheet.{layout}
-use Rattle.sheet.proofs.Accepted.{keeps}
-use Rattle.jobs.proofs.Opened.{start-refused, start-kept}
+-- `start::start`: what reading the sheet finds, and the table that it fills. Assumes nothing.
+use mathlib.Core.Path.{sym, ap, _∙_}
+use Rattle.jobs.specs.Hand.{startOver}
+use Rattle.jobs.proofs.Opened.{sheet-table, start-refused, start-kept}
+use Rattle.table.proofs.Blank.{blank-local}
 use borrow.Author.Needs.{needs}
 use Rattle.start.proofs.start.Statement.{statement}
 use Rattle.start.proofs.start.Tie as tie
 
-read-sheet-requires : tie.Need-read-sheet-requires
-read-sheet-requires c κs = search needs
+slice-aggregate-read-table : tie.Need-slice-aggregate-read-table
+slice-aggregate-read-table c = search needs
 
-enum-known-read : tie.Need-enum-known-read
-enum-known-read c = search needs
+read-table-requires : tie.Need-read-table-requires
+read-table-requires c κs = blank-local
+
+enum-known-r : tie.Need-enum-known-r
+enum-known-r c = search needs
 
 refused-start-requires : tie.Need-refused-start-requires
 refused-start-requires c κs = search needs
 
-enum-known-read-2 : tie.Need-enum-known-read-2
-enum-known-read-2 c = search needs
+enum-told : tie.Need-enum-told
+enum-told c = search needs
 
-start-sheet-requires : tie.Need-start-sheet-requires
-start-sheet-requires c κs = keeps layout _ _ _ (sym (c .before .before .before .read-sheet .ensures) ∙ c .before .read2 .given .1)
+slice-aggregate-start-over : tie.Need-slice-aggregate-start-over
+slice-aggregate-start-over c = search needs
+
+start-over-requires : tie.Need-start-over-requires
+start-over-requires c κs = let r = c .before .before .before .before .read-table .ensures in sheet-table _ _ _ _ (sym (r .0) ∙ c .before .enum-told .given .1) (r .1) .1
 
 returns : tie.Need-returns
-returns c = c .refused-start .ensures ∙ sym (start-refused _ _ (sym (c .before .before .before .before .read-sheet .ensures) ∙ c .before .before .read .given .1))
+returns c = c .refused-start .ensures ∙ sym (start-refused _ _ (sym (c .before .before .before .before .before .read-table .ensures .0) ∙ c .before .before .r .given .1))
 
 returns-2 : tie.Need-returns-2
-returns-2 c = c .start-sheet .ensures ∙ sym (start-kept _ (keeps layout _ _ _ (sym (c .before .before .before .before .read-sheet .ensures) ∙ c .before .before .read2 .given .1)))
+returns-2 c =
+    let r = c .before .before .before .before .before .read-table .ensures in
+    let x = sheet-table _ _ _ _ (sym (r .0) ∙ c .before .before .enum-told .given .1) (r .1) in
+    c .start-over .ensures ∙ ap startOver (x .2) ∙ sym (start-kept _ (x .0))
 
 pub start-spec : {M : Type 1} → statement M
 start-spec =
     tie.close
     (tie.spec
-    read-sheet-requires
-    enum-known-read
+    slice-aggregate-read-table
+    read-table-requires
+    enum-known-r
     refused-start-requires
-    enum-known-read-2
-    start-sheet-requires
+    enum-told
+    slice-aggregate-start-over
+    start-over-requires
     returns
     returns-2)

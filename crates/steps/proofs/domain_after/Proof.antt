@@ -1,7 +1,9 @@
 -- `steps::domain_after`. Assumes nothing.
-use borrow.Author.Tests.{eqb-false}
-use Rattle.bounded.proofs.Truth.{neither}
-use Rattle.steps.proofs.Steps.{domain-gone, domain-word}
+use mathlib.Core.Path.{sym, _∙_}
+use borrow.Author.Tests.{eqb-false, not-true}
+use Rattle.bounded.proofs.Truth.{both, neither}
+use Rattle.held.proofs.Laws.{domain-values}
+use Rattle.steps.proofs.Steps.{domain-gone, domain-word, domain-free}
 use borrow.Author.Needs.{needs}
 use Rattle.steps.proofs.domain_after.Statement.{statement}
 use Rattle.steps.proofs.domain_after.Tie as tie
@@ -12,24 +14,33 @@ mul-domain c = search needs
 element-copy-out-domain : tie.Need-element-copy-out-domain
 element-copy-out-domain c = search needs
 
-mul-partners : tie.Need-mul-partners
-mul-partners c = search needs
-
-element-copy-out-partners : tie.Need-element-copy-out-partners
-element-copy-out-partners c = search needs
-
-partners-requires : tie.Need-partners-requires
-partners-requires c κs =
-    let p = c .before .before .before .before .pre in
-    (p .0 .table, p .1, p .2, eqb-false _ _ (neither _ _ (c .before .if1 .left) .0))
-
 returns : tie.Need-returns
 returns c = domain-gone (c .before .before .before .pre .0) _ _ (c .if1 .taken)
 
+mul-own : tie.Need-mul-own
+mul-own c = search needs
+
+element-copy-out-own : tie.Need-element-copy-out-own
+element-copy-out-own c = search needs
+
+has32-requires : tie.Need-has32-requires
+has32-requires c κs = search needs
+
 returns-2 : tie.Need-returns-2
 returns-2 c =
-    let p = c .before .before .before .before .before .pre in
-    rw (c .partners .ensures) (domain-word (p .0) _ _ (p .2) (eqb-false _ _ (neither _ _ (c .before .before .if1 .left) .0)))
+    let p = c .before .before .before .before .before .before .pre in
+    let h = both _ _ (c .if2 .taken) in
+    domain-free (p .0) _ _ _ (p .1) (p .2) (p .3) (eqb-false _ _ (neither _ _ (c .before .before .before .if1 .left) .0)) (eqb-false _ _ (not-true _ (h .0))) (sym (c .before .has32 .ensures) ∙ not-true _ (h .1))
+
+partners-requires : tie.Need-partners-requires
+partners-requires c κs =
+    let p = c .before .before .before .before .before .before .pre in
+    (p .0 .table, domain-values (p .0) _ (p .3), domain-values (p .0) _ (p .2), p .2, p .3, eqb-false _ _ (neither _ _ (c .before .before .before .if1 .left) .0))
+
+returns-3 : tie.Need-returns-3
+returns-3 c =
+    let p = c .before .before .before .before .before .before .before .pre in
+    c .partners .ensures ∙ domain-word (p .0) _ _ (p .3) (eqb-false _ _ (neither _ _ (c .before .before .before .before .if1 .left) .0))
 
 pub domain-after-spec : {M : Type 1} → statement M
 domain-after-spec =
@@ -37,8 +48,10 @@ domain-after-spec =
     (tie.spec
     mul-domain
     element-copy-out-domain
-    mul-partners
-    element-copy-out-partners
-    partners-requires
     returns
-    returns-2)
+    mul-own
+    element-copy-out-own
+    has32-requires
+    returns-2
+    partners-requires
+    returns-3)

@@ -14,10 +14,13 @@ use Rattle.steps.proofs.eliminate.Statement.{statement}
 use Rattle.steps.proofs.eliminate.Tie as tie
 
 abbrev Inv-loop : tie.InvT-loop
-Inv-loop t i m r₀ other₀ r other = (other ≤ 32) × (r .active ≡ r₀ .active) × (r .domains ≡ filled other (domainAfter (held t) (stateOf m) i) (r₀ .domains))
+Inv-loop t i m near r₀ other₀ r other = (other ≤ 32) × (r .active ≡ r₀ .active) × (r .domains ≡ filled other (domainAfter (held t) (stateOf m) i) (r₀ .domains))
 
 abbrev μ-loop : tie.MeasureT-loop
-μ-loop t i m r₀ other₀ r other = 32 - other
+μ-loop t i m near r₀ other₀ r other = 32 - other
+
+neighbours-requires : tie.Need-neighbours-requires Inv-loop μ-loop
+neighbours-requires c κs = search needs
 
 without32-requires : tie.Need-without32-requires Inv-loop μ-loop
 without32-requires c κs = search needs
@@ -43,19 +46,19 @@ loop-less c = search needs
 loop-again : tie.Need-loop-again Inv-loop μ-loop
 loop-again c =
     let w = c .before .before .before .before .loop in
-    let len : length (c .before .before .before .before .before .before .before .args .t2 .domains) ≡ 32 = search needs in
+    let len : length (c .before .before .before .before .before .before .before .before .args .t2 .domains) ≡ 32 = search needs in
     (omega arith, w .inv .1, rw (w .inv .2, c .domain-after .ensures) (filled-more (w .other) _ _ (omega arith)))
 
 returns : tie.Need-returns Inv-loop μ-loop
 unfolding masksOf domainAfter
 returns c =
     let w = c .before .loop in
-    let a = c .before .before .before .before .pre in
-    let len : length (c .before .before .before .before .args .t2 .domains) ≡ 32 = search needs in
+    let a = c .before .before .before .before .before .pre in
+    let len : length (c .before .before .before .before .before .args .t2 .domains) ≡ 32 = search needs in
     let p = w .inv .1 ∙ c .before .before .without32 .ensures ∙ active-after (a .0) _ (a .1) in
     let q = w .inv .2 ∙ filled-end 32 (w .other) _ _ len (omega arith) (omega arith) in
     λ k. record { active = p k; domains = q k }
 
 pub eliminate-spec : {M : Type 1} → statement M
 eliminate-spec =
-    tie.close (tie.spec Inv-loop μ-loop without32-requires loop-holds domain-after-requires mul-r element-write-r add-other loop-less loop-again returns)
+    tie.close (tie.spec Inv-loop μ-loop neighbours-requires without32-requires loop-holds domain-after-requires mul-r element-write-r add-other loop-less loop-again returns)

@@ -24,7 +24,7 @@ mul-size : tie.Need-mul-size Inv-loop μ-loop
 mul-size c = search needs
 
 shared-slice-read-size : tie.Need-shared-slice-read-size Inv-loop μ-loop
-shared-slice-read-size c = let l = c .before .before .pre .0 .table .long in let v = (c .before .before .pre .1 .1) in omega arith
+shared-slice-read-size c = let l = c .before .before .pre .0 .table .located .long in let v = (c .before .before .pre .1 .1) in omega arith
 
 cast-size : tie.Need-cast-size Inv-loop μ-loop
 cast-size c = omega (arith, c .shared-slice-known2 .given (c .before .before .args .i))
