@@ -1,15 +1,15 @@
 -- A state as masks and as tests, both ways. Assumes nothing.
-use mathlib.Core.Path.{_≡_, refl, sym, ap, _∙_, fun-ext}
-use mathlib.Core.Logic.{_⊎_, inl, inr, _↔_}
-use Prim.Native.Nat.{ℕ, _≤_, _<_}
+use mathlib.Core.Path.{_≡_, refl, sym, ap, _∙_, fun-ext, subst}
+use mathlib.Core.Logic.{_⊎_, inl, inr, ⊎-elim, _↔_, _≢_}
+use Prim.Native.Nat.{ℕ, _^_, _≤_, _<_}
 use native.Mathlib.Nat.{not-le-of-lt}
 use native.Mathlib.Omega.{arith}
 use lib.Dec.{T}
-use lib.ListN.{length, getD, List·getD-eq-default}
-use lib.Seq.{ext-getD}
+use lib.ListN.{length, getD, set, length-set, List·getD-eq-default}
+use lib.Seq.{ext-getD, getD-set-same, getD-set-other}
 use Rattle.bounded.specs.Mask.{bit, maskOf}
 use Rattle.bounded.specs.Table.{tab}
-use Rattle.bounded.proofs.Truth.{T-false, T-not, lt-dec}
+use Rattle.bounded.proofs.Truth.{T-false, T-not, eq-dec, lt-dec}
 use Rattle.bounded.proofs.Mask.{bit-high, bit-none, bit-mask, bit-mask-all, mask-lt, mask-ext}
 use Rattle.bounded.proofs.Table.{length-tab, getD-tab}
 use Rattle.problem.specs.Problem.{Problem, State, stateFits}
@@ -41,6 +41,30 @@ masks-proper s =
       length-is = length-tab 32 (λ i. maskOf 16 (s .live i));
       domain-lt = λ i l. rw (getD-tab 32 (λ i. maskOf 16 (s .live i)) i 0 l) (mask-lt 16 (s .live i));
     }
+
+-- one domain stored: the masks of the state that has it, and the rest as it was
+abbrev pub putDomain : Masks → (i x : ℕ) → Masks
+putDomain m i x = record { active = m .active; domains = set (m .domains) i x }
+
+pub masks-put : (m : Masks) (s : State) (i x : ℕ) → Proper m → i < 32 → x < 2 ^ 16 → ((k : ℕ) → k < 32 → (stateOf m) .active k ≡ s .active k) → ((a : ℕ) → a < 16 → bit x a ≡ s .live i a) → ((j a : ℕ) → j ≢ i → (stateOf m) .live j a ≡ s .live j a) → putDomain m i x ≡ masksOf s
+unfolding stateOf
+masks-put m s i x R p l f here else =
+    masks-is (putDomain m i x) s proper f
+    (λ j a k q. ⊎-elim
+    (λ e. ap (λ (z : ℕ). bit z a) (at j e) ∙ here a q ∙ ap (λ (z : ℕ). s .live z a) (sym e))
+    (λ d. ap (λ (z : ℕ). bit z a) (getD-set-other (m .domains) i j x 0 d) ∙ else j a d)
+    (eq-dec j i))
+  where
+    at : (j : ℕ) → j ≡ i → getD (set (m .domains) i x) j 0 ≡ x
+    at j e = ap (λ (z : ℕ). getD (set (m .domains) i x) z 0) e ∙ getD-set-same (m .domains) i x 0 (omega (arith, R .length-is))
+
+    proper : Proper (putDomain m i x)
+    proper =
+        record {
+          active-lt = R .active-lt;
+          length-is = length-set (m .domains) i x ∙ R .length-is;
+          domain-lt = λ j k. ⊎-elim (λ e. subst (λ (z : ℕ). z < 2 ^ 16) (sym (at j e)) l) (λ d. rw (getD-set-other (m .domains) i j x 0 d) (R .domain-lt j k)) (eq-dec j i);
+        }
 
 -- masks of a proper struct, read and packed again, are the same
 pub masks-back : (m : Masks) → Proper m → masksOf (stateOf m) ≡ m

@@ -1,14 +1,14 @@
 // docs/FORMAT.md, "Taking out by hand": the start, by sweeps over a filled table until one changes nothing.
 ghost use mathlib.Core.Path.{_≡_};
 ghost use Prim.Native.Nat.{_<_};
-ghost use Rattle.problem.specs.Problem.{full, noneEmpty};
-ghost use Rattle.problem.specs.Manual.{prune, pruneTimes};
+ghost use Rattle.problem.specs.Problem.{noneEmpty, maxVariables};
+ghost use Rattle.problem.specs.Manual.{start as largest};
 ghost use Rattle.problem.specs.Masks.{stateOf, masksOf, sets};
 ghost use Rattle.problem.specs.Held.{held, RowTable};
 ghost use Rattle.held.specs.Ready.{Ready};
 ghost use Rattle.jobs.specs.Hand.{startRefused, startOver, startJob};
 ghost use Rattle.support.specs.Words.{domainLeft};
-ghost use Rattle.start.specs.Parts.{sameDomains, maxTurns};
+ghost use Rattle.start.specs.Parts.{pruneBelow, sameDomains};
 use jobs::ManualState;
 use jobs::StartAnswer;
 use jobs::StartOutcome;
@@ -31,16 +31,19 @@ fn domain_left(t: &[u16], active: u32, on: &[u16; 32], lasts: bool, i: usize) ->
     }
 }
 
-// Each setting without a partner at some other item goes off, all judged by the state before the sweep.
-fn prune_once(t: &[u16], m: Masks) -> Masks
+// Item after item, each setting without a partner at some other item goes off, and the items that follow are judged by what is left.
+fn sweep(t: &[u16], m: Masks) -> Masks
     requires { ⌜ Ready (now t) m ⌝ }
-    ensures { λ r. ⌜ r ≡ masksOf (prune (held (now (t .entry))) (stateOf m)) ⌝ }
+    ensures { λ r. ⌜ r ≡ masksOf (pruneBelow maxVariables (held (now (t .entry))) (stateOf m)) ⌝ }
 {
-    let lasts = held::none_empty(t, m.active, &m.domains);
     let mut r = m;
+    let mut lasts = held::none_empty(t, r.active, &r.domains);
     let mut i: usize = 0;
     while i < 32 {
-        r.domains[i] = domain_left(t, m.active, &m.domains, lasts, i);
+        let was = r.domains[i];
+        let left = domain_left(t, r.active, &r.domains, lasts, i);
+        r.domains[i] = left;
+        lasts = lasts & ((left != 0) | (was == 0));
         i += 1;
     }
     r
@@ -64,29 +67,18 @@ fn same_domains(x: Masks, y: Masks) -> bool
     true
 }
 
-// Sweeps until one changes nothing. Each before it takes at least one of at most 512 values out, so 513 sweeps are enough.
-fn settle(t: &[u16], m: Masks) -> Masks
-    requires { ⌜ Ready (now t) m ⌝ }
-    ensures { λ r. ⌜ r ≡ masksOf (pruneTimes maxTurns (held (now (t .entry))) (stateOf m)) ⌝ }
+// Sweeps until one changes nothing. Each before it takes at least one setting off, so that they end.
+fn settle(t: &[u16]) -> Masks
+    requires { ⌜ RowTable (now t) ⌝ }
+    ensures { λ r. ⌜ r ≡ masksOf (largest (held (now (t .entry)))) ⌝ }
 {
-    let mut kept = m;
-    let mut left: usize = 513;
-    while 0 < left {
-        let next = prune_once(t, kept);
-        if same_domains(kept, next) {
-            return kept;
-        }
+    let mut kept = held::full_masks(t);
+    let mut next = sweep(t, kept);
+    while !same_domains(kept, next) {
         kept = next;
-        left -= 1;
+        next = sweep(t, kept);
     }
     kept
-}
-
-fn start_masks(t: &[u16]) -> Masks
-    requires { ⌜ RowTable (now t) ⌝ }
-    ensures { λ r. ⌜ r ≡ masksOf (pruneTimes maxTurns (held (now (t .entry))) (full (held (now (t .entry))))) ⌝ }
-{
-    settle(t, held::full_masks(t))
 }
 
 // The start over a filled table: the state with all items in and the largest sets of settings in which each has a partner at every other
@@ -95,7 +87,7 @@ pub fn start_over(t: &[u16]) -> StartAnswer
     requires { ⌜ RowTable (now t) ⌝ }
     ensures { λ r. ⌜ r ≡ startOver (held (now (t .entry))) ⌝ }
 {
-    let masks = start_masks(t);
+    let masks = settle(t);
     let state = ManualState { masks };
     StartAnswer {
         outcome: StartOutcome::Started,

@@ -1,28 +1,27 @@
 -- The two steps over masks: a value removed, and a variable eliminated. Assumes nothing.
 use mathlib.Core.Path.{_≡_, refl, sym, ap, _∙_, subst}
 use mathlib.Core.Bool.{Bool, true, false, not, _&&_, _||_, and-true}
-use mathlib.Core.Logic.{_⊎_, inl, inr, _≢_, ⊎-elim}
+use mathlib.Core.Logic.{_⊎_, _≢_, ⊎-elim}
 use mathlib.Core.List.{List}
-use Prim.Native.Nat.{ℕ, _^_, _<_}
+use Prim.Native.Nat.{ℕ, _<_}
 use native.Mathlib.Omega.{arith}
 use native.Mathlib.Nat.{lt-of-le-of-lt}
 use lib.Dec.{T, eqb}
 use lib.Bits.{bitAnd, and-le-l}
-use lib.ListN.{getD, set, length-set}
-use lib.Seq.{getD-set-same, getD-set-other}
-use borrow.Author.Tests.{eqb-true, eqb-false}
+use lib.ListN.{getD}
+use borrow.Author.Tests.{eq-eqb, ne-eqb}
 use Rattle.bounded.specs.Bounded.{anyBelow, lowest}
 use Rattle.bounded.specs.Mask.{bit, maskOf, without}
-use Rattle.bounded.proofs.Truth.{T-ext, T-of, T-false, split, and-iff, or-iff, eqb-iff, eq-dec}
+use Rattle.bounded.proofs.Truth.{T-ext, T-of, T-false, and-iff, or-iff, eqb-iff}
 use Rattle.bounded.proofs.Bounded.{any-iff}
 use Rattle.bounded.proofs.Mask.{bit-and, bit-none, bit-mask, bit-without16, bit-without32, mask-is}
 use Rattle.bounded.proofs.Members.{lowest-member}
 use Rattle.problem.specs.Problem.{remove, eliminate}
 use Rattle.problem.specs.Held.{held}
-use Rattle.problem.specs.Masks.{stateOf, masksOf, Proper}
+use Rattle.problem.specs.Masks.{stateOf, masksOf}
 use Rattle.problem.specs.declared.Masks.{Masks}
 use Rattle.problem.proofs.Reflect.{turn, eliminate-live}
-use Rattle.problem.proofs.Bridge.{masks-is}
+use Rattle.problem.proofs.Bridge.{putDomain, masks-put}
 use Rattle.held.specs.Ready.{Ready, Near}
 use Rattle.cover.specs.Words.{others}
 use Rattle.steps.specs.Words.{domainAfter}
@@ -32,36 +31,12 @@ use Rattle.held.proofs.Laws.{near-free, live-value, word-lt}
 module _ {t : List ℕ} {m : Masks} (R : Ready t m) where
   -- ---- a value removed
 
-  -- the masks with b taken out of the domain of i
-  abbrev removeMasks : ℕ → ℕ → Masks
-  removeMasks i b = record { active = m .active; domains = set (m .domains) i (without 16 (getD (m .domains) i 0) b) }
-
-  remove-bit : (i b : ℕ) → i < 32 → b < 16 → (j a : ℕ) → a < 16 → bit (getD (removeMasks i b .domains) j 0) a ≡ (bit (getD (m .domains) j 0) a && not (eqb j i && eqb a b))
-  remove-bit i b p q j a k =
-      let len = R .proper .length-is in
-      ⊎-elim
-      (λ e. let x = eqb-true j i e in
-      rw (e, x, getD-set-same (m .domains) i (without 16 (getD (m .domains) i 0) b) 0 (omega arith)) (bit-without16 (getD (m .domains) i 0) b a q k))
-      (λ e. ap (λ (x : ℕ). bit x a) (getD-set-other (m .domains) i j (without 16 (getD (m .domains) i 0) b) 0 (eqb-false j i e))
-      ∙ sym (and-true (bit (getD (m .domains) j 0) a))
-      ∙ ap (λ (z : Bool). bit (getD (m .domains) j 0) a && not (z && eqb a b)) (sym e))
-      (split (eqb j i))
-
-  remove-proper : (i b : ℕ) → i < 32 → Proper (removeMasks i b)
-  remove-proper i b p =
-      record {
-        active-lt = R .proper .active-lt;
-        length-is = length-set (m .domains) i _ ∙ R .proper .length-is;
-        domain-lt = λ j k. go j k (eq-dec j i);
-      }
-    where
-      go : (j : ℕ) → j < 32 → (j ≡ i) ⊎ (j ≢ i) → getD (removeMasks i b .domains) j 0 < 2 ^ 16
-      go j k (inl e) = let len = R .proper .length-is in rw (e, getD-set-same (m .domains) i (without 16 (getD (m .domains) i 0) b) 0 (omega arith)) (word-lt R i _ p)
-      go j k (inr d) = rw (getD-set-other (m .domains) i j (without 16 (getD (m .domains) i 0) b) 0 d) (R .proper .domain-lt j k)
-
-  pub remove-masks : (i b : ℕ) → i < 32 → b < 16 → removeMasks i b ≡ masksOf (remove (held t) (stateOf m) i b)
+  pub remove-masks : (i b : ℕ) → i < 32 → b < 16 → putDomain m i (without 16 (getD (m .domains) i 0) b) ≡ masksOf (remove (held t) (stateOf m) i b)
   unfolding remove stateOf
-  remove-masks i b p q = masks-is (removeMasks i b) (remove (held t) (stateOf m) i b) (remove-proper i b p) (λ j k. refl) (λ j a k l. remove-bit i b p q j a l)
+  remove-masks i b p q =
+      masks-put m (remove (held t) (stateOf m) i b) i (without 16 (getD (m .domains) i 0) b) (R .proper) p (word-lt R i _ p) (λ k l. refl)
+      (λ a l. bit-without16 (getD (m .domains) i 0) b a q l ∙ ap (λ (z : Bool). bit (getD (m .domains) i 0) a && not (z && eqb a b)) (sym (eq-eqb i i refl)))
+      (λ j a d. sym (and-true (bit (getD (m .domains) j 0) a)) ∙ ap (λ (z : Bool). bit (getD (m .domains) j 0) a && not (z && eqb a b)) (sym (ne-eqb j i d)))
 
   -- ---- a variable eliminated
 

@@ -1,50 +1,47 @@
--- `start::settle`: the sweeps that are left make the same of the state in hand as all of them of the state at first. Assumes nothing.
-use mathlib.Core.Path.{_≡_, refl, sym, ap, _∙_}
-use Rattle.problem.specs.Manual.{pruneTimes}
+-- `start::settle`: the state in hand has all of the start on, and a sweep that changes no domain has come to it. Assumes nothing.
+use mathlib.Core.Path.{_≡_, sym, _∙_, subst}
+use borrow.Author.Tests.{not-true, not-false}
+use borrow.Author.Needs.{needs}
+use Rattle.problem.specs.Problem.{liveCount, maxVariables}
 use Rattle.problem.specs.Held.{held}
 use Rattle.problem.specs.Masks.{stateOf, masksOf}
-use Rattle.held.specs.Ready.{Ready}
-use Rattle.start.specs.Parts.{maxTurns}
-use Rattle.start.proofs.Sweeps.{sweep-ready, settled-here, settled-last, settle-next}
-use borrow.Author.Needs.{needs}
-use native.Mathlib.Omega.{arith}
+use Rattle.start.specs.Parts.{pruneBelow}
+use Rattle.start.proofs.Sweeps.{Above, above-full, above-next, above-end, above-less}
 use Rattle.start.proofs.settle.Statement.{statement}
 use Rattle.start.proofs.settle.Tie as tie
 
 abbrev Inv-loop : tie.InvT-loop
-Inv-loop t kept₀ left₀ kept left = Ready t kept × (pruneTimes left (held t) (stateOf kept) ≡ pruneTimes maxTurns (held t) (stateOf kept₀))
+Inv-loop t kept₀ next₀ kept next = Above t kept × (next ≡ masksOf (pruneBelow maxVariables (held t) (stateOf kept)))
 
 abbrev μ-loop : tie.MeasureT-loop
-μ-loop t kept₀ left₀ kept left = left
+μ-loop t kept₀ next₀ kept next = liveCount (held t) (stateOf kept)
+
+full-masks-requires : tie.Need-full-masks-requires Inv-loop μ-loop
+full-masks-requires c κs = search needs
+
+first : (c : tie.After-full-masks Inv-loop μ-loop) → Above (c .before .before .args .t .now) (c .full-masks .result)
+first c = subst (Above _) (sym (c .full-masks .ensures)) (above-full (c .before .before .pre))
+
+sweep-requires : tie.Need-sweep-requires Inv-loop μ-loop
+sweep-requires c κs = first c .ready
 
 loop-holds : tie.Need-loop-holds Inv-loop μ-loop
-loop-holds c = (c .before .pre, refl)
-
-prune-once-requires : tie.Need-prune-once-requires Inv-loop μ-loop
-prune-once-requires c κs = c .before .loop .inv .0
+loop-holds c = (first (c .before), c .sweep .ensures)
 
 same-domains-requires : tie.Need-same-domains-requires Inv-loop μ-loop
 same-domains-requires c κs = search needs
 
-returns : tie.Need-returns Inv-loop μ-loop
-returns c =
-    let w = c .before .before .before .before .loop in
-    settled-here (w .inv .0) _ (c .before .before .prune-once .ensures) (sym (c .before .same-domains .ensures) ∙ c .if1 .taken) (w .left) ∙ ap masksOf (w .inv .1)
-
-sub-left : tie.Need-sub-left Inv-loop μ-loop
-sub-left c = search needs
+sweep-requires-2 : tie.Need-sweep-requires-2 Inv-loop μ-loop
+sweep-requires-2 c κs = let w = c .before .before .loop in above-next (w .inv .0) _ (w .inv .1) .ready
 
 loop-less : tie.Need-loop-less Inv-loop μ-loop
-loop-less c = search needs
+loop-less c = let w = c .before .before .before .loop in above-less (w .inv .0) _ (w .inv .1) (sym (c .before .before .same-domains .ensures) ∙ not-true _ (c .before .if1 .taken))
 
 loop-again : tie.Need-loop-again Inv-loop μ-loop
-loop-again c =
-    let w = c .before .before .before .before .loop in
-    let e = c .before .before .prune-once .ensures in
-    (rw e (sweep-ready (w .inv .0)), settle-next (w .inv .0) _ e (w .left) (omega arith) ∙ w .inv .1)
+loop-again c = let w = c .before .before .before .loop in (above-next (w .inv .0) _ (w .inv .1), c .sweep2 .ensures)
 
-returns-2 : tie.Need-returns-2 Inv-loop μ-loop
-returns-2 c = let w = c .before .loop in settled-last (w .inv .0) (w .left) (omega arith) ∙ ap masksOf (w .inv .1)
+returns : tie.Need-returns Inv-loop μ-loop
+returns c = let w = c .before .before .loop in above-end (w .inv .0) _ (w .inv .1) (sym (c .before .same-domains .ensures) ∙ not-false _ (c .if1 .left))
 
 pub settle-spec : {M : Type 1} → statement M
 settle-spec =
@@ -52,11 +49,11 @@ settle-spec =
     (tie.spec
     Inv-loop
     μ-loop
+    full-masks-requires
+    sweep-requires
     loop-holds
-    prune-once-requires
     same-domains-requires
-    returns
-    sub-left
+    sweep-requires-2
     loop-less
     loop-again
-    returns-2)
+    returns)
