@@ -15,7 +15,7 @@ use Rattle.bounded.specs.Bounded.{lowest}
 use Rattle.bounded.specs.Mask.{bit, maskOf}
 use Rattle.bounded.proofs.Truth.{T-ext, T-of, split, and-iff, not-iff, eqb-iff, ltb-iff, lt-dec}
 use Rattle.bounded.proofs.Bounded.{lowest-unique, lowest-le, lowest-least}
-use Rattle.bounded.proofs.Mask.{mask-lt, mask-is, mask-ext, bit-and, bit-mask-all, bit-none}
+use Rattle.bounded.proofs.Mask.{mask-lt, mask-is, mask-ext, bit-and, bit-mask-all}
 use Rattle.problem.specs.Problem.{Problem, sizeSum}
 use Rattle.problem.specs.Held.{rowWord, rowsAt, heldSize, heldVariables, heldValue, rowAllows, farFrom, heldRow, held, RowTable, Bounded, Two, Filled}
 use Rattle.problem.proofs.Count.{sizes-within}
@@ -94,10 +94,6 @@ held-value {t} R j c l =
 pub row-only : (P : Problem) (i j a x : ℕ) → x < 2 ^ 16 → ((c : ℕ) → c < 16 → bit x c ≡ P .allowed i a j c) → x ≡ rowWord P i j a
 unfolding rowWord
 row-only P i j a x l h = mask-is 16 x (P .allowed i a j) l h
-
--- where nothing is allowed it has none
-pub row-none : (P : Problem) (i j a : ℕ) → ((c : ℕ) → P .allowed i a j c ≡ false) → 0 ≡ rowWord P i j a
-row-none P i j a h = row-only P i j a 0 (omega arith) (λ c l. bit-none c ∙ sym (h c))
 
 pub row-lt : (P : Problem) (i j a : ℕ) → rowWord P i j a < 2 ^ 16
 unfolding rowWord

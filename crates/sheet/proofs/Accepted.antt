@@ -207,15 +207,6 @@ module _ (L : Layout) (s : List ℕ) where
       go true = le-ltb _ _ h
       go false = refl
 
-  -- an item that the sheet lacks has no settings, so one test is enough
-  pub listed-is : (i a : ℕ) → listed L s i a ≡ ltb a (sizeOf L s i)
-  unfolding listed
-  listed-is i a = go (ltb i (variablesOf s)) refl
-    where
-      go : (t : Bool) → ltb i (variablesOf s) ≡ t → (t && ltb a (sizeOf L s i)) ≡ ltb a (sizeOf L s i)
-      go true e = refl
-      go false e = sym (le-ltb a (sizeOf L s i) (let z = size-out i (ltb-false i (variablesOf s) e) in omega arith))
-
   -- allowed, of what the sheet lists and of what it does not
   allowed-case : (i a j b : ℕ) (t : Bool) → (listed L s i a && listed L s j b) ≡ t → allowedOf L s i a j b ≡ cond t (pairAllowed L s i a j b) false
   unfolding allowedOf

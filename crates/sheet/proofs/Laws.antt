@@ -7,7 +7,7 @@ use native.Mathlib.Nat.{add-zero, suc-mul, mul-le-mul, mul-le-mul-right}
 use native.Mathlib.Omega.{arith}
 use lib.ListN.{length}
 use lib.Dec.{eqb, ltb, leb}
-use borrow.Author.Tests.{ltb-true, ltb-false, leb-true, leb-false, eqb-true, eqb-false, lt-ltb, le-ltb, le-leb, lt-leb, eq-eqb, ne-eqb, not-false}
+use borrow.Author.Tests.{ltb-true, ltb-false, leb-true, leb-false, eqb-true, eqb-false, lt-ltb, le-ltb, lt-leb, eq-eqb, ne-eqb, not-false}
 use Rattle.bounded.proofs.Truth.{both, neither}
 use Rattle.sheet.specs.Bytes.{byteAt, numberAt}
 use Rattle.sheet.specs.Sheet.{Layout, versionOf, lengthOf, variablesOf, blocksOf, sizeAt, rowWidth, rowBytes, inOrder, beyond, allowsAll, faultIf, blockOf, blockAt, afterBlock, blocksFrom, badCount, badSizes, readSheet}
@@ -77,20 +77,6 @@ module _ (L : Layout) (s : List ℕ) where
   -- ---- the rows of a block
 
   module _ (w z : ℕ) where
-    beyond-step : (k p : ℕ) → 0 < k → beyond L s w z k p ≡ (leb (2 ^ z) (numberAt s w p) || beyond L s w z (k - 1) (p + w))
-    unfolding beyond
-    beyond-step k p h = ap (λ (x : ℕ). beyond L s w z x p) (pos h)
-
-    pub beyond-hit : (k p : ℕ) → 0 < k → 2 ^ z ≤ numberAt s w p → beyond L s w z k p ≡ true
-    beyond-hit k p h e = beyond-step k p h ∙ simp (le-leb _ _ e)
-
-    pub beyond-next : (k p : ℕ) → 0 < k → numberAt s w p < 2 ^ z → beyond L s w z k p ≡ beyond L s w z (k - 1) (p + w)
-    beyond-next k p h e = beyond-step k p h ∙ simp (lt-leb _ _ e)
-
-    pub beyond-end : (p : ℕ) → beyond L s w z 0 p ≡ false
-    unfolding beyond
-    beyond-end p = refl
-
     -- where no row has a bit beyond, each row is below 2 ^ z
     pub good-rows : (k p : ℕ) → beyond L s w z k p ≡ false → (a : ℕ) → a < k → numberAt s w (p + a * w) < 2 ^ z
     unfolding beyond
@@ -135,20 +121,6 @@ module _ (L : Layout) (s : List ℕ) where
         let m = suc-mul a w in
         let q : p + suc a * w ≡ p + w + a * w = omega arith in
         rw q (full-rows k (p + w) (f .1) a (omega arith))
-
-    all-step : (k p : ℕ) → 0 < k → allowsAll L s w z k p ≡ (eqb (numberAt s w p + 1) (2 ^ z) && allowsAll L s w z (k - 1) (p + w))
-    unfolding allowsAll
-    all-step k p h = ap (λ (x : ℕ). allowsAll L s w z x p) (pos h)
-
-    pub all-miss : (k p : ℕ) → 0 < k → (numberAt s w p + 1 ≡ 2 ^ z → ⊥) → allowsAll L s w z k p ≡ false
-    all-miss k p h e = all-step k p h ∙ simp (ne-eqb _ _ e)
-
-    pub all-next : (k p : ℕ) → 0 < k → numberAt s w p + 1 ≡ 2 ^ z → allowsAll L s w z k p ≡ allowsAll L s w z (k - 1) (p + w)
-    all-next k p h e = all-step k p h ∙ simp (eq-eqb _ _ e)
-
-    pub all-end : (p : ℕ) → allowsAll L s w z 0 p ≡ true
-    unfolding allowsAll
-    all-end p = refl
 
   -- ---- a block, in the order of its tests
 
