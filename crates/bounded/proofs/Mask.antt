@@ -2,18 +2,18 @@
 use Prim.Native.Nat.{ℕ, zero, suc, _+_, _-_, _*_, _/_, _%_, _^_, _<_, _≤_, min, max}
 use mathlib.Core.Path.{_≡_, refl, sym, ap, _∙_, subst}
 use mathlib.Core.Bool.{Bool, true, false, cond, not, _&&_, _||_, Bool·beq, and-true}
-use mathlib.Core.Logic.{_⊎_, ⊎-elim}
-use native.Mathlib.Nat.{not-suc-le-zero, one-mul, mul-comm, mul-assoc, add-mul-div-right, zero-div, lt-of-le-of-lt, div-eq-of-lt, pow-le-pow-right}
+use mathlib.Core.Logic.{_⊎_, inl, inr, ⊎-elim, _≢_}
+use native.Mathlib.Nat.{not-suc-le-zero, one-mul, mul-comm, mul-assoc, add-mul-div-right, zero-div, lt-of-le-of-lt, lt-of-lt-of-le, div-eq-of-lt, pow-le-pow-right}
 use native.Mathlib.Numerals.{add-one}
 use native.Mathlib.Omega.{arith}
 use lib.Dec.{T, eqb}
-use lib.Bits.{bitAnd, and-step, and-shr, and-le-l, and-le-r, bitOr, or-step, or-shr, or-zero-r, or-shifted-r}
-use lib.Count.{trailingZeros, under}
+use lib.Bits.{bitAnd, and-step, and-shr, and-le-l, and-le-r, bitOr, or-step, or-shr, or-lt, or-zero-r, or-shifted-r}
+use lib.Count.{leadingZeros, leading-top, trailingZeros, under}
 use lib.Pow.{shr-shr, pow-add, pow-mono, pow-pos, high}
 use borrow.Author.Tests.{eq-eqb, ne-eqb, eqb-true, eqb-false}
 use Rattle.bounded.specs.Bounded.{allBelow, anyBelow, lowest, atLowest, imp}
-use Rattle.bounded.specs.Mask.{bit, maskOf, without}
-use Rattle.bounded.proofs.Truth.{T-ext, T-of, and-iff, imp-iff, eqb-iff, split, clash, at-or-below, eq-dec, lt-dec}
+use Rattle.bounded.specs.Mask.{bit, maskOf, without, Highest}
+use Rattle.bounded.proofs.Truth.{T-ext, T-of, T-not, and-iff, or-iff, imp-iff, eqb-iff, split, clash, at-or-below, eq-dec, lt-dec}
 use Rattle.bounded.proofs.Bounded.{all-iff, lowest-here, lowest-later}
 use Rattle.bounded.proofs.Loops.{all-each, any-each, any-intro, at-lowest-some, at-lowest-end}
 
@@ -61,14 +61,17 @@ bit-or x y c =
 pub bit-none : (c : ℕ) → bit 0 c ≡ false
 bit-none c = ap (λ (n : ℕ). eqb (n % 2) 1) (zero-div (2 ^ c))
 
+pub member-some : (x c : ℕ) → T (bit x c) → x ≢ 0
+member-some x c t e = T-not (ap (λ (y : ℕ). bit y c) e ∙ bit-none c) t
+
 -- no bit is set above a number
 pub bit-high : (n x c : ℕ) → x < 2 ^ n → n ≤ c → bit x c ≡ false
 bit-high n x c h l =
     let q : x < 2 ^ c = lt-of-lt-of-le h (pow-le-pow-right (omega arith) l) in
     ap (λ (k : ℕ). eqb (k % 2) 1) (div-eq-of-lt q)
-  where
-    lt-of-lt-of-le : {a b c : ℕ} → a < b → b ≤ c → a < c
-    lt-of-lt-of-le p q = omega arith
+
+pub member-lt : (n x c : ℕ) → x < 2 ^ n → T (bit x c) → c < n
+member-lt n x c h t = ⊎-elim (λ l. l) (λ l. absurd (T-not (bit-high n x c h l) t)) (lt-dec c n)
 
 -- ---- sets with the same members are one number
 
@@ -154,10 +157,6 @@ pub mask-more : (n : ℕ) (f : ℕ → Bool) → maskOf (n + 1) f ≡ maskOf n f
 unfolding maskOf
 mask-more n f = rw (add-one n)
 
--- a loop that adds the weights of the members: one member more
-pub mask-next : (f : ℕ → Bool) (x n w : ℕ) (b : Bool) → x ≡ maskOf n f → w ≡ cond b (2 ^ n) 0 → b ≡ f n → x + w ≡ maskOf (n + 1) f
-mask-next f x n w b e h g = ap (λ (y : ℕ). y + w) e ∙ ap (λ (y : ℕ). maskOf n f + y) (h ∙ ap (λ (t : Bool). cond t (2 ^ n) 0) g) ∙ sym (mask-more n f)
-
 -- the set of all numbers below z, as a number
 mask-all : (z : ℕ) → maskOf z (λ _. true) ≡ 2 ^ z - 1
 unfolding maskOf
@@ -226,27 +225,29 @@ without-met n x y l m =
 
 -- ---- one bit, by `&` and `|` with a power of 2
 
--- a power of 2 is the set of one number: one computed test
-singles : allBelow 16 (λ b. eqb (2 ^ b) (maskOf 16 (λ c. eqb c b))) ≡ true
-unfolding allBelow maskOf
-singles = refl
-
-pub bit-single : (b c : ℕ) → b < 16 → c < 16 → bit (2 ^ b) c ≡ eqb c b
-bit-single b c l m =
-    let e : 2 ^ b ≡ maskOf 16 (λ c. eqb c b) = eqb-true _ _ (all-each (λ b. eqb (2 ^ b) (maskOf 16 (λ c. eqb c b))) 16 singles b l) in
-    ap (λ (x : ℕ). bit x c) e ∙ bit-mask 16 (λ c. eqb c b) c m
+-- a power of 2 is the set of one number
+pub bit-single : (b c : ℕ) → bit (2 ^ b) c ≡ eqb c b
+bit-single b c =
+    let z : 2 ^ b ≡ 0 + 2 ^ b = omega arith in
+    ⊎-elim
+    (λ l. ap (λ (k : ℕ). bit k c) z ∙ bit-low b 0 c true l ∙ bit-none c ∙ sym (ne-eqb c b (λ e. absurd (omega arith))))
+    (λ l. ⊎-elim
+    (λ e. ap (λ (k : ℕ). bit (2 ^ b) k) e ∙ ap (λ (k : ℕ). bit k b) z ∙ bit-top b 0 true (pow-pos b) ∙ sym (eq-eqb c b e))
+    (λ d. bit-high (suc b) (2 ^ b) c (omega (arith, double b, pow-pos b)) (omega arith) ∙ sym (ne-eqb c b d))
+    (eq-dec c b))
+    (lt-dec c b)
 
 and-zero : (t : Bool) → (t && false) ≡ false
 and-zero true = refl
 and-zero false = refl
 
-one-bit : (x b c : ℕ) → b < 16 → c < 16 → bit (bitAnd x (2 ^ b)) c ≡ (bit x c && eqb c b)
-one-bit x b c l m = bit-and x (2 ^ b) c ∙ ap (λ (t : Bool). bit x c && t) (bit-single b c l m)
+one-bit : (x b c : ℕ) → bit (bitAnd x (2 ^ b)) c ≡ (bit x c && eqb c b)
+one-bit x b c = bit-and x (2 ^ b) c ∙ ap (λ (t : Bool). bit x c && t) (bit-single b c)
 
 -- `x & (1 << b) == 0`
-pub bit-miss : (x b : ℕ) → b < 16 → bitAnd x (2 ^ b) ≡ 0 → bit x b ≡ false
-bit-miss x b l e =
-    sym (and-true (bit x b)) ∙ ap (λ (t : Bool). bit x b && t) (sym (eq-eqb b b refl)) ∙ sym (one-bit x b b l l) ∙ ap (λ (y : ℕ). bit y b) e ∙ bit-none b
+pub bit-miss : (x b : ℕ) → bitAnd x (2 ^ b) ≡ 0 → bit x b ≡ false
+bit-miss x b e =
+    sym (and-true (bit x b)) ∙ ap (λ (t : Bool). bit x b && t) (sym (eq-eqb b b refl)) ∙ sym (one-bit x b b) ∙ ap (λ (y : ℕ). bit y b) e ∙ bit-none b
 
 -- `x & (1 << b) != 0`
 pub bit-hit : (x b : ℕ) → b < 16 → (bitAnd x (2 ^ b) ≡ 0 → ⊥) → bit x b ≡ true
@@ -256,7 +257,7 @@ bit-hit x b l h =
     (λ t.
     let q : 2 ^ b ≤ 2 ^ 15 = pow-mono {j = 15} (omega arith) in
     let r = and-le-r x (2 ^ b) in
-    absurd (h (mask-ext 16 (bitAnd x (2 ^ b)) 0 (omega arith) (omega arith) (λ c m. one-bit x b c l m ∙ none c t ∙ sym (bit-none c)))))
+    absurd (h (mask-ext 16 (bitAnd x (2 ^ b)) 0 (omega arith) (omega arith) (λ c m. one-bit x b c ∙ none c t ∙ sym (bit-none c)))))
     (split (bit x b))
   where
     none : (c : ℕ) → bit x b ≡ false → (bit x c && eqb c b) ≡ false
@@ -275,6 +276,23 @@ mask-or f w n y e h = ap (λ (v : ℕ). bitOr v y) e ∙ ap (λ (v : ℕ). bitOr
         let q = or-shifted-r 1 n (maskOf n f) (mask-lt n f) in
         ap (λ (v : ℕ). bitOr (maskOf n f) v) (sym (one-mul (2 ^ n))) ∙ q ∙ (let z : 1 * 2 ^ n + maskOf n f ≡ maskOf n f + 2 ^ n = omega arith in z)
     go false = or-zero-r (maskOf n f) ∙ (let z : maskOf n f ≡ maskOf n f + 0 = omega arith in z)
+
+-- ---- one member put in
+
+pub bit-with : (x b c : ℕ) → bit (bitOr x (2 ^ b)) c ≡ (bit x c || eqb c b)
+bit-with x b c = bit-or x (2 ^ b) c ∙ ap (λ (t : Bool). bit x c || t) (bit-single b c)
+
+pub with-keeps : (x b c : ℕ) → T (bit x c) → T (bit (bitOr x (2 ^ b)) c)
+with-keeps x b c t = subst T (sym (bit-with x b c)) (or-iff (bit x c) (eqb c b) .1 (inl t))
+
+pub with-has : (x b : ℕ) → T (bit (bitOr x (2 ^ b)) b)
+with-has x b = subst T (sym (bit-with x b b)) (or-iff (bit x b) (eqb b b) .1 (inr (eqb-iff b b .1 refl)))
+
+pub with-or : (x b c : ℕ) → T (bit (bitOr x (2 ^ b)) c) → T (bit x c) ⊎ (c ≡ b)
+with-or x b c t = ⊎-elim (λ h. inl h) (λ h. inr (eqb-iff c b .0 h)) (or-iff (bit x c) (eqb c b) .0 (subst T (bit-with x b c) t))
+
+pub with-lt : (n x b : ℕ) → x < 2 ^ n → b < n → bitOr x (2 ^ b) < 2 ^ n
+with-lt n x b l m = or-lt n x (2 ^ b) l (lt-of-lt-of-le (omega (arith, double b, pow-pos b)) (pow-le-pow-right (omega arith) m))
 
 -- ---- two sets side by side
 
@@ -324,6 +342,21 @@ within n x y h =
       λ t. all-iff n _ .1 (λ c l. imp-iff (bit x c) (bit y c) .1 (λ u. and-iff (bit x c) (bit y c) .0 (subst T (bit-and x y c) (subst (λ (z : ℕ). T (bit z c)) (sym (eqb-iff (bitAnd x y) x .0 t)) u)) .1)),
       λ t. eqb-iff (bitAnd x y) x .1 (mask-ext n (bitAnd x y) x (lt-of-le-of-lt (and-le-l x y) h) h (λ c l. bit-and x y c ∙ T-ext (λ u. and-iff (bit x c) (bit y c) .0 u .0, λ u. and-iff (bit x c) (bit y c) .1 (u, imp-iff (bit x c) (bit y c) .0 (all-iff n _ .0 t c l) u)))),
     )
+
+-- the highest member stands below the zeros
+pub zeros-highest : (n x r : ℕ) → x < 2 ^ n → x ≢ 0 → leadingZeros n x + suc r ≡ n → Highest n x r
+zeros-highest n x r l d e =
+    let t = leading-top n x (omega arith) l in
+    let q : t .0 ≡ r = omega (arith, t .1) in
+    subst (Highest n x) q (record {
+      small = omega (arith, t .1);
+      member = T-of (let z : x - 2 ^ t .0 + 2 ^ t .0 ≡ x = omega (arith, t .2) in ap (λ (y : ℕ). bit y (t .0)) (sym z) ∙ bit-top (t .0) (x - 2 ^ t .0) true (omega (arith, t .2, t .3, double (t .0))));
+      none-above = λ c h k on. T-not (bit-high (suc (t .0)) x c (t .3) h) on;
+    })
+
+-- and there are fewer of them than places
+pub zeros-less : (n x : ℕ) → x < 2 ^ n → x ≢ 0 → leadingZeros n x < n
+zeros-less n x l d = let t = leading-top n x (omega arith) l in omega (arith, t .1)
 
 -- a set that is 0 has no member
 pub zero-bits : (n x : ℕ) → x < 2 ^ n → eqb x 0 ≡ not (anyBelow n (bit x))

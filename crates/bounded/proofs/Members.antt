@@ -1,4 +1,4 @@
--- Sets as numbers: a part is no greater, and a loop may take the lowest member out until none is left. Assumes nothing.
+-- Sets as numbers: a part is no greater, and a loop may take the lowest or the highest member out until none is left. Assumes nothing.
 use mathlib.Core.Path.{_≡_, refl, sym, ap, _∙_, subst}
 use mathlib.Core.Bool.{Bool, false, not, _&&_}
 use mathlib.Core.Logic.{_⊎_, inl, inr, _≢_, ⊎-elim}
@@ -9,10 +9,10 @@ use lib.Bits.{bitAnd, and-le-l, and-le-r}
 use lib.Dec.{T, eqb}
 use borrow.Author.Tests.{ne-eqb}
 use Rattle.bounded.specs.Bounded.{anyBelow, lowest}
-use Rattle.bounded.specs.Mask.{bit, without}
+use Rattle.bounded.specs.Mask.{bit, without, Highest}
 use Rattle.bounded.proofs.Truth.{T-of, T-not, split, clash, and-iff, imp-iff, not-iff, eqb-iff, eq-dec}
 use Rattle.bounded.proofs.Bounded.{all-iff, any-iff, lowest-is, lowest-le, lowest-least}
-use Rattle.bounded.proofs.Mask.{bit-and, bit-none, within, zero-bits}
+use Rattle.bounded.proofs.Mask.{bit-and, member-some, within, zero-bits}
 
 -- the lowest member of a set that is not empty
 pub lowest-member : (n x : ℕ) → x < 2 ^ n → x ≢ 0 → (lowest n (bit x) < n) × T (bit x (lowest n (bit x)))
@@ -46,7 +46,7 @@ module _ (n : ℕ) (law : (x b c : ℕ) → b < n → c < n → bit (without n x
   without-less : x < 2 ^ n → T (bit x b) → without n x b < x
   without-less m on = part-lt n (without n x b) x b (lt-of-le-of-lt (and-le-l x _) m) (λ c k. without-part n x b c) on (λ t. without-other b l t refl)
 
--- ---- a loop that takes the lowest member out each turn
+-- ---- a loop that takes a member out each turn
 
 -- what is left of a set of numbers below n
 pub record Left (n set rest : ℕ) : Type 0 where
@@ -69,6 +69,10 @@ left-lowest n law {set} {rest} {b} L d e =
     let k : b < n = omega (arith, m .0) in
     let on : T (bit rest b) = subst (λ (c : ℕ). T (bit rest c)) (sym e) (m .1) in
     (k, on, without-less n law rest b k (L .small) on)
+
+-- the highest member likewise
+pub left-highest : (n : ℕ) → ((x b c : ℕ) → b < n → c < n → bit (without n x b) c ≡ (bit x c && not (eqb c b))) → {set rest b : ℕ} → Left n set rest → Highest n rest b → (b < n) × T (bit rest b) × (without n rest b < rest)
+left-highest n law {set} {rest} {b} L H = (H .small, H .member, without-less n law rest b (H .small) (L .small) (H .member))
 
 -- a set that is without b has only others
 pub left-other : (n : ℕ) → ((x b c : ℕ) → b < n → c < n → bit (without n x b) c ≡ (bit x c && not (eqb c b))) → {set rest c : ℕ} (x b : ℕ) → Left n set rest → set ≡ without n x b → b < n → c < n → T (bit rest c) → c ≢ b
@@ -98,4 +102,4 @@ sought-least {n} {f} {set} {rest} {b} S e c l t = let q = lowest-le n (bit rest)
 
 -- none left: it holds at none
 pub sought-none : {n : ℕ} {f : ℕ → Bool} {set rest : ℕ} → Sought n f set rest → rest ≡ 0 → (c : ℕ) → c < n → T (f c) → ⊥
-sought-none {n} {f} {set} {rest} S e c l t = T-not (ap (λ (x : ℕ). bit x c) e ∙ bit-none c) (S .all c l t)
+sought-none {n} {f} {set} {rest} S e c l t = member-some rest c (S .all c l t) e

@@ -1,8 +1,8 @@
 -- Sets of small numbers as one number: c is in the set where the bit worth 2 ^ c is set.
 use mathlib.Core.Bool.{Bool, cond}
-use Prim.Native.Nat.{ℕ, zero, suc, _+_, _-_, _/_, _%_, _^_}
+use Prim.Native.Nat.{ℕ, zero, suc, _+_, _-_, _/_, _%_, _^_, _<_}
 use lib.Bits.{bitAnd}
-use lib.Dec.{eqb}
+use lib.Dec.{T, eqb}
 
 -- the bit of x worth 2 ^ c
 abbrev pub bit : ℕ → ℕ → Bool
@@ -16,3 +16,9 @@ maskOf (suc n) f = maskOf n f + cond (f n) (2 ^ n) 0
 -- x without b, for sets of numbers below n
 abbrev pub without : ℕ → ℕ → ℕ → ℕ
 without n x b = bitAnd x (2 ^ n - 1 - 2 ^ b)
+
+-- r is the highest member of a set of numbers below n
+pub record Highest (n x r : ℕ) : Type 0 where
+  pub small : r < n
+  pub member : T (bit x r)
+  pub none-above : (c : ℕ) → r < c → c < n → T (bit x c) → ⊥

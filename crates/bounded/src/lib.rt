@@ -1,9 +1,11 @@
 // Sets of small numbers as masks.
 ghost use mathlib.Core.Path.{_≡_};
 ghost use mathlib.Core.Bool.{cond};
+ghost use mathlib.Core.Logic.{_≢_};
 ghost use Prim.Native.Nat.{_^_, _<_, _≤_};
+ghost use lib.Bits.{bitOr};
 ghost use Rattle.bounded.specs.Bounded.{lowest};
-ghost use Rattle.bounded.specs.Mask.{bit, without as withoutOf};
+ghost use Rattle.bounded.specs.Mask.{bit, without as withoutOf, Highest};
 
 // Whether c is in a set of 32.
 pub fn has32(x: u32, c: usize) -> bool
@@ -37,6 +39,22 @@ pub fn without32(x: u32, b: usize) -> u32
     x & !(1u32 << b)
 }
 
+// A set of 16 with b.
+pub fn with16(x: u16, b: usize) -> u16
+    requires { ⌜ b < 16 ⌝ }
+    ensures { λ r. ⌜ r ≡ bitOr x (2 ^ b) ⌝ }
+{
+    x | (1u16 << b)
+}
+
+// A set of 32 with b.
+pub fn with32(x: u32, b: usize) -> u32
+    requires { ⌜ b < 32 ⌝ }
+    ensures { λ r. ⌜ r ≡ bitOr x (2 ^ b) ⌝ }
+{
+    x | (1u32 << b)
+}
+
 // The lowest member of a set of 16; 16 where it has none.
 pub fn lowest16(x: u16) -> usize
     ensures { λ r. ⌜ r ≡ lowest 16 (bit x) ⌝ }
@@ -49,6 +67,22 @@ pub fn lowest32(x: u32) -> usize
     ensures { λ r. ⌜ r ≡ lowest 32 (bit x) ⌝ }
 {
     u32::trailing_zeros(x) as usize
+}
+
+// The highest member of a set of 16 that is not empty.
+pub fn highest16(x: u16) -> usize
+    requires { ⌜ x ≢ 0 ⌝ }
+    ensures { λ r. ⌜ Highest 16 x r ⌝ }
+{
+    15 - u16::leading_zeros(x) as usize
+}
+
+// The highest member of a set of 32 that is not empty.
+pub fn highest32(x: u32) -> usize
+    requires { ⌜ x ≢ 0 ⌝ }
+    ensures { λ r. ⌜ Highest 32 x r ⌝ }
+{
+    31 - u32::leading_zeros(x) as usize
 }
 
 // 2 to the power z.

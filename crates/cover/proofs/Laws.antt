@@ -4,15 +4,16 @@ use mathlib.Core.Bool.{Bool, true, false, not, _&&_}
 use mathlib.Core.Logic.{_⊎_, inl, inr, ⊎-elim, _≢_, _↔_, Iff·rfl}
 use mathlib.Core.List.{List}
 use Prim.Native.Nat.{ℕ, _+_, _-_, _^_, _<_}
-use lib.Dec.{T, eqb}
+use lib.Dec.{T}
 use native.Mathlib.Nat.{lt-trans, lt-of-le-of-lt}
 use lib.Bits.{bitAnd, and-le-l}
 use lib.ListN.{getD}
-use Rattle.bounded.specs.Bounded.{imp, allBelow, atLowest}
+use Rattle.bounded.specs.Bounded.{imp, allBelow, lowest, atLowest}
 use Rattle.bounded.specs.Mask.{bit, without}
-use Rattle.bounded.proofs.Truth.{T-ext, T-of, T-not, T-false, T-true, split, clash, and-iff, imp-iff, imp-fails, not-iff, eqb-iff}
+use Rattle.bounded.proofs.Truth.{T-ext, T-not, T-false, T-true, split, clash, and-iff, imp-iff, imp-fails, not-iff, eqb-iff}
 use Rattle.bounded.proofs.Bounded.{all-iff, any-iff}
-use Rattle.bounded.proofs.Mask.{bit-and, bit-not16, bit-without32, without-met, within}
+use Rattle.bounded.proofs.Mask.{bit-and, bit-not16, bit-mask, bit-without32, mask-lt, member-lt, member-some, without-met}
+use Rattle.bounded.proofs.Members.{lowest-member}
 use Rattle.bounded.proofs.Loops.{all-intro, all-fail, lowest-or, at-lowest-is, at-lowest-none, at-lowest-same, at-lowest-ext}
 use Rattle.problem.specs.Problem.{Problem, State, allOther, allThird, unspoilt, breakAt, unbroken, spoils, spoiler, breaks, firstBreak}
 use Rattle.problem.specs.Held.{rowWord, rowsAt, held}
@@ -25,8 +26,8 @@ use Rattle.problem.specs.declared.Break.the-variants.{Nowhere}
 use Rattle.problem.proofs.Reflect.{Fits, allOther-iff, allThird-iff, Substitutes, spoils-iff, unspoilt-iff}
 use Rattle.problem.proofs.Spoiler.{breaks-iff}
 use Rattle.problem.proofs.HeldTable.{row-lt, row-met}
-use Rattle.held.specs.Ready.{Ready, Value, Near, Among}
-use Rattle.cover.specs.Words.{spoilerIn, firstBreakIn, coversIn, servedIn, allServedIn, others, thirds}
+use Rattle.held.specs.Ready.{Ready, Value, Near}
+use Rattle.cover.specs.Words.{spoilerIn, firstBreakIn, coversIn, serversIn, servedIn, allServedIn, others, thirds}
 use Rattle.held.proofs.Laws.{row-says, near-free, part-values, live-value, domain-values, active-32, word-iff, word-lt}
 
 -- ---- the first break in a set
@@ -81,6 +82,10 @@ module _ (P : Problem) (s : State) (rest i a j b : ℕ) where
           ap unbroken (at-lowest-none f g Nowhere 32 h)
           ∙ sym (all-intro (λ l. unspoilt (x l)) 32 (λ l k. elim (split (unspoilt (x l))) [ inl e ↦ e | inr e ↦ absurd (h l k (not-iff (unspoilt (x l)) .1 (T-not e))) ]))
 
+pub servers-lt : (P : Problem) (s : State) (rest good i j w : ℕ) → serversIn P s rest good i j w < 2 ^ 16
+unfolding serversIn
+servers-lt P s rest good i j w = mask-lt 16 (λ u. bit good u && coversIn P s rest i u j w)
+
 module _ {P : Problem} {s : State} (F : Fits P s) where
   pub coversIn-iff : (rest i a j b : ℕ) → T (coversIn P s rest i a j b) ↔ ((l : ℕ) → l < 32 → T (bit rest l) → Substitutes P s i a j b l)
   coversIn-iff rest i a j b = rw (covers-all P s rest i a j b) (simp (all-iff, imp-iff, unspoilt-iff F) Iff·rfl)
@@ -89,16 +94,30 @@ module _ {P : Problem} {s : State} (F : Fits P s) where
   unfolding servedIn
   servedIn-iff rest good i j w = simp (any-iff, and-iff, coversIn-iff) Iff·rfl
 
+  pub serversIn-iff : (rest good i j w u : ℕ) → T (bit (serversIn P s rest good i j w) u) ↔ ((u < 16) × T (bit good u) × ((l : ℕ) → l < 32 → T (bit rest l) → Substitutes P s i u j w l))
+  unfolding serversIn
+  serversIn-iff rest good i j w u = (
+    λ h. let k = member-lt 16 _ u (servers-lt P s rest good i j w) h in
+        let y = and-iff (bit good u) (coversIn P s rest i u j w) .0 (subst T (bit-mask 16 f u k) h) in
+        (k, y .0, coversIn-iff rest i u j w .0 (y .1)),
+    λ y. subst T (sym (bit-mask 16 f u (y .0))) (and-iff (bit good u) (coversIn P s rest i u j w) .1 (y .1, coversIn-iff rest i u j w .1 (y .2))),
+  )
+    where
+      f : ℕ → Bool
+      f u = bit good u && coversIn P s rest i u j w
+
+  -- none left: no value of the set covers; some left: one does
+  pub servers-none : (rest good i j w : ℕ) → serversIn P s rest good i j w ≡ 0 → (u : ℕ) → u < 16 → T (bit good u) → ((l : ℕ) → l < 32 → T (bit rest l) → Substitutes P s i u j w l) → ⊥
+  servers-none rest good i j w e u k on h = member-some _ u (serversIn-iff rest good i j w u .1 (k, on, h)) e
+
+  pub servers-some : (rest good i j w : ℕ) → serversIn P s rest good i j w ≢ 0 → (u : ℕ) × (u < 16) × (T (bit good u) × ((l : ℕ) → l < 32 → T (bit rest l) → Substitutes P s i u j w l))
+  servers-some rest good i j w d =
+      let y = serversIn-iff rest good i j w _ .0 (lowest-member 16 (serversIn P s rest good i j w) (servers-lt P s rest good i j w) d .1) in
+      (lowest 16 (bit (serversIn P s rest good i j w)), y .0, (y .1, y .2))
+
   pub allServedIn-iff : (rest good bad j : ℕ) → T (allServedIn P s rest good bad j) ↔ ((w : ℕ) → w < 16 → (T (bit bad w) × (T (bit good w) → ⊥)) → ((u : ℕ) × (u < 16) × (T (bit good u) × ((l : ℕ) → l < 32 → T (bit rest l) → Substitutes P s j u j w l))))
   unfolding allServedIn
   allServedIn-iff rest good bad j = simp (all-iff, imp-iff, and-iff, not-iff, servedIn-iff) Iff·rfl
-
--- every value of `bad` is in `good`: nothing is left to serve
-pub all-served-within : (P : Problem) (s : State) (rest good bad j : ℕ) → bad < 2 ^ 16 → eqb (bitAnd bad good) bad ≡ true → allServedIn P s rest good bad j ≡ true
-unfolding allServedIn
-all-served-within P s rest good bad j l e =
-    let h = simp (all-iff, imp-iff) at (T-of (sym (within 16 bad good l) ∙ e)) in
-    T-true _ (simp (all-iff, imp-iff, and-iff, not-iff) (λ w k x. absurd (x .1 (h w k (x .0)))))
 
 pub others-iff : (x i l : ℕ) → i < 32 → l < 32 → T (bit (others x i) l) ↔ (T (bit x l) × (l ≢ i))
 others-iff x i l p k = rw (bit-without32 x i l p k) (simp (and-iff, not-iff, eqb-iff) Iff·rfl)
@@ -241,10 +260,12 @@ module _ {t : List ℕ} {m : Masks} (R : Ready t m) where
           at-lowest-none f g Nowhere 32 none
           ∙ sym (at-lowest-none (breaks P (stateOf m) i b a) h Nowhere (P .n) (λ l q u. let k = active-32 R l (breaks-iff (R .fits) i b a l .0 u .0) in none l k (of l k u)))
 
-  -- a variable that has no block with i spoils no cover by a value of i
+  -- at a variable that has no block with i every value of i covers
+  pub near-covers : (i a j b x : ℕ) → Value t i a → Near t i x → (l : ℕ) → l < 32 → l ≢ i → bit x l ≡ false → Substitutes (held t) (stateOf m) i a j b l
+  near-covers i a j b x v near l k d e c o al = near-free (R .table) i a l x v near k d e c (R .fits .live-lt l c o)
+
   near-spoiler : (i a j b x : ℕ) → Value t i a → Near t i x → (l : ℕ) → l < 32 → l ≢ i → bit x l ≡ false → spoiler (held t) (stateOf m) i a j b l ≡ Holds
-  near-spoiler i a j b x v near l k d e =
-      holds-is _ (unspoilt-iff (R .fits) i a j b l .1 (λ c o al. near-free (R .table) i a l x v near k d e c (R .fits .live-lt l c o)))
+  near-spoiler i a j b x v near l k d e = holds-is _ (unspoilt-iff (R .fits) i a j b l .1 (near-covers i a j b x v near l k d e))
 
   -- so the first break among the neighbours of i is the first break
   module _ (rest i a j b x : ℕ) (v : Value t i a) (near : Near t i x) (out : bit rest i ≡ false) where
@@ -261,22 +282,6 @@ module _ {t : List ℕ} {m : Masks} (R : Ready t m) where
     pub near-break : firstBreakIn (held t) (stateOf m) (bitAnd rest x) i a j b ≡ firstBreakIn (held t) (stateOf m) rest i a j b
     unfolding firstBreakIn
     near-break = at-lowest-ext 32 _ _ _ _ Nowhere (λ l k. ap (λ (y : Cover). not (unspoilt y)) (near-in l k)) (λ l k. ap (breakAt l) (near-in l k))
-
-  -- and a value that serves there serves
-  pub near-served : (rest good i j w x : ℕ) → Among m i good → Near t i x → bit rest i ≡ false → servedIn (held t) (stateOf m) (bitAnd rest x) good i j w ≡ servedIn (held t) (stateOf m) rest good i j w
-  unfolding servedIn
-  near-served rest good i j w x among near out =
-      T-ext (
-        λ h. let y = any-iff 16 _ .0 h in any-iff 16 _ .1 (y .0, y .1, subst T (same (y .0)) (y .2)),
-        λ h. let y = any-iff 16 _ .0 h in any-iff 16 _ .1 (y .0, y .1, subst T (sym (same (y .0))) (y .2)),
-      )
-    where
-      same : (u : ℕ) → (bit good u && coversIn (held t) (stateOf m) (bitAnd rest x) i u j w) ≡ (bit good u && coversIn (held t) (stateOf m) rest i u j w)
-      same u =
-          ⊎-elim
-          (λ e. ap (λ (y : Break). bit good u && unbroken y) (near-break rest i u j w x (live-value R i u (among .live u (T-of e))) near out))
-          (λ e. rw e)
-          (split (bit good u))
 
   -- the same with a set that is known to be the others
   pub other-by : (rest i : ℕ) → rest ≡ others (m .active) i → i < 32 → (f : ℕ → Bool) → allBelow 32 (λ l. imp (bit rest l) (f l)) ≡ allOther (held t) (stateOf m) i f

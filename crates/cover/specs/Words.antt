@@ -29,6 +29,10 @@ module _ (P : Problem) (s : State) where
   abbrev pub coversIn : (rest i a j b : ℕ) → Bool
   coversIn rest i a j b = unbroken (firstBreakIn rest i a j b)
 
+  -- those of a set of values of i that cover w of j at each variable of the set `rest`
+  unfoldable pub serversIn : (rest good i j w : ℕ) → ℕ
+  serversIn rest good i j w = maskOf maxValues (λ u. bit good u && coversIn rest i u j w)
+
   -- some u of i, of a set of values, covers w of j at each variable of the set `rest`
   unfoldable pub servedIn : (rest good i j w : ℕ) → Bool
   servedIn rest good i j w = anyBelow 16 (λ u. bit good u && coversIn rest i u j w)

@@ -1,21 +1,24 @@
 // Covering, the format's word for one value in another's place, over a lent table of rows: what spoils it at one variable, where it breaks
-// first in a set of them, and some value of a set that covers.
+// first in a set of them, which values of a set cover, and where the others break.
 ghost use mathlib.Core.Path.{_≡_};
-ghost use mathlib.Core.Bool.{_&&_, not, true, false};
+ghost use mathlib.Core.Bool.{cond, true, false};
 ghost use mathlib.Core.Logic.{_≢_};
-ghost use Prim.Native.Nat.{_<_, _≤_, _+_};
-ghost use lib.Bits.{bitAnd};
-ghost use Rattle.bounded.specs.Bounded.{imp};
+ghost use Prim.Native.Nat.{_<_, _≤_, _+_, _^_};
+ghost use lib.Bits.{bitAnd, bitOr};
 ghost use Rattle.bounded.specs.Mask.{bit};
 ghost use Rattle.problem.specs.Problem.{spoiler as spoilerAt, breakAt};
 ghost use Rattle.problem.specs.Held.{tableLength, rowsAt, held, RowTable};
 ghost use Rattle.problem.specs.Masks.{stateOf, sets};
 ghost use Rattle.held.specs.Ready.{Ready, Value, Values, Among};
-ghost use Rattle.cover.specs.Words.{firstBreakIn, allowedWith, servedIn, allServedIn, thirds};
-use bounded::has16;
+ghost use Rattle.cover.specs.Words.{firstBreakIn, allowedWith, serversIn, thirds};
+ghost use Rattle.cover.specs.Broken.{BrokenIn, UnservedIn};
+use bounded::highest16;
+use bounded::highest32;
 use bounded::lowest16;
 use bounded::lowest32;
 use bounded::weight;
+use bounded::with32;
+use bounded::without16;
 use bounded::without32;
 use held::neighbours;
 use held::row_among;
@@ -59,6 +62,20 @@ fn spoiler(
 }
 
 // ---- sets of variables
+
+// What is left of some values once each was asked to cover another, and the variables at which some of them did not.
+pub struct Candidates {
+    pub left: u16,
+    pub broken: u32,
+}
+
+// A set of 32 with l where t holds, else as it is.
+fn with32_if(x: u32, t: bool, l: usize) -> u32
+    requires { ⌜ l < 32 ⌝ }
+    ensures { λ r. ⌜ r ≡ cond t (bitOr x (2 ^ l)) x ⌝ }
+{
+    if t { with32(x, l) } else { x }
+}
 
 // The active variables other than i and j.
 pub fn third_set(active: u32, i: usize, j: usize) -> u32
@@ -145,9 +162,10 @@ fn allowed_with(t: &[u16], some: u16, x: u16, i: usize, l: usize) -> u16
     some & word
 }
 
-// Some value of i, of the set `good`, covers value w of j at each variable of `rest`. Only the neighbours of i are asked, one by one, each of
-// all values of `good` that are left.
-pub fn served(
+// Those of the values `good` of i that cover value w of j at each variable of `rest`, and where the others break. Only the neighbours of i
+// are asked, one by one and the highest first, each of all values that are left: a run works from the lowest variable up, so that what
+// breaks at a high one lasts.
+pub fn serving(
     t: &[u16],
     active: u32,
     on: &[u16; 32],
@@ -156,26 +174,28 @@ pub fn served(
     i: usize,
     j: usize,
     w: usize,
-) -> bool
+) -> Candidates
     requires { ⌜ Ready (now t) (sets active (now on)) × Among (sets active (now on)) i good × Value (now t) j w × (bit rest i ≡ false) × (bit rest j ≡ false) × (i < 32) ⌝ }
-    ensures { λ r. ⌜ r ≡ servedIn (held (now (t .entry))) (stateOf (sets active (now (on .entry)))) rest good i j w ⌝ }
+    ensures is { λ r. ⌜ r .left ≡ serversIn (held (now (t .entry))) (stateOf (sets active (now (on .entry)))) rest good i j w ⌝ }
+    ensures shown { λ r. ⌜ BrokenIn (held (now (t .entry))) (stateOf (sets active (now (on .entry)))) rest good (r .left) (r .broken) i j w ⌝ }
 {
     let mut some = good;
+    let mut broken: u32 = 0;
     let mut left = rest & neighbours(t, i);
-    while left != 0 {
-        let l = lowest32(left);
+    while (left != 0) & (some != 0) {
+        let l = highest32(left);
         let x = row_among(t, on[l], j, l, w);
-        some = allowed_with(t, some, x, i, l);
-        if some == 0 {
-            return false;
-        }
+        let next = allowed_with(t, some, x, i, l);
+        broken = with32_if(broken, next != some, l);
+        some = next;
         left = without32(left, l);
     }
-    some != 0
+    Candidates { left: some, broken }
 }
 
-// A value that is itself one of `good` needs no other in its place.
-fn served_if(
+// 0 where each value of `bad` that is not one of `good` is covered by one of `good` at each variable of `rest`; else j, and the variables
+// that break every candidate for one of them. The highest value is asked first.
+pub fn unserved(
     t: &[u16],
     active: u32,
     on: &[u16; 32],
@@ -183,57 +203,18 @@ fn served_if(
     good: u16,
     bad: u16,
     j: usize,
-    w: usize,
-) -> bool
-    requires { ⌜ Ready (now t) (sets active (now on)) × Among (sets active (now on)) j good × Among (sets active (now on)) j bad × (bit rest j ≡ false) × (w < 16) × (j < 32) ⌝ }
-    ensures { λ r. ⌜ r ≡ imp (bit bad w && not (bit good w)) (servedIn (held (now (t .entry))) (stateOf (sets active (now (on .entry)))) rest good j j w) ⌝ }
-{
-    if has16(bad, w) & !has16(good, w) {
-        served(t, active, on, rest, good, j, j, w)
-    } else {
-        true
-    }
-}
-
-fn each_served(
-    t: &[u16],
-    active: u32,
-    on: &[u16; 32],
-    rest: u32,
-    good: u16,
-    bad: u16,
-    j: usize,
-) -> bool
+) -> u32
     requires { ⌜ Ready (now t) (sets active (now on)) × Among (sets active (now on)) j good × Among (sets active (now on)) j bad × (bit rest j ≡ false) × (j < 32) ⌝ }
-    ensures { λ r. ⌜ r ≡ allServedIn (held (now (t .entry))) (stateOf (sets active (now (on .entry)))) rest good bad j ⌝ }
+    ensures { λ r. ⌜ UnservedIn (held (now (t .entry))) (stateOf (sets active (now (on .entry)))) rest good bad j r ⌝ }
 {
-    let mut w: usize = 0;
-    while w < 16 {
-        if !served_if(t, active, on, rest, good, bad, j, w) {
-            return false;
+    let mut left = bad & !good;
+    while left != 0 {
+        let w = highest16(left);
+        let found = serving(t, active, on, rest, good, j, j, w);
+        if found.left == 0 {
+            return with32(found.broken, j);
         }
-        w += 1;
+        left = without16(left, w);
     }
-    true
-}
-
-// Each value of `bad` that is not one of `good` is covered by one of `good` at each variable of `rest`. One comparison tells where
-// there is none to serve.
-pub fn all_served(
-    t: &[u16],
-    active: u32,
-    on: &[u16; 32],
-    rest: u32,
-    good: u16,
-    bad: u16,
-    j: usize,
-) -> bool
-    requires { ⌜ Ready (now t) (sets active (now on)) × Among (sets active (now on)) j good × Among (sets active (now on)) j bad × (bit rest j ≡ false) × (j < 32) ⌝ }
-    ensures { λ r. ⌜ r ≡ allServedIn (held (now (t .entry))) (stateOf (sets active (now (on .entry)))) rest good bad j ⌝ }
-{
-    if bad & good == bad {
-        true
-    } else {
-        each_served(t, active, on, rest, good, bad, j)
-    }
+    0
 }

@@ -3,7 +3,7 @@
 ghost use mathlib.Core.Path.{_≡_};
 ghost use mathlib.Core.Bool.{true, false};
 ghost use mathlib.Core.Logic.{_≢_};
-ghost use Prim.Native.Nat.{_<_, _≤_, _+_, _*_};
+ghost use Prim.Native.Nat.{_<_, _≤_, _+_, _*_, _^_};
 ghost use lib.Bits.{bitAnd};
 ghost use lib.Dec.{ltb};
 ghost use Rattle.bounded.specs.Bounded.{imp};
@@ -102,9 +102,10 @@ pub fn pair_allowed(t: &[u16], i: usize, a: usize, j: usize, b: usize) -> bool
     }
 }
 
-// Two sets of 16 as one of 32.
-fn joined(low: u16, high: u16) -> u32
-    ensures { λ r. ⌜ r ≡ low + 65536 * high ⌝ }
+// Two sets of 16 as one of 32. It tells too that the first is one of 16: of a word in a lent array a caller does not know that.
+pub fn joined(low: u16, high: u16) -> u32
+    ensures is { λ r. ⌜ r ≡ low + 65536 * high ⌝ }
+    ensures apart { λ _. ⌜ low < 2 ^ 16 ⌝ }
 {
     (low as u32) + 65536 * (high as u32)
 }

@@ -1,16 +1,19 @@
 // Kind 4, cover: the test for a neighbourhood substitution, and the search for the lowest step of the kind.
 ghost use mathlib.Core.Path.{_≡_};
-ghost use mathlib.Core.Bool.{false};
-ghost use Prim.Native.Nat.{_<_, _+_};
+ghost use Prim.Native.Nat.{_<_};
 ghost use Rattle.problem.specs.Problem.{neighbourhood as neighbourhoodHolds, firstBreak as firstBreakAt};
 ghost use Rattle.problem.specs.Held.{held};
 ghost use Rattle.problem.specs.Masks.{stateOf, sets};
 ghost use Rattle.problem.specs.Reduce.{nextNeighbourhood};
+ghost use Rattle.memory.specs.Memory.{Remembered};
 ghost use Rattle.held.specs.Ready.{Ready, Value};
-ghost use Rattle.neighbourhood.specs.Parts.{neighbourhoodValue, neighbourhoodVariable};
+ghost use Rattle.neighbourhood.specs.Parts.{neighbourhoodVariable};
 use bounded::has16;
-use bounded::has32;
+use bounded::lowest16;
+use bounded::without16;
 use bounded::without32;
+use cover::serving;
+use memory::learn;
 use problem::Break;
 use problem::Next;
 use problem::Record;
@@ -40,52 +43,58 @@ pub fn neighbourhood(t: &[u16], active: u32, on: &[u16; 32], i: usize, b: usize,
 
 // ---- the search
 
-// A field at a time, the lowest first. A variable that is not active and a value that is not in a domain make no step, so they are passed
-// over without a test.
+// A field at a time, the lowest first, of what is pending: what is not has failed, and what it rests on has not changed. The values that
+// cover b are found together, and the lowest is taken.
 
-// The lowest value that covers value b of i at every other variable.
-fn neighbourhood_value(t: &[u16], active: u32, on: &[u16; 32], i: usize, b: usize) -> Next
-    requires { ⌜ Ready (now t) (sets active (now on)) × (i < 32) × (b < 16) ⌝ }
-    ensures { λ r. ⌜ r ≡ neighbourhoodValue (held (now (t .entry))) (stateOf (sets active (now (on .entry)))) i b ⌝ }
+fn neighbourhood_variable(
+    t: &[u16],
+    active: u32,
+    on: &[u16; 32],
+    pending: &mut [u16; 160],
+    waiting: &mut [u16; 6144],
+    i: usize,
+) -> Next
+    requires { ⌜ Ready (now t) (sets active (now on)) × Remembered (held (now t)) (stateOf (sets active (now on))) (now pending) (now waiting) × (i < 32) ⌝ }
+    ensures is { λ r. ⌜ r ≡ neighbourhoodVariable (held (now (t .entry))) (stateOf (sets active (now (on .entry)))) i ⌝ }
+    ensures remembers { λ _. ⌜ Remembered (held (now (t .entry))) (stateOf (sets active (now (on .entry)))) (now (pending .exit)) (now (waiting .exit)) ⌝ }
 {
-    if !has16(on[i], b) {
-        return Next::Nothing;
-    }
-    let mut a: usize = 0;
-    while a < 16 {
-        if neighbourhood(t, active, on, i, b, a) {
-            return Next::Step(Record::Neighbourhood(i, b, a));
+    let domain = on[i];
+    let mut left = pending[96 + i] & domain;
+    while left != 0 {
+        let b = lowest16(left);
+        let found = serving(
+            t,
+            active,
+            on,
+            without32(active, i),
+            without16(domain, b),
+            i,
+            i,
+            b,
+        );
+        if found.left != 0 {
+            return Next::Step(Record::Neighbourhood(i, b, lowest16(found.left)));
         }
-        a += 1;
+        learn(pending, waiting, found.broken, 96 + i, b);
+        left = without16(left, b);
     }
     Next::Nothing
 }
 
-fn neighbourhood_variable(t: &[u16], active: u32, on: &[u16; 32], i: usize) -> Next
-    requires { ⌜ Ready (now t) (sets active (now on)) × (i < 32) ⌝ }
-    ensures { λ r. ⌜ r ≡ neighbourhoodVariable (held (now (t .entry))) (stateOf (sets active (now (on .entry)))) i ⌝ }
-{
-    if !has32(active, i) {
-        return Next::Nothing;
-    }
-    let mut b: usize = 0;
-    while b < 16 {
-        let found = neighbourhood_value(t, active, on, i, b);
-        if is_step(found) {
-            return found;
-        }
-        b += 1;
-    }
-    Next::Nothing
-}
-
-pub fn next_neighbourhood(t: &[u16], active: u32, on: &[u16; 32]) -> Next
-    requires { ⌜ Ready (now t) (sets active (now on)) ⌝ }
-    ensures { λ r. ⌜ r ≡ nextNeighbourhood (held (now (t .entry))) (stateOf (sets active (now (on .entry)))) ⌝ }
+pub fn next_neighbourhood(
+    t: &[u16],
+    active: u32,
+    on: &[u16; 32],
+    pending: &mut [u16; 160],
+    waiting: &mut [u16; 6144],
+) -> Next
+    requires { ⌜ Ready (now t) (sets active (now on)) × Remembered (held (now t)) (stateOf (sets active (now on))) (now pending) (now waiting) ⌝ }
+    ensures is { λ r. ⌜ r ≡ nextNeighbourhood (held (now (t .entry))) (stateOf (sets active (now (on .entry)))) ⌝ }
+    ensures remembers { λ _. ⌜ Remembered (held (now (t .entry))) (stateOf (sets active (now (on .entry)))) (now (pending .exit)) (now (waiting .exit)) ⌝ }
 {
     let mut i: usize = 0;
     while i < 32 {
-        let found = neighbourhood_variable(t, active, on, i);
+        let found = neighbourhood_variable(t, active, on, pending, waiting, i);
         if is_step(found) {
             return found;
         }

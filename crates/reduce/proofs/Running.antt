@@ -1,12 +1,14 @@
 -- The loop of the run: what holds before each turn, at its start, after a turn, and at its end. Assumes nothing.
 use mathlib.Core.Path.{_≡_, refl, sym, ap, _∙_, subst}
+use mathlib.Core.Bool.{true}
 use mathlib.Core.List.{List, [], _∷_, _++_, append-nil, append-assoc}
 use Prim.Native.Nat.{ℕ, suc, _+_, _*_, _≤_, _<_}
 use native.Mathlib.Omega.{arith}
-use lib.Dec.{T}
+use lib.Dec.{T, ltb}
 use lib.ListN.{length, set, length-append, length-set}
 use lib.Seq.{drop-set-lt}
-use Rattle.problem.specs.Problem.{Problem, State, full, liveCount, sizeSum}
+use Rattle.bounded.proofs.Truth.{T-true, and-iff, ltb-iff}
+use Rattle.problem.specs.Problem.{Problem, State, full, noneEmpty, liveCount, sizeSum}
 use Rattle.problem.specs.Reduce.{lawful, after, lawfulTraceBy, lawfulTrace, afterTrace, next, runBy, run, endOf}
 use Rattle.problem.specs.Held.{held, RowTable}
 use Rattle.problem.specs.Masks.{stateOf, masksOf}
@@ -14,7 +16,8 @@ use Rattle.problem.specs.declared.Masks.{Masks}
 use Rattle.problem.specs.declared.Record.{Record}
 use Rattle.problem.specs.declared.Record.the-variants.{Unsupported, Snake, Triangle, Neighbourhood, SnakeSubstitution}
 use Rattle.problem.specs.declared.Next.the-variants.{Step, Nothing}
-use Rattle.problem.proofs.Reflect.{Fits, full-fits}
+use Rattle.problem.proofs.Reflect.{Fits, full-fits, noneEmpty-iff}
+use Rattle.problem.proofs.HeldTable.{held-bounded}
 use Rattle.problem.proofs.Trace.{after-fits, lawful-iff, step-falls, trace-iff, trace-falls}
 use Rattle.problem.proofs.Count.{full-count}
 use Rattle.problem.proofs.Run.{next-lawful, run-step, run-stop, run-enough}
@@ -80,6 +83,13 @@ first-byte (x ∷ d) l = refl
 fronted-first : (l : List Record) (d : List ℕ) → fronted (traceBytes l) (set d 0 1) ≡ fronted (traceBytes l) d
 unfolding traceBytes
 fronted-first l d = ap (λ (x : List ℕ). (1 ∷ recordsBytes l) ++ x) (drop-set-lt (length (1 ∷ recordsBytes l)) d 0 1 (omega arith))
+
+-- every variable has a value at first
+pub first-lasts : {t : List ℕ} → RowTable t → noneEmpty (held t) (stateOf (masksOf (full (held t)))) ≡ true
+unfolding full
+first-lasts {t} R =
+    ap (noneEmpty (held t)) (full-says R)
+    ∙ T-true _ (noneEmpty-iff (full-fits (held t)) .1 (λ i h. (0, and-iff (ltb i ((held t) .n)) (ltb 0 ((held t) .size i)) .1 (h, ltb-iff 0 ((held t) .size i) .1 (held-bounded R .some i (ltb-iff i ((held t) .n) .0 h))))))
 
 pub running-start : (t d : List ℕ) → RowTable t → 1 + 5 * sizeSum (held t) ≤ length d → Running t (set d 0 1) (set d 0 1) (masksOf (full (held t))) 1 0
 unfolding afterTrace lawfulTraceBy traceBytes recordsBytes

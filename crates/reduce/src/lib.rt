@@ -1,7 +1,7 @@
 // The run of the format: step by step to its end, with its trace in a lent buffer. Variables are the format's items, values its settings.
 ghost use mathlib.Core.Path.{_≡_};
 ghost use mathlib.Core.List.{[]};
-ghost use Prim.Native.Nat.{_≤_, _<_, _+_, _*_};
+ghost use Prim.Native.Nat.{_≤_, _+_, _*_};
 ghost use lib.ListN.{length, set};
 ghost use Rattle.problem.specs.Problem.{sizeSum};
 ghost use Rattle.problem.specs.Reduce.{endOf};
@@ -17,9 +17,10 @@ use jobs::Reduced;
 use problem::End;
 use problem::Masks;
 use problem::Next;
+use search::advance;
 use search::next_step;
 use sheet::SheetRead;
-use steps::apply;
+use unsupported::first_bare;
 
 // ---- the end
 
@@ -54,13 +55,24 @@ pub fn run_table(t: &[u16], b: &mut [u8]) -> Reduced
 {
     write_version(b);
     let mut state = full_masks(t);
+    let mut bare = [0u16; 32];
+    first_bare(t, state.active, &state.domains, &mut bare);
+    let mut pending = [65535u16; 160];
+    let mut waiting = [0u16; 6144];
     let mut at: usize = 1;
     let mut steps: usize = 0;
     loop {
-        match next_step(t, state.active, &state.domains) {
+        match next_step(
+            t,
+            state.active,
+            &state.domains,
+            &bare,
+            &mut pending,
+            &mut waiting,
+        ) {
             Next::Step(r) => {
                 at = trace::write_record(b, at, r);
-                state = apply(t, state, r);
+                state = advance(t, state, &mut bare, &mut pending, &mut waiting, r);
                 steps += 1;
             }
             Next::Nothing => {

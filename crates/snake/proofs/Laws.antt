@@ -1,58 +1,109 @@
--- The snake rule over words, and the search for a snake step. Assumes nothing.
-use mathlib.Core.Path.{_≡_}
-use mathlib.Core.Bool.{false, not}
-use mathlib.Core.Logic.{_↔_, Iff·rfl, ⊎-elim}
+-- The snake rule over words, what its failure rests on, and the search for a snake step. Assumes nothing.
+use mathlib.Core.Path.{_≡_, sym, _∙_, subst}
+use mathlib.Core.Bool.{true, false, not, _&&_}
+use mathlib.Core.Logic.{inl, inr, ⊎-elim, _≢_, _↔_, Iff·rfl}
 use mathlib.Core.List.{List}
-use Prim.Native.Nat.{ℕ, _<_}
-use lib.Dec.{T}
+use Prim.Native.Nat.{ℕ, _^_, _<_}
+use native.Mathlib.Omega.{arith}
+use lib.Dec.{T, eqb}
 use lib.Bits.{bitAnd}
 use lib.ListN.{getD}
+use borrow.Author.Tests.{ne-eqb, not-false}
 use Rattle.bounded.specs.Bounded.{imp}
-use Rattle.bounded.specs.Mask.{bit}
-use Rattle.bounded.proofs.Truth.{T-ext, T-of, T-true, split, and-iff, imp-iff, imp-fails, not-iff}
-use Rattle.bounded.proofs.Mask.{bit-and}
-use Rattle.problem.specs.Problem.{Problem, State, snake}
+use Rattle.bounded.specs.Mask.{bit, maskOf}
+use Rattle.bounded.proofs.Truth.{T-ext, T-of, T-not, T-true, T-false, T-dec, split, and-iff, imp-iff, imp-fails, not-iff, eqb-iff}
+use Rattle.bounded.proofs.Mask.{bit-and, bit-none, mask-is}
+use Rattle.bounded.proofs.Members.{Sought, left-and}
+use Rattle.problem.specs.Problem.{Problem, State, snakeServes, snake}
 use Rattle.problem.specs.Held.{rowWord, held}
 use Rattle.problem.specs.Masks.{stateOf}
 use Rattle.problem.specs.declared.Masks.{Masks}
-use Rattle.problem.proofs.Reflect.{Live, Allowed, Fits, allLive-iff, anyLive-iff, SnakeServes, snakeServes-iff, snake-iff}
+use Rattle.problem.proofs.Reflect.{Active, Live, Allowed, Fits, allLive-iff, anyLive-iff, SnakeServes, snakeServes-iff, Snake as SnakeHolds, snake-iff}
 use Rattle.problem.proofs.HeldTable.{held-few, held-narrow}
+use Rattle.memory.specs.Rests.{Tried}
+use Rattle.memory.specs.Memory.{rowOf, In, Remembered, Learned}
+use Rattle.memory.proofs.Rests.{rests-fails, snake-rests}
+use Rattle.memory.proofs.Memory.{remembered-fails, remembered-learned}
 use Rattle.held.specs.Ready.{Ready, Value, Near}
-use Rattle.cover.specs.Words.{allServedIn, others, thirds}
-use Rattle.snake.specs.Parts.{snakeAt, snakeVariable}
+use Rattle.cover.specs.Words.{serversIn, allServedIn, others, thirds}
+use Rattle.cover.specs.Broken.{UnservedIn}
+use Rattle.snake.specs.Parts.{snakeAt, AtOther, snakeVariable}
 use Rattle.problem.specs.Reduce.{stepIf, first, nextSnake}
 use Rattle.problem.specs.declared.Record.the-variants.{Snake}
-use Rattle.problem.specs.declared.Next.the-variants.{Nothing}
-use Rattle.held.proofs.Laws.{near-free, live-value, active-32, word-iff}
-use Rattle.cover.proofs.Laws.{allServedIn-iff, thirds-iff, other-apart}
-use Rattle.problem.proofs.Search.{first-off, wide-two, outside}
-use Rattle.held.proofs.Bounds.{no-value, no-domain}
+use Rattle.problem.specs.declared.Next.the-variants.{Step, Nothing}
+use Rattle.held.proofs.Laws.{near-free, live-value, active-32, word-iff, bit-value}
+use Rattle.cover.proofs.Laws.{serversIn-iff, servers-lt, allServedIn-iff, thirds-iff, others-iff, other-apart}
+use Rattle.problem.proofs.Search.{stepIf-on, first-off, first-at, wide-two, outside}
+use Rattle.held.proofs.Bounds.{no-value}
 
 module _ {P : Problem} {s : State} (F : Fits P s) where
   snakeAt-iff : (i v j : ℕ) → T (snakeAt P s i v j) ↔ ((w : ℕ) → Live s j w → (Allowed P i v j w → ⊥) → (w' : ℕ) × Live s j w' × SnakeServes P s i v j w w')
   unfolding snakeAt
   snakeAt-iff i v j = simp (allLive-iff F, anyLive-iff F, imp-iff, not-iff, snakeServes-iff F) Iff·rfl
 
-module _ {t : List ℕ} {m : Masks} (R : Ready t m) where
-  -- snake: the values of j that are not allowed with v are each served by one that is
-  pub snake-word : (i v j : ℕ) → i < 32 → j < 32 → allServedIn (held t) (stateOf m) (thirds (m .active) i j) (bitAnd (getD (m .domains) j 0) (rowWord (held t) i j v)) (getD (m .domains) j 0) j ≡ snakeAt (held t) (stateOf m) i v j
-  unfolding stateOf
-  snake-word i v j p q =
+  -- what a test answers, as a truth value
+  pub tried-snake : (i v r : ℕ) → Tried P s (λ q. SnakeHolds P q i v) r → eqb r 0 ≡ snake P s i v
+  tried-snake i v r K =
       T-ext (
-        λ h. snakeAt-iff (R .fits) i v j .1
-            (λ w o n. let x = allServedIn-iff (R .fits) (thirds (m .active) i j) good (getD (m .domains) j 0) j .0 h w (live-value R j w o .value) (o, λ g. n (is w .0 g .1)) in
-            (x .0, is (x .0) .0 (x .2 .0) .0, (is (x .0) .0 (x .2 .0) .1, λ l al di dj. x .2 .1 l (active-32 R l al) (thirds-iff (m .active) i j l p q (active-32 R l al) .1 ((al, di), dj))))),
-        λ h. allServedIn-iff (R .fits) (thirds (m .active) i j) good (getD (m .domains) j 0) j .1
-            (λ w k x. let y = snakeAt-iff (R .fits) i v j .0 h w (x .0) (λ al. x .1 (is w .1 (x .0, al))) in
-            (y .0, live-value R j (y .0) (y .1) .value, (is (y .0) .1 (y .1, y .2 .0), λ l lt u. let z = thirds-iff (m .active) i j l p q lt .0 u in y .2 .1 l (z .0 .0) (z .0 .1) (z .1)))),
+        λ t. snake-iff F i v .1 (K .holds (eqb-iff r 0 .0 t)),
+        λ t. elim (T-dec (eqb r 0)) [ inl e ↦ e | inr n ↦ absurd (rests-fails F (K .fails (λ e. n (eqb-iff r 0 .1 e))) (snake-iff F i v .0 t)) ],
       )
-    where
-      good : ℕ
-      good = bitAnd (getD (m .domains) j 0) (rowWord (held t) i j v)
 
-      is : (c : ℕ) → T (bit good c) ↔ (Live (stateOf m) j c × Allowed (held t) i v j c)
-      is c = word-iff R i v j c
+-- a variable at which the rule asks nothing in vain is passed
+pub snake-passed : {P : Problem} {s : State} (rest : ℕ) {i v j r : ℕ} → AtOther P s i v j r → r ≡ 0 → not (imp (bit rest j) (snakeAt P s i v j)) ≡ false
+snake-passed {P} {s} rest {i} {v} {j} A e = T-false _ (λ t. not-iff (imp (bit rest j) (snakeAt P s i v j)) .0 t (imp-iff (bit rest j) (snakeAt P s i v j) .1 (λ u. A .holds e)))
 
+module _ {t : List ℕ} {m : Masks} (R : Ready t m) (i v j : ℕ) (p : i < 32) (q : j < 32) where
+  -- the values of j that are allowed with v
+  abbrev good : ℕ
+  good = bitAnd (getD (m .domains) j 0) (rowWord (held t) i j v)
+
+  -- the set of the third variables
+  thirds-all : {X : ℕ → Type 0} → ((l : ℕ) → l < 32 → T (bit (thirds (m .active) i j) l) → X l) ↔ ((l : ℕ) → Active (stateOf m) l → l ≢ i → l ≢ j → X l)
+  unfolding stateOf
+  thirds-all = (
+    λ h l a di dj. h l (active-32 R l a) (thirds-iff (m .active) i j l p q (active-32 R l a) .1 ((a, di), dj)),
+    λ h l k u. let z = thirds-iff (m .active) i j l p q k .0 u in h l (z .0 .0) (z .0 .1) (z .1),
+  )
+
+  -- the values that serve in the place of w
+  pub servers-word : (w : ℕ) → serversIn (held t) (stateOf m) (thirds (m .active) i j) good j j w ≡ maskOf 16 (λ c. (stateOf m) .live j c && snakeServes (held t) (stateOf m) i v j w c)
+  servers-word w =
+      mask-is 16 _ _ (servers-lt (held t) (stateOf m) (thirds (m .active) i j) good j j w)
+      (λ c k. T-ext (
+        λ h. let x = serversIn-iff (R .fits) (thirds (m .active) i j) good j j w c .0 h in
+            let y = word-iff R i v j c .0 (x .1) in
+            and-iff ((stateOf m) .live j c) (snakeServes (held t) (stateOf m) i v j w c) .1 (y .0, snakeServes-iff (R .fits) i v j w c .1 (y .1, thirds-all .0 (x .2))),
+        λ h. let x = and-iff ((stateOf m) .live j c) (snakeServes (held t) (stateOf m) i v j w c) .0 h in
+            let y = snakeServes-iff (R .fits) i v j w c .0 (x .1) in
+            serversIn-iff (R .fits) (thirds (m .active) i j) good j j w c .1 (k, word-iff R i v j c .1 (x .0, y .0), thirds-all .1 (y .1)),
+      ))
+
+  -- the values of j that are not allowed with v are each served by one that is
+  snake-word : T (allServedIn (held t) (stateOf m) (thirds (m .active) i j) good (getD (m .domains) j 0) j) → T (snakeAt (held t) (stateOf m) i v j)
+  unfolding stateOf
+  snake-word h =
+      snakeAt-iff (R .fits) i v j .1
+      (λ w o n. let x = allServedIn-iff (R .fits) (thirds (m .active) i j) good (getD (m .domains) j 0) j .0 h w (live-value R j w o .value) (o, λ g. n (word-iff R i v j w .0 g .1)) in
+      let y = word-iff R i v j (x .0) .0 (x .2 .0) in
+      (x .0, y .0, (y .1, thirds-all .0 (x .2 .1))))
+
+  -- or one is not, and that rests on j and on what breaks the candidates
+  pub other-at : (r : ℕ) → j ≢ i → UnservedIn (held t) (stateOf m) (thirds (m .active) i j) good (getD (m .domains) j 0) j r → AtOther (held t) (stateOf m) i v j r
+  unfolding stateOf
+  other-at r d U =
+      record {
+        holds = λ e. snake-word (U .served e);
+        fails =
+            λ n. let f = U .fails n in
+            snake-rests i v j (f .w) d (f .asked) (f .own) (λ al. f .other (word-iff R i v j (f .w) .1 (f .asked, al)))
+            (λ u o g.
+            let b = f .broken .at u (word-iff R i v j u .1 (o, g)) (T-not (bit-none u)) in
+            let z = thirds-iff (m .active) i j (b .0) p q (b .1) .0 (b .3) in
+            (b .0, (z .0 .1, z .1), λ c. b .2, b .4));
+      }
+
+module _ {t : List ℕ} {m : Masks} (R : Ready t m) where
   -- a variable that has no block with i bars nothing with v, so each where the rule fails is a neighbour
   pub snake-near : (rest i v x : ℕ) → rest ≡ others (m .active) i → Value t i v → Near t i x → (j : ℕ) → j < 32 → T (not (imp (bit rest j) (snakeAt (held t) (stateOf m) i v j))) → T (bit (bitAnd rest x) j)
   snake-near rest i v x e val near j l h =
@@ -66,6 +117,18 @@ module _ {t : List ℕ} {m : Masks} (R : Ready t m) where
             (split (bit x j)),
       )
 
+  -- where it fails at none, it holds
+  pub snake-all : (rest i v : ℕ) → rest ≡ others (m .active) i → bit (getD (m .domains) i 0) v ≡ true → ((j : ℕ) → j < 32 → T (not (imp (bit rest j) (snakeAt (held t) (stateOf m) i v j))) → ⊥) → SnakeHolds (held t) (stateOf m) i v
+  unfolding stateOf
+  snake-all rest i v e o h = (
+    T-of o,
+    λ j a d. let l = active-32 R j a in
+        let u : T (bit rest j) = subst (λ (x : ℕ). T (bit x j)) (sym e) (others-iff (m .active) i j (bit-value R i v o .variable) l .1 (a, d)) in
+        snakeAt-iff (R .fits) i v j .0 (imp-iff (bit rest j) (snakeAt (held t) (stateOf m) i v j) .0 (T-of (not-false (imp (bit rest j) (snakeAt (held t) (stateOf m) i v j)) (T-false _ (h j l)))) u),
+  )
+
+-- ---- the search
+
 module _ {t : List ℕ} {m : Masks} (R : Ready t m) where
   abbrev P : Problem
   P = held t
@@ -73,13 +136,41 @@ module _ {t : List ℕ} {m : Masks} (R : Ready t m) where
   abbrev s : State
   s = stateOf m
 
-  snake-none : (i v : ℕ) → (Live s i v → ⊥) → stepIf (snake P s i v) (Snake i v) ≡ Nothing
-  snake-none i v h = outside _ _ (λ x. h (snake-iff (R .fits) i v .0 x .0))
+  -- a value at which the rule holds is in its domain, and pending
+  pub snake-sought : {p w : List ℕ} → Remembered P s p w → (i : ℕ) → i < 32 → Sought 16 (snake P s i) (getD (m .domains) i 0) (bitAnd (getD p i 0) (getD (m .domains) i 0))
+  unfolding stateOf
+  snake-sought {p} H i l =
+      record {
+        left = left-and 16 (getD (m .domains) i 0) (getD p i 0) (R .proper .domain-lt i l);
+        all =
+            λ v k t. let S = snake-iff (R .fits) i v .0 t in
+            simp (bit-and, and-iff) (elim (T-dec (bit (getD p i 0) v)) [ inl y ↦ y | inr n ↦ absurd (remembered-fails (R .fits) H 0 i v (omega arith) l k (λ x. n (subst (λ (r : ℕ). In p r v) row x)) S) ], S .0);
+      }
+    where
+      row : rowOf 0 i ≡ i
+      row = omega arith
 
-  pub snake-variable-off : (i : ℕ) → bit (m .active) i ≡ false → snakeVariable P s i ≡ Nothing
+  -- one at which it fails is passed
+  pub snake-failed : (i v : ℕ) {r : ℕ} → Tried P s (λ q. SnakeHolds P q i v) r → r ≢ 0 → snake P s i v ≡ false
+  snake-failed i v {r} K d = sym (tried-snake (R .fits) i v r K) ∙ ne-eqb r 0 d
+
+  -- and is not tried again before what it rests on changes
+  pub snake-learned : {p w q x : List ℕ} {r : ℕ} → Remembered P s p w → (i v : ℕ) → i < 32 → v < 16 → Tried P s (λ q. SnakeHolds P q i v) r → r ≢ 0 → r < 2 ^ 32 → Learned r i v p w q x → Remembered P s q x
+  snake-learned {p} {w} {q} {x} {r} H i v l k K d small E =
+      let row : i ≡ rowOf 0 i = omega arith in
+      remembered-learned H 0 i v (omega arith) l k (subst (λ (i : ℕ). Learned r i v p w q x) row E) (K .fails d) small
+
+  -- the lowest value at which it holds, or none
+  pub snake-here : (i v : ℕ) → v < 16 → ((c : ℕ) → c < v → T (snake P s i c) → ⊥) → SnakeHolds P s i v → Step (Snake i v) ≡ snakeVariable P s i
   unfolding snakeVariable
-  snake-variable-off i e = first-off 16 _ (λ v l. snake-none i v (no-domain R i v e))
+  snake-here i v l h S = sym (first-at 16 _ v _ l (λ c k. outside _ _ (h c k)) (stepIf-on _ _ (T-true _ (snake-iff (R .fits) i v .1 S))))
+
+  pub snake-nowhere : (i : ℕ) → ((c : ℕ) → c < 16 → T (snake P s i c) → ⊥) → Nothing ≡ snakeVariable P s i
+  unfolding snakeVariable
+  snake-nowhere i h = sym (first-off 16 _ (λ c k. outside _ _ (h c k)))
 
   pub snake-first : first 32 (snakeVariable P s) ≡ nextSnake P s
   unfolding snakeVariable nextSnake
-  snake-first = wide-two (λ i v. stepIf (snake P s i v) (Snake i v)) (P .n) (P .size) 32 16 (held-few t) (held-narrow (R .table)) (λ i v o. snake-none i v (no-value R i v o))
+  snake-first =
+      wide-two (λ i v. stepIf (snake P s i v) (Snake i v)) (P .n) (P .size) 32 16 (held-few t) (held-narrow (R .table))
+      (λ i v o. outside _ _ (λ x. no-value R i v o (snake-iff (R .fits) i v .0 x .0)))

@@ -1,33 +1,38 @@
 // Kind 2, snake: the rule's test, the choice that undoing makes, and the search for the lowest step of the kind.
 ghost use mathlib.Core.Path.{_≡_};
-ghost use mathlib.Core.Bool.{true, false};
-ghost use Prim.Native.Nat.{_<_, _+_};
-ghost use Rattle.bounded.specs.Bounded.{imp};
-ghost use Rattle.bounded.specs.Mask.{bit};
-ghost use Rattle.problem.specs.Problem.{allOther, snake as snakeHolds, snakeServes};
+ghost use mathlib.Core.Bool.{true, _&&_};
+ghost use mathlib.Core.Logic.{_≢_};
+ghost use Prim.Native.Nat.{_<_};
+ghost use lib.ListN.{getD};
+ghost use Rattle.bounded.specs.Mask.{bit, maskOf};
+ghost use Rattle.problem.specs.Problem.{snake as snakeHolds, snakeServes};
 ghost use Rattle.problem.specs.Held.{held};
 ghost use Rattle.problem.specs.Masks.{stateOf, sets};
 ghost use Rattle.problem.specs.Reduce.{nextSnake};
+ghost use Rattle.problem.proofs.Reflect.{Snake};
+ghost use Rattle.memory.specs.Rests.{Tried};
+ghost use Rattle.memory.specs.Memory.{Remembered};
 ghost use Rattle.held.specs.Ready.{Ready, Value};
 ghost use Rattle.cover.specs.Words.{others};
-ghost use Rattle.snake.specs.Parts.{snakeAt, snakeVariable};
+ghost use Rattle.snake.specs.Parts.{AtOther, snakeVariable};
 use bounded::has16;
-use bounded::has32;
-use bounded::lowest32;
+use bounded::highest32;
+use bounded::lowest16;
+use bounded::without16;
 use bounded::without32;
-use cover::all_served;
-use cover::first_break;
+use cover::serving;
 use cover::third_set;
+use cover::unserved;
 use held::neighbours;
-use held::pair_allowed;
 use held::row_among;
+use memory::learn;
 use problem::Next;
 use problem::Record;
 use problem::is_step;
-use problem::unbroken;
 
-// Value w2 of j may take the place of w where i has v: it is allowed with v and covers w at every item other than i and j.
-pub fn snake_serves(
+// The values of another variable j that may take the place of w where i has v: they are allowed with v and cover w at every item other than
+// i and j.
+pub fn snake_servers(
     t: &[u16],
     active: u32,
     on: &[u16; 32],
@@ -35,44 +40,42 @@ pub fn snake_serves(
     v: usize,
     j: usize,
     w: usize,
-    w2: usize,
-) -> bool
-    requires { ⌜ Ready (now t) (sets active (now on)) × Value (now t) i v × Value (now t) j w × Value (now t) j w2 ⌝ }
-    ensures { λ r. ⌜ r ≡ snakeServes (held (now (t .entry))) (stateOf (sets active (now (on .entry)))) i v j w w2 ⌝ }
+) -> u16
+    requires { ⌜ Ready (now t) (sets active (now on)) × Value (now t) i v × Value (now t) j w × (j ≢ i) ⌝ }
+    ensures { λ r. ⌜ r ≡ maskOf 16 (λ c. (stateOf (sets active (now (on .entry)))) .live j c && snakeServes (held (now (t .entry))) (stateOf (sets active (now (on .entry)))) i v j w c) ⌝ }
 {
-    if pair_allowed(t, i, v, j, w2) {
-        let rest = third_set(active, i, j);
-        unbroken(first_break(t, active, on, rest, j, w2, j, w))
-    } else {
-        false
-    }
+    let good = row_among(t, on[j], i, j, v);
+    serving(t, active, on, third_set(active, i, j), good, j, j, w).left
 }
 
-// What the snake rule asks of j, one of `rest`: the active variables other than i.
-fn snake_at(t: &[u16], active: u32, on: &[u16; 32], rest: u32, i: usize, v: usize, j: usize) -> bool
+// What the snake rule asks of j, one of `rest`: the active variables other than i. 0 where it asks nothing in vain, else j and the variables
+// that break every candidate for one of its values.
+fn snake_at(t: &[u16], active: u32, on: &[u16; 32], rest: u32, i: usize, v: usize, j: usize) -> u32
     requires { ⌜ Ready (now t) (sets active (now on)) × Value (now t) i v × (rest ≡ others active i) × (j < 32) × (bit rest j ≡ true) ⌝ }
-    ensures { λ r. ⌜ r ≡ imp (bit rest j) (snakeAt (held (now (t .entry))) (stateOf (sets active (now (on .entry)))) i v j) ⌝ }
+    ensures { λ r. ⌜ AtOther (held (now (t .entry))) (stateOf (sets active (now (on .entry)))) i v j r ⌝ }
 {
     let domain = on[j];
     let good = row_among(t, domain, i, j, v);
-    all_served(t, active, on, without32(rest, j), good, domain, j)
+    unserved(t, active, on, without32(rest, j), good, domain, j)
 }
 
-// A variable that has no block with i bars nothing with v, and is passed over.
-fn snake_others(t: &[u16], active: u32, on: &[u16; 32], i: usize, v: usize) -> bool
-    requires { ⌜ Ready (now t) (sets active (now on)) × Value (now t) i v ⌝ }
-    ensures { λ r. ⌜ r ≡ allOther (held (now (t .entry))) (stateOf (sets active (now (on .entry)))) i (snakeAt (held (now (t .entry))) (stateOf (sets active (now (on .entry)))) i v) ⌝ }
+// Tries value v of i, which is in its domain: 0 where the snake rule holds, else the variables that its failure rests on. A variable that
+// has no block with i bars nothing with v, and is passed over.
+fn snake_rests(t: &[u16], active: u32, on: &[u16; 32], i: usize, v: usize) -> u32
+    requires { ⌜ Ready (now t) (sets active (now on)) × (i < 32) × (v < 16) × (bit (getD (now on) i 0) v ≡ true) ⌝ }
+    ensures { λ r. ⌜ Tried (held (now (t .entry))) (stateOf (sets active (now (on .entry)))) (λ q. Snake (held (now (t .entry))) q i v) r ⌝ }
 {
     let rest = without32(active, i);
     let mut left = rest & neighbours(t, i);
     while left != 0 {
-        let j = lowest32(left);
-        if !snake_at(t, active, on, rest, i, v, j) {
-            return false;
+        let j = highest32(left);
+        let fails = snake_at(t, active, on, rest, i, v, j);
+        if fails != 0 {
+            return fails;
         }
         left = without32(left, j);
     }
-    true
+    0
 }
 
 // Value v of i is in its domain, and at every other item each value barred with v has one that may take its place.
@@ -81,7 +84,7 @@ pub fn snake(t: &[u16], active: u32, on: &[u16; 32], i: usize, v: usize) -> bool
     ensures { λ r. ⌜ r ≡ snakeHolds (held (now (t .entry))) (stateOf (sets active (now (on .entry)))) i v ⌝ }
 {
     if has16(on[i], v) {
-        snake_others(t, active, on, i, v)
+        snake_rests(t, active, on, i, v) == 0
     } else {
         false
     }
@@ -89,33 +92,47 @@ pub fn snake(t: &[u16], active: u32, on: &[u16; 32], i: usize, v: usize) -> bool
 
 // ---- the search
 
-// A field at a time, the lowest first. A variable that is not active and a value that is not in a domain make no step, so they are passed
-// over without a test.
+// A field at a time, the lowest first, of what is pending: what is not has failed, and what it rests on has not changed.
 
-fn snake_variable(t: &[u16], active: u32, on: &[u16; 32], i: usize) -> Next
-    requires { ⌜ Ready (now t) (sets active (now on)) × (i < 32) ⌝ }
-    ensures { λ r. ⌜ r ≡ snakeVariable (held (now (t .entry))) (stateOf (sets active (now (on .entry)))) i ⌝ }
+fn snake_variable(
+    t: &[u16],
+    active: u32,
+    on: &[u16; 32],
+    pending: &mut [u16; 160],
+    waiting: &mut [u16; 6144],
+    i: usize,
+) -> Next
+    requires { ⌜ Ready (now t) (sets active (now on)) × Remembered (held (now t)) (stateOf (sets active (now on))) (now pending) (now waiting) × (i < 32) ⌝ }
+    ensures is { λ r. ⌜ r ≡ snakeVariable (held (now (t .entry))) (stateOf (sets active (now (on .entry)))) i ⌝ }
+    ensures remembers { λ _. ⌜ Remembered (held (now (t .entry))) (stateOf (sets active (now (on .entry)))) (now (pending .exit)) (now (waiting .exit)) ⌝ }
 {
-    if !has32(active, i) {
-        return Next::Nothing;
-    }
-    let mut v: usize = 0;
-    while v < 16 {
-        if snake(t, active, on, i, v) {
+    let mut left = pending[i] & on[i];
+    while left != 0 {
+        let v = lowest16(left);
+        let fails = snake_rests(t, active, on, i, v);
+        if fails == 0 {
             return Next::Step(Record::Snake(i, v));
         }
-        v += 1;
+        learn(pending, waiting, fails, i, v);
+        left = without16(left, v);
     }
     Next::Nothing
 }
 
-pub fn next_snake(t: &[u16], active: u32, on: &[u16; 32]) -> Next
-    requires { ⌜ Ready (now t) (sets active (now on)) ⌝ }
-    ensures { λ r. ⌜ r ≡ nextSnake (held (now (t .entry))) (stateOf (sets active (now (on .entry)))) ⌝ }
+pub fn next_snake(
+    t: &[u16],
+    active: u32,
+    on: &[u16; 32],
+    pending: &mut [u16; 160],
+    waiting: &mut [u16; 6144],
+) -> Next
+    requires { ⌜ Ready (now t) (sets active (now on)) × Remembered (held (now t)) (stateOf (sets active (now on))) (now pending) (now waiting) ⌝ }
+    ensures is { λ r. ⌜ r ≡ nextSnake (held (now (t .entry))) (stateOf (sets active (now (on .entry)))) ⌝ }
+    ensures remembers { λ _. ⌜ Remembered (held (now (t .entry))) (stateOf (sets active (now (on .entry)))) (now (pending .exit)) (now (waiting .exit)) ⌝ }
 {
     let mut i: usize = 0;
     while i < 32 {
-        let found = snake_variable(t, active, on, i);
+        let found = snake_variable(t, active, on, pending, waiting, i);
         if is_step(found) {
             return found;
         }

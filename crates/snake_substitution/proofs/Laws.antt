@@ -1,37 +1,53 @@
 -- Snake substitution over words, and the search for one. Assumes nothing.
-use mathlib.Core.Path.{_≡_}
-use mathlib.Core.Bool.{false, not}
-use mathlib.Core.Logic.{_⊎_, inl, inr, _↔_, Iff·rfl, ⊎-elim}
+use mathlib.Core.Path.{_≡_, sym, ap, _∙_}
+use mathlib.Core.Bool.{not}
+use mathlib.Core.Logic.{_⊎_, _≢_, inl, inr, _↔_, Iff·rfl, ⊎-elim}
 use mathlib.Core.List.{List}
-use Prim.Native.Nat.{ℕ, _<_}
-use lib.Dec.{T}
+use Prim.Native.Nat.{ℕ, _<_, _^_}
+use lib.Dec.{T, eqb}
 use lib.Bits.{bitAnd}
 use lib.ListN.{getD}
-use Rattle.bounded.specs.Bounded.{imp}
+use borrow.Author.Tests.{eq-eqb, ne-eqb}
+use Rattle.bounded.specs.Bounded.{imp, lowest}
 use Rattle.bounded.specs.Mask.{bit}
-use Rattle.bounded.proofs.Truth.{T-ext, T-of, T-true, T-dec, split, and-iff, imp-iff, imp-fails, not-iff}
-use Rattle.bounded.proofs.Mask.{bit-and}
+use Rattle.bounded.proofs.Truth.{T-ext, T-of, T-not, T-true, T-false, T-dec, eq-dec, split, and-iff, imp-iff, imp-fails, not-iff}
+use Rattle.bounded.proofs.Bounded.{lowest-least}
+use Rattle.bounded.proofs.Members.{lowest-member}
+use Rattle.bounded.proofs.Mask.{bit-and, bit-none}
 use Rattle.problem.specs.Problem.{Problem, State, snakeSubstitution, slideSpares}
 use Rattle.problem.specs.Held.{rowWord, held}
 use Rattle.problem.specs.Masks.{stateOf}
 use Rattle.problem.specs.declared.Masks.{Masks}
-use Rattle.problem.proofs.Reflect.{Live, Allowed, Fits, allLive-iff, anyLive-iff, Substitutes, SlideServes, slideServes-iff, snakeSubstitution-iff}
+use Rattle.problem.proofs.Reflect.{Live, Allowed, Fits, allLive-iff, anyLive-iff, Substitutes, SlideServes, SnakeSubstitution, slideServes-iff, snakeSubstitution-iff}
 use Rattle.problem.proofs.HeldTable.{held-few, held-narrow}
 use Rattle.held.specs.Ready.{Ready, Value, Near}
 use Rattle.cover.specs.Words.{allServedIn, others, thirds}
-use Rattle.snake_substitution.specs.Parts.{slideAt, substitutionValue, substitutionVariable}
+use Rattle.cover.specs.Broken.{Fault, UnservedIn}
+use Rattle.snake_substitution.specs.Parts.{slideAt, substitutionValue, substitutionVariable, lowestGoal}
 use Rattle.problem.specs.Reduce.{stepIf, first, nextSnakeSubstitutionBy, nextSnakeSubstitution}
-use Rattle.problem.specs.declared.Record.the-variants.{SnakeSubstitution}
-use Rattle.problem.specs.declared.Next.the-variants.{Nothing}
+use Rattle.problem.specs.declared.Record.the-variants as record·
+use Rattle.problem.specs.declared.Next.the-variants.{Step, Nothing}
 use Rattle.held.proofs.Laws.{near-free, live-value, active-32, word-iff}
 use Rattle.cover.proofs.Laws.{allServedIn-iff, thirds-iff, other-apart}
-use Rattle.problem.proofs.Search.{first-off, wide-three, outside}
-use Rattle.held.proofs.Bounds.{no-value, not-live, no-domain}
+use Rattle.problem.proofs.Run.{first-each, stepIf-none}
+use Rattle.problem.proofs.Search.{stepIf-on, stepIf-off, first-off, first-at, wide-three, outside}
+use Rattle.held.proofs.Bounds.{no-value}
 
 module _ {P : Problem} {s : State} (F : Fits P s) where
   slideAt-iff : (i b a k : ℕ) → T (slideAt P s i b a k) ↔ ((d : ℕ) → Live s k d → Allowed P i b k d → (e : ℕ) × Live s k e × SlideServes P s slideSpares i a k d e)
   unfolding slideAt
   slideAt-iff i b a k = simp (allLive-iff F, anyLive-iff F, imp-iff, slideServes-iff F) Iff·rfl
+
+-- the answer of the test is 0 exactly where each value is served: where it is not, each of `good` breaks for one
+pub unserved-test : {P : Problem} {s : State} {rest good bad j r : ℕ} → Fits P s → UnservedIn P s rest good bad j r → eqb r 0 ≡ allServedIn P s rest good bad j
+unserved-test {P} {s} {rest} {good} {bad} {j} {r} F u =
+    ⊎-elim (λ e. eq-eqb r 0 e ∙ sym (T-true _ (u .served e))) (λ d. ne-eqb r 0 d ∙ sym (T-false _ (λ h. no (u .fails d) h))) (eq-dec r 0)
+  where
+    no : Fault P s rest good bad j r → T (allServedIn P s rest good bad j) → ⊥
+    no f h =
+        let x = allServedIn-iff F rest good bad j .0 h (f .w) (f .small) (f .asked, f .other) in
+        let y = f .broken .at (x .0) (x .2 .0) (T-not (bit-none (x .0))) in
+        y .4 (x .2 .1 (y .0) (y .1) (y .3))
 
 module _ {t : List ℕ} {m : Masks} (R : Ready t m) where
   -- slide: the values of k that are allowed with b are each served by one allowed with a; one allowed with both serves for itself
@@ -82,6 +98,19 @@ module _ {t : List ℕ} {m : Masks} (R : Ready t m) where
             (split (bit x k)),
       )
 
+-- ---- the search
+
+-- the lowest goal of a word
+pub lowest-goal-none : (i b word : ℕ) → word ≡ 0 → Nothing ≡ lowestGoal i b word
+unfolding lowestGoal
+lowest-goal-none i b word e = sym (first-off 16 _ (λ a l. stepIf-off _ _ (ap (λ (x : ℕ). bit x a) e ∙ bit-none a)))
+
+pub lowest-goal-at : (i b word : ℕ) → word < 2 ^ 16 → word ≢ 0 → Step (record·.SnakeSubstitution i b (lowest 16 (bit word))) ≡ lowestGoal i b word
+unfolding lowestGoal
+lowest-goal-at i b word l d =
+    let m = lowest-member 16 word l d in
+    sym (first-at 16 _ (lowest 16 (bit word)) _ (m .0) (λ a k. outside _ _ (lowest-least 16 (bit word) a k)) (stepIf-on _ _ (T-true _ (m .1))))
+
 module _ {t : List ℕ} {m : Masks} (R : Ready t m) where
   abbrev P : Problem
   P = held t
@@ -89,19 +118,21 @@ module _ {t : List ℕ} {m : Masks} (R : Ready t m) where
   abbrev s : State
   s = stateOf m
 
-  substitution-none : (i b a : ℕ) → (Live s i b → Live s i a → ⊥) → stepIf (snakeSubstitution P s slideSpares i b a) (SnakeSubstitution i b a) ≡ Nothing
+  substitution-none : (i b a : ℕ) → (Live s i b → Live s i a → ⊥) → stepIf (snakeSubstitution P s slideSpares i b a) (record·.SnakeSubstitution i b a) ≡ Nothing
   substitution-none i b a h = outside _ _ (λ x. let y = snakeSubstitution-iff (R .fits) slideSpares i b a .0 x in h (y .0) (y .1 .0))
-
-  pub substitution-value-off : (i b : ℕ) → bit (getD (m .domains) i 0) b ≡ false → substitutionValue P s i b ≡ Nothing
-  unfolding substitutionValue
-  substitution-value-off i b e = first-off 16 _ (λ a l. substitution-none i b a (λ x y. not-live R i b e x))
-
-  pub substitution-variable-off : (i : ℕ) → bit (m .active) i ≡ false → substitutionVariable P s i ≡ Nothing
-  unfolding substitutionVariable substitutionValue
-  substitution-variable-off i e = first-off 16 _ (λ b l. first-off 16 _ (λ a l. substitution-none i b a (λ x y. no-domain R i b e x)))
 
   pub substitution-first : first 32 (substitutionVariable P s) ≡ nextSnakeSubstitution P s
   unfolding substitutionVariable substitutionValue nextSnakeSubstitutionBy
   substitution-first =
-      wide-three (λ i b a. stepIf (snakeSubstitution P s slideSpares i b a) (SnakeSubstitution i b a)) (P .n) (P .size) (P .size) 32 16 16 (held-few t) (held-narrow (R .table)) (held-narrow (R .table))
+      wide-three (λ i b a. stepIf (snakeSubstitution P s slideSpares i b a) (record·.SnakeSubstitution i b a)) (P .n) (P .size) (P .size) 32 16 16 (held-few t) (held-narrow (R .table)) (held-narrow (R .table))
       (λ i b a o. substitution-none i b a (λ x y. ⊎-elim (λ l. no-value R i b (inl l) x) (λ q. ⊎-elim (λ l. no-value R i b (inr l) x) (λ l. no-value R i a (inr l) y) q) o))
+
+  -- no step from a variable where no value of it slides
+  pub variable-off : (i : ℕ) → ((b a : ℕ) → SnakeSubstitution P s slideSpares i b a → ⊥) → substitutionVariable P s i ≡ Nothing
+  unfolding substitutionVariable substitutionValue
+  variable-off i h = first-off 16 _ (λ b l. first-off 16 _ (λ a k. outside _ _ (λ t. h b a (snakeSubstitution-iff (R .fits) slideSpares i b a .0 t))))
+
+  pub variable-none : (i : ℕ) → substitutionVariable P s i ≡ Nothing → (b a : ℕ) → SnakeSubstitution P s slideSpares i b a → ⊥
+  unfolding substitutionVariable substitutionValue
+  variable-none i e b a S =
+      stepIf-none _ (record·.SnakeSubstitution i b a) (first-each 16 _ (first-each 16 _ e b (live-value R i b (S .0) .value)) a (live-value R i a (S .1 .0) .value)) (snakeSubstitution-iff (R .fits) slideSpares i b a .1 S)

@@ -1,26 +1,42 @@
 // Kind 5, slide: the test for a snake substitution, and the search for the lowest step of the kind.
 ghost use mathlib.Core.Path.{_≡_};
 ghost use mathlib.Core.Bool.{true, false};
-ghost use Prim.Native.Nat.{_<_, _+_};
+ghost use mathlib.Core.Logic.{_≢_};
+ghost use Prim.Native.Nat.{_<_};
+ghost use lib.Bits.{bitAnd};
+ghost use lib.Dec.{T};
+ghost use lib.ListN.{length, getD};
 ghost use Rattle.bounded.specs.Bounded.{imp};
 ghost use Rattle.bounded.specs.Mask.{bit};
 ghost use Rattle.problem.specs.Problem.{allOther, slideSpares, snakeSubstitution};
-ghost use Rattle.problem.specs.Held.{held};
+ghost use Rattle.problem.specs.Held.{held, RowTable};
 ghost use Rattle.problem.specs.Masks.{stateOf, sets};
-ghost use Rattle.problem.specs.Reduce.{nextSnakeSubstitution};
-ghost use Rattle.held.specs.Ready.{Ready, Value};
-ghost use Rattle.cover.specs.Words.{others};
-ghost use Rattle.snake_substitution.specs.Parts.{slideAt, substitutionValue, substitutionVariable};
+ghost use Rattle.problem.specs.Reduce.{first, nextSnakeSubstitution};
+ghost use Rattle.memory.specs.Memory.{Remembered};
+ghost use Rattle.held.specs.Ready.{Ready, Value, Values};
+ghost use Rattle.cover.specs.Words.{others, thirds};
+ghost use Rattle.support.specs.Words.{partnersOf};
+ghost use Rattle.snake_substitution.specs.Parts.{slideAt, substitutionVariable, lowestGoal, Goals, AllGoals, Closed, Limited, NoGoal, Narrowed};
 use bounded::has16;
-use bounded::has32;
+use bounded::highest16;
+use bounded::highest32;
+use bounded::lowest16;
 use bounded::lowest32;
+use bounded::where16;
+use bounded::with32;
+use bounded::without16;
 use bounded::without32;
-use cover::all_served;
+use cover::serving;
+use cover::unserved;
 use held::neighbours;
 use held::row_among;
+use memory::learn;
 use problem::Next;
 use problem::Record;
 use problem::is_step;
+use support::partners;
+
+// ---- the test
 
 // What the slide rule asks of k, one of `rest`: the active variables other than i. Covering is asked for at these but k.
 fn slide_at(
@@ -39,7 +55,7 @@ fn slide_at(
     let domain = on[k];
     let good = row_among(t, domain, i, k, a);
     let bad = row_among(t, domain, i, k, b);
-    all_served(t, active, on, without32(rest, k), good, bad, k)
+    unserved(t, active, on, without32(rest, k), good, bad, k) == 0
 }
 
 // A variable that has no block with i bars nothing with a: each of its values serves for itself, and it is passed over.
@@ -79,39 +95,156 @@ pub fn snake_substitution(
     }
 }
 
-// ---- the search
+// ---- all slides of a variable
 
-// A field at a time, the lowest first. A variable that is not active and a value that is not in a domain make no step, so they are passed
-// over without a test.
+// They are tried together: `goals` has for each value b of i a word of the values that it may still slide to. What a value d of another
+// variable k asks is the same for every b that is allowed with it: one of the values that are allowed with d, or with one in its place.
 
-// The lowest value for which value b of i goes off by the slide rule.
-fn substitution_value(t: &[u16], active: u32, on: &[u16; 32], i: usize, b: usize) -> Next
-    requires { ⌜ Ready (now t) (sets active (now on)) × (i < 32) × (b < 16) ⌝ }
-    ensures { λ r. ⌜ r ≡ substitutionValue (held (now (t .entry))) (stateOf (sets active (now (on .entry)))) i b ⌝ }
+// Each value of the domain may slide to each other.
+fn all_goals(domain: u16, goals: &mut [u16; 16])
+    requires { ⌜ length (now goals) ≡ 16 ⌝ }
+    ensures { λ _. ⌜ AllGoals domain (now (goals .exit)) ⌝ }
 {
-    if !has16(on[i], b) {
-        return Next::Nothing;
-    }
-    let mut a: usize = 0;
-    while a < 16 {
-        if snake_substitution(t, active, on, i, b, a) {
-            return Next::Step(Record::SnakeSubstitution(i, b, a));
-        }
-        a += 1;
-    }
-    Next::Nothing
-}
-
-fn substitution_variable(t: &[u16], active: u32, on: &[u16; 32], i: usize) -> Next
-    requires { ⌜ Ready (now t) (sets active (now on)) × (i < 32) ⌝ }
-    ensures { λ r. ⌜ r ≡ substitutionVariable (held (now (t .entry))) (stateOf (sets active (now (on .entry)))) i ⌝ }
-{
-    if !has32(active, i) {
-        return Next::Nothing;
-    }
     let mut b: usize = 0;
     while b < 16 {
-        let found = substitution_value(t, active, on, i, b);
+        goals[b] = where16(domain, b, without16(domain, b));
+        b += 1;
+    }
+}
+
+// Some value of `set` has a goal that is not one of them. The loop is never left early, so that the compiler can do many at once.
+fn asks(set: u16, goals: &[u16; 16]) -> bool
+    ensures { λ r. ⌜ (r ≡ false → Closed set (now (goals .entry))) ⌝ }
+{
+    let mut all: u16 = 0;
+    let mut b: usize = 0;
+    while b < 16 {
+        all = all | where16(set, b, goals[b]);
+        b += 1;
+    }
+    all & !set != 0
+}
+
+// The values of `set` keep those of their goals that are of `kept`.
+fn keep(set: u16, kept: u16, goals: &mut [u16; 16])
+    requires { ⌜ length (now goals) ≡ 16 ⌝ }
+    ensures { λ _. ⌜ Limited set kept (now (goals .entry)) (now (goals .exit)) ⌝ }
+{
+    let mut b: usize = 0;
+    while b < 16 {
+        goals[b] = goals[b] & !where16(set, b, !kept);
+        b += 1;
+    }
+}
+
+// The values of i that are allowed with one of a set of values of k.
+fn reached(t: &[u16], domain: u16, set: u16, k: usize, i: usize) -> u16
+    requires { ⌜ RowTable (now t) × Values (now t) i domain × Values (now t) k set × (k < 32) × (i < 32) × (i ≢ k) ⌝ }
+    ensures { λ r. ⌜ r ≡ bitAnd domain (partnersOf (held (now (t .entry))) set k i) ⌝ }
+{
+    if set == 0 {
+        0
+    } else {
+        partners(t, domain, set, k, i)
+    }
+}
+
+// What value d of k asks of the slides of i, where it is allowed with the values `set`: these, and what is allowed with a value in its place,
+// are kept as goals. It answers k and where others in the place of d break, or 0 where nothing was asked.
+fn slide_by(
+    t: &[u16],
+    active: u32,
+    on: &[u16; 32],
+    goals: &mut [u16; 16],
+    rest: u32,
+    i: usize,
+    k: usize,
+    d: usize,
+) -> u32
+    requires { ⌜ Ready (now t) (sets active (now on)) × Goals (stateOf (sets active (now on))) i (now goals) × (i < 32) × (rest ≡ thirds active i k) × (k < 32) × (k ≢ i) × T (bit (getD (now on) k 0) d) ⌝ }
+    ensures { λ r. ⌜ Narrowed (held (now (t .entry))) (stateOf (sets active (now (on .entry)))) i (λ l c. (l ≡ k) × (c ≡ d)) (now (goals .entry)) (now (goals .exit)) r ⌝ }
+{
+    let domain = on[i];
+    let set = row_among(t, domain, k, i, d);
+    if !asks(set, goals) {
+        return 0;
+    }
+    let found = serving(t, active, on, rest, without16(on[k], d), k, k, d);
+    keep(set, set | reached(t, domain, found.left, k, i), goals);
+    with32(found.broken, k)
+}
+
+// What the values of k ask, the highest first.
+fn slides_at(
+    t: &[u16],
+    active: u32,
+    on: &[u16; 32],
+    goals: &mut [u16; 16],
+    rest: u32,
+    i: usize,
+    k: usize,
+) -> u32
+    requires { ⌜ Ready (now t) (sets active (now on)) × Goals (stateOf (sets active (now on))) i (now goals) × (i < 32) × (rest ≡ thirds active i k) × (k < 32) × (k ≢ i) ⌝ }
+    ensures { λ r. ⌜ Narrowed (held (now (t .entry))) (stateOf (sets active (now (on .entry)))) i (λ l c. l ≡ k) (now (goals .entry)) (now (goals .exit)) r ⌝ }
+{
+    let mut rests: u32 = 0;
+    let mut left = on[k];
+    while left != 0 {
+        let d = highest16(left);
+        rests = rests | slide_by(t, active, on, goals, rest, i, k, d);
+        left = without16(left, d);
+    }
+    rests
+}
+
+// Some value has a goal left.
+fn some_goal(goals: &[u16; 16]) -> bool
+    requires { ⌜ length (now goals) ≡ 16 ⌝ }
+    ensures { λ r. ⌜ (r ≡ false → NoGoal (now (goals .entry))) ⌝ }
+{
+    let mut all: u16 = 0;
+    let mut b: usize = 0;
+    while b < 16 {
+        all = all | goals[b];
+        b += 1;
+    }
+    all != 0
+}
+
+// What all other variables ask, the highest first, while a goal is left.
+fn slides_from(t: &[u16], active: u32, on: &[u16; 32], goals: &mut [u16; 16], i: usize) -> u32
+    requires { ⌜ Ready (now t) (sets active (now on)) × Goals (stateOf (sets active (now on))) i (now goals) × (i < 32) ⌝ }
+    ensures { λ r. ⌜ Narrowed (held (now (t .entry))) (stateOf (sets active (now (on .entry)))) i (λ l c. l ≢ i) (now (goals .entry)) (now (goals .exit)) r ⌝ }
+{
+    let rest = without32(active, i);
+    let mut rests: u32 = 0;
+    let mut left = rest & neighbours(t, i);
+    while (left != 0) & some_goal(goals) {
+        let k = highest32(left);
+        rests = rests | slides_at(t, active, on, goals, without32(rest, k), i, k);
+        left = without32(left, k);
+    }
+    rests
+}
+
+// The lowest goal of b. Its word is handed over: of one in a lent array it is not known that it is a set of 16.
+fn lowest_goal(word: u16, i: usize, b: usize) -> Next
+    ensures { λ r. ⌜ r ≡ lowestGoal i b word ⌝ }
+{
+    if word == 0 {
+        Next::Nothing
+    } else {
+        Next::Step(Record::SnakeSubstitution(i, b, lowest16(word)))
+    }
+}
+
+// The lowest value that has a goal, with its lowest goal.
+fn lowest_slide(goals: &[u16; 16], i: usize) -> Next
+    ensures { λ r. ⌜ r ≡ first 16 (λ b. lowestGoal i b (getD (now (goals .entry)) b 0)) ⌝ }
+{
+    let mut b: usize = 0;
+    while b < 16 {
+        let found = lowest_goal(goals[b], i, b);
         if is_step(found) {
             return found;
         }
@@ -120,13 +253,50 @@ fn substitution_variable(t: &[u16], active: u32, on: &[u16; 32], i: usize) -> Ne
     Next::Nothing
 }
 
-pub fn next_substitution(t: &[u16], active: u32, on: &[u16; 32]) -> Next
-    requires { ⌜ Ready (now t) (sets active (now on)) ⌝ }
-    ensures { λ r. ⌜ r ≡ nextSnakeSubstitution (held (now (t .entry))) (stateOf (sets active (now (on .entry)))) ⌝ }
+// ---- the search
+
+// The slides of a variable are one test: where it is not pending it has failed, and what it rests on has not changed.
+fn substitution_variable(
+    t: &[u16],
+    active: u32,
+    on: &[u16; 32],
+    pending: &mut [u16; 160],
+    waiting: &mut [u16; 6144],
+    i: usize,
+) -> Next
+    requires { ⌜ Ready (now t) (sets active (now on)) × Remembered (held (now t)) (stateOf (sets active (now on))) (now pending) (now waiting) × (i < 32) ⌝ }
+    ensures is { λ r. ⌜ r ≡ substitutionVariable (held (now (t .entry))) (stateOf (sets active (now (on .entry)))) i ⌝ }
+    ensures remembers { λ _. ⌜ Remembered (held (now (t .entry))) (stateOf (sets active (now (on .entry)))) (now (pending .exit)) (now (waiting .exit)) ⌝ }
+{
+    let domain = on[i];
+    if !has16(pending[128 + i], 0) | (domain == 0) {
+        return Next::Nothing;
+    }
+    let mut goals = [0u16; 16];
+    all_goals(domain, &mut goals);
+    let rests = slides_from(t, active, on, &mut goals, i);
+    let found = lowest_slide(&goals, i);
+    if is_step(found) {
+        return found;
+    }
+    learn(pending, waiting, rests, 128 + i, 0);
+    Next::Nothing
+}
+
+pub fn next_substitution(
+    t: &[u16],
+    active: u32,
+    on: &[u16; 32],
+    pending: &mut [u16; 160],
+    waiting: &mut [u16; 6144],
+) -> Next
+    requires { ⌜ Ready (now t) (sets active (now on)) × Remembered (held (now t)) (stateOf (sets active (now on))) (now pending) (now waiting) ⌝ }
+    ensures is { λ r. ⌜ r ≡ nextSnakeSubstitution (held (now (t .entry))) (stateOf (sets active (now (on .entry)))) ⌝ }
+    ensures remembers { λ _. ⌜ Remembered (held (now (t .entry))) (stateOf (sets active (now (on .entry)))) (now (pending .exit)) (now (waiting .exit)) ⌝ }
 {
     let mut i: usize = 0;
     while i < 32 {
-        let found = substitution_variable(t, active, on, i);
+        let found = substitution_variable(t, active, on, pending, waiting, i);
         if is_step(found) {
             return found;
         }

@@ -127,11 +127,11 @@ module _ {P : Problem} {s : State} (F : Fits P s) where
   unfolding after
   snake-left i v p A j h d = eliminate-live P s F i j (p j) .0 (A .live j (eliminate-active P s i j .1 (h, d))) .0
 
-  pub triangle-left : (i j : ℕ) (p : ℕ → ℕ) → T (holds P s (Triangle i j)) → Solution P (after P s (Triangle i j)) p → Live s j (p j) × (Active s i × Active s j)
+  pub triangle-left : (i j : ℕ) (p : ℕ → ℕ) → T (holds P s (Triangle i j)) → Solution P (after P s (Triangle i j)) p → Live s j (p j) × (Active s i × (Active s j × (j ≢ i)))
   unfolding after holdsBy
   triangle-left i j p t A =
       let x = triangle-iff F i j .0 t in
-      (eliminate-live P s F i j (p j) .0 (A .live j (eliminate-active P s i j .1 (x .1 .0, x .1 .1 .0))) .0, (x .0, x .1 .0))
+      (eliminate-live P s F i j (p j) .0 (A .live j (eliminate-active P s i j .1 (x .1 .0, x .1 .1 .0))) .0, (x .0, (x .1 .0, x .1 .1 .0)))
 
   pub snake-live : (i v : ℕ) → T (holds P s (Snake i v)) → Live s i v
   unfolding holdsBy

@@ -1,22 +1,24 @@
 // Records undone last first, each against the state before it: putting the variables that were taken out back into a plan.
 ghost use mathlib.Core.Path.{_≡_};
-ghost use mathlib.Core.Bool.{_&&_, true, false};
+ghost use mathlib.Core.Bool.{true};
 ghost use mathlib.Core.Logic.{_≢_};
 ghost use Prim.Native.Nat.{_<_};
 ghost use lib.Dec.{T};
+ghost use Rattle.bounded.specs.Bounded.{lowest};
+ghost use Rattle.bounded.specs.Mask.{bit};
 ghost use Rattle.bounded.specs.Table.{tab};
 ghost use Rattle.problem.specs.Problem.{lowestLive, snakeServes, triangleServes};
 ghost use Rattle.problem.specs.Extend.{undo, planOf};
-ghost use Rattle.problem.specs.Held.{held};
+ghost use Rattle.problem.specs.Held.{held, RowTable};
 ghost use Rattle.problem.specs.Masks.{stateOf, sets};
 ghost use Rattle.problem.specs.declared.Record.the-variants.{Snake, Triangle};
-ghost use Rattle.held.specs.Ready.{Ready, Value};
+ghost use Rattle.held.specs.Ready.{Ready, Value, Values};
 ghost use Rattle.sheet.specs.Bytes.{Is};
 ghost use Rattle.replay.specs.Walk.{checkedFrom};
 ghost use Rattle.undo.specs.Undone.{mended as mendedAt, Left, Undoable, UndoableFrom, undoneBy};
 ghost use Rattle.undo.specs.Found.{isRecord, LawfulFound, afterFound, UndoableFound, undoneFound};
 use bounded::has32;
-use held::is_live;
+use bounded::lowest16;
 use jobs::RecordRead;
 use problem::Masks;
 use problem::Record;
@@ -26,27 +28,21 @@ use trace::moved;
 use trace::peek;
 use trace::placed;
 
-// ---- undoing kind 2
+// ---- the lowest choice
 
-fn serves_snake(
-    t: &[u16],
-    active: u32,
-    on: &[u16; 32],
-    i: usize,
-    v: usize,
-    j: usize,
-    w: usize,
-    c: usize,
-) -> bool
-    requires { ⌜ Ready (now t) (sets active (now on)) × (Value (now t) i v × (Value (now t) j w × (c < 16))) ⌝ }
-    ensures { λ r. ⌜ r ≡ ((stateOf (sets active (now (on .entry)))) .live j c && snakeServes (held (now (t .entry))) (stateOf (sets active (now (on .entry)))) i v j w c) ⌝ }
+// The lowest of a set of values of i, or its size where there is none.
+fn lowest_of(t: &[u16], set: u16, i: usize) -> usize
+    requires { ⌜ RowTable (now t) × Values (now t) i set × (i < 32) ⌝ }
+    ensures { λ r. ⌜ Is (lowest ((held (now (t .entry))) .size i) (bit set)) 17 r ⌝ }
 {
-    if is_live(active, on, j, c) {
-        snake::snake_serves(t, active, on, i, v, j, w, c)
+    if set == 0 {
+        held::size(t, i)
     } else {
-        false
+        lowest16(set)
     }
 }
+
+// ---- undoing kind 2
 
 // The lowest w' that may take the place of w at j where i has v.
 fn lowest_snake(
@@ -58,18 +54,10 @@ fn lowest_snake(
     j: usize,
     w: usize,
 ) -> usize
-    requires { ⌜ Ready (now t) (sets active (now on)) × (Value (now t) i v × Value (now t) j w) ⌝ }
+    requires { ⌜ Ready (now t) (sets active (now on)) × (Value (now t) i v × (Value (now t) j w × (j ≢ i))) ⌝ }
     ensures { λ r. ⌜ Is (lowestLive (held (now (t .entry))) (stateOf (sets active (now (on .entry)))) j (λ c. snakeServes (held (now (t .entry))) (stateOf (sets active (now (on .entry)))) i v j w c)) 17 r ⌝ }
 {
-    let size = t[j] as usize;
-    let mut c: usize = 0;
-    while c < size {
-        if serves_snake(t, active, on, i, v, j, w, c) {
-            return c;
-        }
-        c += 1;
-    }
-    size
+    lowest_of(t, snake::snake_servers(t, active, on, i, v, j, w), j)
 }
 
 // The value of another active variable j once i has v.
@@ -118,39 +106,12 @@ fn undo_snake(t: &[u16], active: u32, on: &[u16; 32], i: usize, v: usize, out: &
 
 // ---- undoing kind 3
 
-fn serves_triangle(
-    t: &[u16],
-    active: u32,
-    on: &[u16; 32],
-    i: usize,
-    j: usize,
-    v: usize,
-    c: usize,
-) -> bool
-    requires { ⌜ Ready (now t) (sets active (now on)) × (Value (now t) j v × ((i < 32) × (c < 16))) ⌝ }
-    ensures { λ r. ⌜ r ≡ ((stateOf (sets active (now (on .entry)))) .live i c && triangleServes (held (now (t .entry))) (stateOf (sets active (now (on .entry)))) i j v c) ⌝ }
-{
-    if is_live(active, on, i, c) {
-        triangle::triangle_serves(t, active, on, i, j, v, c)
-    } else {
-        false
-    }
-}
-
 // The lowest u of i that serves for value v of j.
 fn lowest_triangle(t: &[u16], active: u32, on: &[u16; 32], i: usize, j: usize, v: usize) -> usize
-    requires { ⌜ Ready (now t) (sets active (now on)) × (Value (now t) j v × (i < 32)) ⌝ }
+    requires { ⌜ Ready (now t) (sets active (now on)) × (Value (now t) j v × ((i < 32) × (j ≢ i))) ⌝ }
     ensures { λ r. ⌜ Is (lowestLive (held (now (t .entry))) (stateOf (sets active (now (on .entry)))) i (λ c. triangleServes (held (now (t .entry))) (stateOf (sets active (now (on .entry)))) i j v c)) 17 r ⌝ }
 {
-    let size = t[i] as usize;
-    let mut u: usize = 0;
-    while u < size {
-        if serves_triangle(t, active, on, i, j, v, u) {
-            return u;
-        }
-        u += 1;
-    }
-    size
+    lowest_of(t, triangle::triangle_servers(t, active, on, i, j, v), i)
 }
 
 fn undo_triangle(t: &[u16], active: u32, on: &[u16; 32], i: usize, j: usize, out: &mut [u8])

@@ -25,7 +25,7 @@ returns-2 : tie.Need-returns-2
 returns-2 c =
     let a = c .before .args in
     let e : (1 * 2 ^ a .c) % 65536 ≡ 2 ^ a .c = omega (arith, shl-exact {a = 1} 1 (a .c) 16 (omega arith) (omega arith)) in
-    rw (bit-miss (a .set) (a .c) (omega arith) (ap (bitAnd (a .set)) (sym e) ∙ c .if1 .left))
+    rw (bit-miss (a .set) (a .c) (ap (bitAnd (a .set)) (sym e) ∙ c .if1 .left))
 
 pub where16-spec : {M : Type 1} → statement M
 where16-spec = tie.close (tie.spec cast-if1 shl-if1 returns returns-2)

@@ -1,6 +1,7 @@
 -- `cover::allowed_with`: the word so far has the values passed. Assumes nothing.
 use mathlib.Core.Path.{_≡_, sym, ap, _∙_}
 use mathlib.Core.Bool.{cond}
+use mathlib.Core.Logic.{_≢_}
 use Prim.Native.Nat.{ℕ, _+_, _-_, _^_, _≤_}
 use native.Mathlib.Omega.{arith}
 use lib.Bits.{bitAnd}
@@ -10,7 +11,7 @@ use borrow.Author.Needs.{needs}
 use Rattle.bounded.specs.Mask.{maskOf}
 use Rattle.bounded.proofs.Mask.{mask-none, mask-or}
 use Rattle.problem.specs.Held.{rowsAt}
-use Rattle.cover.proofs.Serving.{allowed-met}
+use Rattle.cover.proofs.Servers.{allowed-met}
 use Rattle.cover.proofs.allowed_with.Statement.{statement}
 use Rattle.cover.proofs.allowed_with.Tie as tie
 
@@ -38,7 +39,7 @@ pub allowed-with-spec : {M : Type 1} → statement M
 allowed-with-spec =
     tie.close
     (tie.spec Inv-loop μ-loop
-    (λ c κs. let p = c .before .pre in (p .0 .located, p .3, p .4, λ e. p .5 (sym e)))
+    (λ c κs. let p = c .before .pre in let a = c .before .args in let d : a .i ≢ a .l = λ e. p .5 (sym e) in search needs)
     (λ c. (search needs, mask-none _))
     (λ c. search needs)
     (λ c. search needs)

@@ -63,7 +63,7 @@ returns : tie.Need-returns
 returns c =
     let a = c .before .before .before .before .args in
     let small = c .before .before .before .shared-slice-known .given in
-    near-of (a .t .now) (a .i) (c .joined .result) (c .joined .ensures) (small (1056 + a .i) .fits) (small (1088 + a .i) .fits)
+    near-of (a .t .now) (a .i) (c .joined .result) (c .joined .ensures .0) (c .joined .ensures .1) (small (1088 + a .i) .fits)
 
 pub neighbours-spec : {M : Type 1} → statement M
 neighbours-spec =

@@ -23,23 +23,26 @@ next-substitution-requires c κs = search needs
 
 returns : tie.Need-returns
 unfolding nextOfKindBy
-returns c = rw (c .before .match .keys1) (c .next-unsupported .ensures)
+returns c = (rw (c .before .match .keys1) (c .next-unsupported .ensures), c .before .before .before .pre .2)
 
 returns-2 : tie.Need-returns-2
 unfolding nextOfKindBy
-returns-2 c = rw (c .before .match .keys2) (c .next-snake .ensures)
+returns-2 c = let e = c .next-snake .ensures in (rw (c .before .before .before .match .keys2) (e .0), e .1)
 
 returns-3 : tie.Need-returns-3
 unfolding nextOfKindBy
-returns-3 c = rw (c .before .match .keys3) (c .next-triangle .ensures)
+returns-3 c = let e = c .next-triangle .ensures in (rw (c .before .before .before .match .keys3) (e .0), e .1)
 
 returns-4 : tie.Need-returns-4
 unfolding nextOfKindBy
-returns-4 c = rw (c .before .match .keys4) (c .next-neighbourhood .ensures)
+returns-4 c = let e = c .next-neighbourhood .ensures in (rw (c .before .before .before .match .keys4) (e .0), e .1)
 
 returns-5 : tie.Need-returns-5
 unfolding nextOfKindBy
-returns-5 c = let e : c .before .before .before .args .kind ≡ 5 = omega arith in rw e (c .next-substitution .ensures)
+returns-5 c =
+    let k : c .before .before .before .before .before .args .kind ≡ 5 = omega arith in
+    let e = c .next-substitution .ensures in
+    (rw k (e .0), e .1)
 
 pub next-of-kind-spec : {M : Type 1} → statement M
 next-of-kind-spec =

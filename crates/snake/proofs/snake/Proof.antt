@@ -1,10 +1,9 @@
 -- `snake::snake`. Assumes nothing.
 use mathlib.Core.Path.{sym, _∙_}
+use borrow.Author.Needs.{needs}
 use Rattle.problem.specs.Problem.{snake}
 use Rattle.problem.specs.Masks.{stateOf}
-use Rattle.snake.specs.Parts.{snakeAt}
-use Rattle.held.proofs.Laws.{bit-value}
-use borrow.Author.Needs.{needs}
+use Rattle.snake.proofs.Laws.{tried-snake}
 use Rattle.snake.proofs.snake.Statement.{statement}
 use Rattle.snake.proofs.snake.Tie as tie
 
@@ -17,12 +16,11 @@ element-copy-out-has16 c = search needs
 has16-requires : tie.Need-has16-requires
 has16-requires c κs = search needs
 
-snake-others-requires : tie.Need-snake-others-requires
-snake-others-requires c κs = let p = c .before .before .before .before .pre in (p .0, bit-value (p .0) _ _ (sym (c .before .has16 .ensures) ∙ c .if1 .taken))
+snake-rests-requires : tie.Need-snake-rests-requires
+snake-rests-requires c κs = let p = c .before .before .before .before .pre in (p .0, p .1, p .2, sym (c .before .has16 .ensures) ∙ c .if1 .taken)
 
 returns : tie.Need-returns
-unfolding snake snakeAt stateOf
-returns c = rw (sym (c .before .before .has16 .ensures) ∙ c .before .if1 .taken) (c .snake-others .ensures)
+returns c = tried-snake (c .before .before .before .before .before .pre .0 .fits) _ _ _ (c .snake-rests .ensures)
 
 returns-2 : tie.Need-returns-2
 unfolding snake stateOf
@@ -35,6 +33,6 @@ snake-spec =
     mul-has16
     element-copy-out-has16
     has16-requires
-    snake-others-requires
+    snake-rests-requires
     returns
     returns-2)

@@ -1,8 +1,7 @@
 -- `snake::snake_at`. Assumes nothing.
-use mathlib.Core.Path.{_∙_}
 use Rattle.held.proofs.Laws.{domain-values, word-among, domain-among}
 use Rattle.cover.proofs.Laws.{other-apart, others-out}
-use Rattle.snake.proofs.Laws.{snake-word}
+use Rattle.snake.proofs.Laws.{other-at}
 use borrow.Author.Needs.{needs}
 use Rattle.snake.proofs.snake_at.Statement.{statement}
 use Rattle.snake.proofs.snake_at.Tie as tie
@@ -22,8 +21,8 @@ row-among-requires c κs =
 without32-requires : tie.Need-without32-requires
 without32-requires c κs = search needs
 
-all-served-requires : tie.Need-all-served-requires
-all-served-requires c κs =
+unserved-requires : tie.Need-unserved-requires
+unserved-requires c κs =
     let p = c .before .before .before .before .pre in
     let a = c .before .before .before .before .args in
     (p .0, rw (c .before .row-among .ensures) (word-among (p .0) _ _ _), domain-among (p .0) _, rw (c .without32 .ensures) (others-out (a .rest) _ (p .3)), p .3)
@@ -31,7 +30,9 @@ all-served-requires c κs =
 returns : tie.Need-returns
 returns c =
     let p = c .before .before .before .before .before .pre in
-    rw (p .4) (c .all-served .ensures ∙ (rw (c .before .without32 .ensures, p .2, c .before .before .row-among .ensures) (snake-word (p .0) _ _ _ (p .1 .variable) (p .3))))
+    let a = c .before .before .before .before .before .args in
+    other-at (p .0) _ _ _ (p .1 .variable) (p .3) _ (other-apart (a .rest) (a .active) _ _ (p .2) (p .1 .variable) (p .4))
+    (rw (c .before .without32 .ensures, p .2, c .before .before .row-among .ensures) at (c .unserved .ensures))
 
 pub snake-at-spec : {M : Type 1} → statement M
 snake-at-spec =
@@ -41,5 +42,5 @@ snake-at-spec =
     element-copy-out-domain
     row-among-requires
     without32-requires
-    all-served-requires
+    unserved-requires
     returns)

@@ -3,7 +3,7 @@ use mathlib.Core.Path.{ap, _∙_}
 use Prim.Native.Nat.{ℕ}
 use Rattle.cover.specs.Words.{others}
 use Rattle.cover.proofs.Laws.{other-apart, others-out}
-use Rattle.snake_substitution.proofs.Laws.{slide-word}
+use Rattle.snake_substitution.proofs.Laws.{unserved-test, slide-word}
 use Rattle.held.proofs.Laws.{domain-values, word-among}
 use borrow.Author.Needs.{needs}
 use Rattle.snake_substitution.proofs.slide_at.Statement.{statement}
@@ -30,8 +30,8 @@ row-among-requires-2 c κs =
 without32-requires : tie.Need-without32-requires
 without32-requires c κs = search needs
 
-all-served-requires : tie.Need-all-served-requires
-all-served-requires c κs =
+unserved-requires : tie.Need-unserved-requires
+unserved-requires c κs =
     let p = c .before .before .before .before .before .pre in
     let a = c .before .before .before .before .before .args in (
       p .0,
@@ -46,7 +46,7 @@ returns c =
     let p = c .before .before .before .before .before .before .pre in
     let a = c .before .before .before .before .before .before .args in
     let spared = c .before .without32 .ensures ∙ ap (λ (x : ℕ). others x (a .k)) (p .3) in
-    rw (p .5) (c .all-served .ensures ∙ (rw (spared, c .before .before .row-among2 .ensures, c .before .before .before .row-among .ensures) (slide-word (p .0) _ _ _ _ (p .1 .variable) (p .4))))
+    rw (p .5) (unserved-test (p .0 .fits) (c .unserved .ensures) ∙ (rw (spared, c .before .before .row-among2 .ensures, c .before .before .before .row-among .ensures) (slide-word (p .0) _ _ _ _ (p .1 .variable) (p .4))))
 
 pub slide-at-spec : {M : Type 1} → statement M
 slide-at-spec =
@@ -57,5 +57,5 @@ slide-at-spec =
     row-among-requires
     row-among-requires-2
     without32-requires
-    all-served-requires
+    unserved-requires
     returns)

@@ -1,68 +1,22 @@
--- `undo::lowest_triangle`: a loop to the size of the domain. Assumes nothing.
-use mathlib.Core.Path.{_≡_, sym, _∙_}
-use mathlib.Core.Bool.{_&&_}
-use Prim.Native.Nat.{_-_, _≤_}
-use Rattle.bounded.specs.Bounded.{lowest}
-use Rattle.bounded.proofs.Loops.{lowest-none, lowest-more, lowest-hit, lowest-end}
-use Rattle.problem.specs.Problem.{triangleServes}
-use Rattle.problem.specs.Held.{held}
-use Rattle.problem.specs.Masks.{stateOf, sets}
-use Rattle.problem.proofs.HeldTable.{held-entry, held-narrow}
-use Rattle.undo.proofs.Lowest.{lowest-here}
-use borrow.Author.Needs.{needs}
-use native.Mathlib.Omega.{arith}
+-- `undo::lowest_triangle`: the lowest of those that serve. Assumes nothing.
+use mathlib.Core.Path.{_∙_}
+use Rattle.undo.proofs.Lowest.{passing-values, passing-lowest}
 use Rattle.undo.proofs.lowest_triangle.Statement.{statement}
 use Rattle.undo.proofs.lowest_triangle.Tie as tie
 
-abbrev Inv-loop : tie.InvT-loop
-Inv-loop t active on i j v size c₀ c = (c ≤ size) × (lowest c (λ c. (stateOf (sets active on)) .live i c && triangleServes (held t) (stateOf (sets active on)) i j v c) ≡ c)
+triangle-servers-requires : tie.Need-triangle-servers-requires
+triangle-servers-requires c κs = let p = c .before .pre in (p .0, p .1 .0, p .1 .1 .0, p .1 .1 .1)
 
-abbrev μ-loop : tie.MeasureT-loop
-μ-loop t active on i j v size c₀ c = size - c
+lowest-of-requires : tie.Need-lowest-of-requires
+lowest-of-requires c κs =
+    let p = c .before .before .pre in
+    (p .0 .table, rw (c .triangle-servers .ensures) (passing-values (p .0) _ _), p .1 .1 .0)
 
-mul-size : tie.Need-mul-size Inv-loop μ-loop
-mul-size c = search needs
-
-shared-slice-read-size : tie.Need-shared-slice-read-size Inv-loop μ-loop
-shared-slice-read-size c = let l = c .before .before .pre .0 .table .located .long in let v = (c .before .before .pre .1 .1) in omega arith
-
-cast-size : tie.Need-cast-size Inv-loop μ-loop
-cast-size c = omega (arith, c .shared-slice-known2 .given (c .before .before .args .i))
-
-loop-holds : tie.Need-loop-holds Inv-loop μ-loop
-loop-holds c = (omega arith, lowest-none _)
-
-serves-triangle-requires : tie.Need-serves-triangle-requires Inv-loop μ-loop
-serves-triangle-requires c κs = let a = c .before .before .before .before .args in let z = held-entry (a .t .now) (a .i) (c .before .before .before .before .pre .1 .1) in let n = held-narrow (c .before .before .before .before .pre .0 .table) (a .i) in let p = c .before .before .before .before .pre in (p .0, (p .1 .0, (p .1 .1, omega arith)))
-
-returns : tie.Need-returns Inv-loop μ-loop
-returns c = let a = c .before .before .before .before .before .before .args in let z = held-entry (a .t .now) (a .i) (c .before .before .before .before .before .before .pre .1 .1) in let n = held-narrow (c .before .before .before .before .before .before .pre .0 .table) (a .i) in let l = c .before .before .before .loop in record { is = sym (lowest-here _ _ _ _ (c .before .before .before .before .before .before .pre .1 .1) ∙ lowest-hit _ _ (l .u) (c .before .before .loop-test .taken) (l .inv .1) (sym (c .before .serves-triangle .ensures) ∙ c .if1 .taken)); below = omega arith }
-
-add-u : tie.Need-add-u Inv-loop μ-loop
-add-u c = let a = c .before .before .before .before .before .before .args in let z = held-entry (a .t .now) (a .i) (c .before .before .before .before .before .before .pre .1 .1) in let n = held-narrow (c .before .before .before .before .before .before .pre .0 .table) (a .i) in omega arith
-
-loop-less : tie.Need-loop-less Inv-loop μ-loop
-loop-less c = search needs
-
-loop-again : tie.Need-loop-again Inv-loop μ-loop
-loop-again c = (omega arith, lowest-more _ _ (c .before .before .before .loop .inv .1) (sym (c .before .serves-triangle .ensures) ∙ c .if1 .left))
-
-returns-2 : tie.Need-returns-2 Inv-loop μ-loop
-returns-2 c = let a = c .before .before .before .before .args in let z = held-entry (a .t .now) (a .i) (c .before .before .before .before .pre .1 .1) in let n = held-narrow (c .before .before .before .before .pre .0 .table) (a .i) in let l = c .before .loop in record { is = sym (lowest-here _ _ _ _ (c .before .before .before .before .pre .1 .1) ∙ lowest-end _ _ (l .u) (omega arith) (omega arith) (l .inv .1)); below = omega arith }
+returns : tie.Need-returns
+returns c =
+    let p = c .before .before .before .pre in
+    let r = rw (c .before .triangle-servers .ensures) at (c .lowest-of .ensures) in
+    record { is = r .is ∙ passing-lowest (p .0) _ _; below = r .below }
 
 pub lowest-triangle-spec : {M : Type 1} → statement M
-lowest-triangle-spec =
-    tie.close
-    (tie.spec
-    Inv-loop
-    μ-loop
-    mul-size
-    shared-slice-read-size
-    cast-size
-    loop-holds
-    serves-triangle-requires
-    returns
-    add-u
-    loop-less
-    loop-again
-    returns-2)
+lowest-triangle-spec = tie.close (tie.spec triangle-servers-requires lowest-of-requires returns)

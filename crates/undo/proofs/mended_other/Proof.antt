@@ -9,7 +9,7 @@ pair-allowed-requires : tie.Need-pair-allowed-requires
 pair-allowed-requires c κs = let p = c .before .pre in (p .0 .table, p .1 .0, p .1 .1 .0)
 
 lowest-snake-requires : tie.Need-lowest-snake-requires
-lowest-snake-requires c κs = let p = c .before .before .before .pre in (p .0, (p .1 .0, p .1 .1 .0))
+lowest-snake-requires c κs = let p = c .before .before .before .pre in (p .0, (p .1 .0, (p .1 .1 .0, p .1 .1 .1 .1)))
 
 cast-result : tie.Need-cast-result
 cast-result c = let h = c .lowest-snake .ensures .below in omega arith

@@ -12,13 +12,13 @@ use Rattle.undo.proofs.undo_triangle.Statement.{statement}
 use Rattle.undo.proofs.undo_triangle.Tie as tie
 
 slice-read-lowest-triangle : tie.Need-slice-read-lowest-triangle
-slice-read-lowest-triangle c = let a = c .before .before .before .args in let p = c .before .before .before .pre in let F = p .0 .fits in let x = triangle-left F (a .i) (a .j) (planOf (a .out .now)) (lawful-iff (held (a .t .now)) (stateOf (sets (a .active) (a .on .now))) (Triangle (a .i) (a .j)) .0 (p .1 .lawfully) .1) (p .1 .solved) in let e = p .1 .long in let n = F .active-lt (a .j) (x .1 .1) in omega arith
+slice-read-lowest-triangle c = let a = c .before .before .before .args in let p = c .before .before .before .pre in let F = p .0 .fits in let x = triangle-left F (a .i) (a .j) (planOf (a .out .now)) (lawful-iff (held (a .t .now)) (stateOf (sets (a .active) (a .on .now))) (Triangle (a .i) (a .j)) .0 (p .1 .lawfully) .1) (p .1 .solved) in let e = p .1 .long in let n = F .active-lt (a .j) (x .1 .1 .0) in omega arith
 
 cast-lowest-triangle : tie.Need-cast-lowest-triangle
 cast-lowest-triangle c = omega (arith, c .slice-known2 .given (c .before .before .before .args .j))
 
 lowest-triangle-requires : tie.Need-lowest-triangle-requires
-lowest-triangle-requires c κs = let a = c .before .before .before .args in let p = c .before .before .before .pre in let F = p .0 .fits in let x = triangle-left F (a .i) (a .j) (planOf (a .out .now)) (lawful-iff (held (a .t .now)) (stateOf (sets (a .active) (a .on .now))) (Triangle (a .i) (a .j)) .0 (p .1 .lawfully) .1) (p .1 .solved) in let e = p .1 .long in (p .0, (live-value (p .0) (a .j) _ (x .0), active-32 (p .0) (a .i) (x .1 .0)))
+lowest-triangle-requires c κs = let a = c .before .before .before .args in let p = c .before .before .before .pre in let F = p .0 .fits in let x = triangle-left F (a .i) (a .j) (planOf (a .out .now)) (lawful-iff (held (a .t .now)) (stateOf (sets (a .active) (a .on .now))) (Triangle (a .i) (a .j)) .0 (p .1 .lawfully) .1) (p .1 .solved) in let e = p .1 .long in (p .0, (live-value (p .0) (a .j) _ (x .0), (active-32 (p .0) (a .i) (x .1 .0), x .1 .1 .1)))
 
 cast-out : tie.Need-cast-out
 cast-out c = let h = c .lowest-triangle .ensures .below in omega arith

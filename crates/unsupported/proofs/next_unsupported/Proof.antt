@@ -14,10 +14,10 @@ use Rattle.unsupported.proofs.next_unsupported.Statement.{statement}
 use Rattle.unsupported.proofs.next_unsupported.Tie as tie
 
 abbrev Inv-loop : tie.InvT-loop
-Inv-loop t active on i₀ i = (i ≤ 32) × (first i (unsupportedVariable (held t) (stateOf (sets active on))) ≡ Nothing)
+Inv-loop t active on bare i₀ i = (i ≤ 32) × (first i (unsupportedVariable (held t) (stateOf (sets active on))) ≡ Nothing)
 
 abbrev μ-loop : tie.MeasureT-loop
-μ-loop t active on i₀ i = 32 - i
+μ-loop t active on bare i₀ i = 32 - i
 
 pub next-unsupported-spec : {M : Type 1} → statement M
 next-unsupported-spec =

@@ -1,0 +1,4 @@
+pub mod Rests
+pub mod Changes
+pub mod Memory
+pub mod Words

@@ -1,0 +1,92 @@
+-- What is known of a state, its bare values and the memory of the search, brought up to the next step. Assumes nothing.
+use mathlib.Core.Path.{_≡_, sym, subst}
+use mathlib.Core.Bool.{true}
+use mathlib.Core.List.{List}
+use Prim.Native.Nat.{ℕ, _≤_, _<_}
+use native.Mathlib.Omega.{arith}
+use lib.Dec.{T}
+use Rattle.bounded.specs.Mask.{bit}
+use Rattle.bounded.proofs.Truth.{T-true}
+use Rattle.problem.specs.Problem.{Problem, State, noneEmpty, slideSpares, remove, eliminate}
+use Rattle.problem.specs.Reduce.{kindOf, holdsBy, holds, after, next}
+use Rattle.problem.specs.Held.{held}
+use Rattle.problem.specs.Masks.{stateOf, masksOf}
+use Rattle.problem.specs.declared.Masks.{Masks}
+use Rattle.problem.specs.declared.Record.{Record}
+use Rattle.problem.specs.declared.Record.the-variants.{Unsupported, Snake, Triangle, Neighbourhood, SnakeSubstitution}
+use Rattle.problem.specs.declared.Next.the-variants.{Step}
+use Rattle.problem.proofs.Reflect.{Active, Live, Fits, ArcConsistent, unsupported-iff, snake-iff, triangle-iff, neighbourhood-iff, snakeSubstitution-iff, eliminate-active, eliminate-live, remove-fits, eliminate-fits}
+use Rattle.problem.proofs.Trace.{lawful-iff}
+use Rattle.problem.proofs.Run.{next-lawful}
+use Rattle.memory.specs.Memory.{Remembered, Woken}
+use Rattle.memory.proofs.Changes.{remove-below, eliminate-below, eliminate-keeps, cover-arc, later-arc}
+use Rattle.memory.proofs.Memory.{remembered-removed, remembered-eliminated}
+use Rattle.held.specs.Ready.{Ready, Value}
+use Rattle.held.proofs.Laws.{live-value, active-32}
+use Rattle.steps.proofs.States.{after-state}
+use Rattle.unsupported.specs.Bare.{Bare, Mended}
+use Rattle.unsupported.proofs.Bare.{bare-mended, bare-below}
+use Rattle.search.specs.Known.{ValueWoken, Mendable, MendedBy}
+
+module _ {P : Problem} {s : State} (F : Fits P s) where
+  -- where every value has its supports, it has them at the variables that are left
+  eliminate-arc : ArcConsistent P s → (i : ℕ) → Active s i → ArcConsistent P (eliminate P s i)
+  eliminate-arc C i h j a o k g d =
+      let x = eliminate-active P s i k .0 g in
+      let y = C j a (eliminate-live P s F i j a .0 o .0) k (x .0) d in
+      (y .0, eliminate-keeps F C i h k (y .0) (x .1) (y .1), y .2)
+
+module _ {P : Problem} {s : State} (F : Fits P s) (r : Record) (e : next P s ≡ Step r) where
+  -- no active variable is emptied, and the rule of the step holds
+  pub step-holds : T (noneEmpty P s) × T (holds P s r)
+  step-holds = lawful-iff P s r .0 (next-lawful P s r e)
+
+  -- y is the state after the step
+  pub known-after : {y : State} {c d p w q x : List ℕ} → P .n ≤ 32 → Bare P s c → Remembered P s p w → y ≡ after P s r → MendedBy P y r c d p w q x → Bare P (after P s r) d × Remembered P (after P s r) q x
+  unfolding after holdsBy
+  known-after {c = c} {d} {p} {w} {q} {x} few B H is M = by r (step-holds .1) (later-arc F r e) (subst (λ (y : State). MendedBy P y r c d p w q x) is M)
+    where
+      small : (i : ℕ) → Active s i → i < 32
+      small i h = omega (arith, F .active-lt i h)
+
+      gone : (i b : ℕ) → Live s i b → ValueWoken i b p w q x → Remembered P (remove P s i b) q x
+      gone i b o K = remembered-removed H i b (small i (F .live-active i b o)) (K .folds) (K .woken)
+
+      mended : (i b : ℕ) → Live s i b → Mended P (remove P s i b) i b c d × ValueWoken i b p w q x → Bare P (remove P s i b) d × Remembered P (remove P s i b) q x
+      mended i b o M = (bare-mended F B i b o (M .0), gone i b o (M .1))
+
+      out : ArcConsistent P s → (i : ℕ) → Active s i → (d ≡ c) × Woken i p w q x → Bare P (eliminate P s i) d × Remembered P (eliminate P s i) q x
+      out C i h M = (
+        subst (Bare P (eliminate P s i)) (sym (M .0)) (bare-below F (eliminate-fits P s F i) (step-holds .0) C (eliminate-arc F C i h) (eliminate-below F i .live) B),
+        remembered-eliminated F C i (small i h) h H (M .1),
+      )
+
+      by : (r : Record) → T (holds P s r) → (1 < kindOf r → ArcConsistent P s) → MendedBy P (after P s r) r c d p w q x → Bare P (after P s r) d × Remembered P (after P s r) q x
+      by (Unsupported i b k) t C M = mended i b (unsupported-iff F i b k .0 t .0) M
+      by (Snake i v) t C M = out (C (omega arith)) i (F .live-active i v (snake-iff F i v .0 t .0)) M
+      by (Triangle i j) t C M = out (C (omega arith)) i (triangle-iff F i j .0 t .0) M
+      by (Neighbourhood i b a) t C M =
+          let A = C (omega arith) in
+          let N = neighbourhood-iff F i b a .0 t in (
+            subst (Bare P (remove P s i b)) (sym (M .0)) (bare-below F (remove-fits P s F i b) (step-holds .0) A (cover-arc F A i b a N) (remove-below P s i b .live) B),
+            gone i b (N .0) (M .1),
+          )
+      by (SnakeSubstitution i b a) t C M = mended i b (snakeSubstitution-iff F slideSpares i b a .0 t .0) M
+
+-- the fields of a record whose rule holds, in the state after its step
+module _ {t : List ℕ} {m : Masks} (R : Ready t m) where
+  remove-mendable : (i b : ℕ) → Live (stateOf m) i b → stateOf (masksOf (remove (held t) (stateOf m) i b)) ≡ remove (held t) (stateOf m) i b
+      → Value t i b × (bit (masksOf (remove (held t) (stateOf m) i b) .active) i ≡ true)
+  unfolding stateOf remove
+  remove-mendable i b o e = (live-value R i b o, T-true _ (subst (λ (s : State). Active s i) (sym e) (R .fits .live-active i b o)))
+
+  pub holds-mendable : (r : Record) → T (holds (held t) (stateOf m) r) → Mendable t (masksOf (after (held t) (stateOf m) r)) r
+  unfolding after holdsBy
+  holds-mendable r h = by r h (after-state R r)
+    where
+      by : (r : Record) → T (holds (held t) (stateOf m) r) → stateOf (masksOf (after (held t) (stateOf m) r)) ≡ after (held t) (stateOf m) r → Mendable t (masksOf (after (held t) (stateOf m) r)) r
+      by (Unsupported i b k) h e = remove-mendable i b (unsupported-iff (R .fits) i b k .0 h .0) e
+      by (Snake i v) h e = live-value R i v (snake-iff (R .fits) i v .0 h .0) .variable
+      by (Triangle i j) h e = active-32 R i (triangle-iff (R .fits) i j .0 h .0)
+      by (Neighbourhood i b a) h e = remove-mendable i b (neighbourhood-iff (R .fits) i b a .0 h .0) e
+      by (SnakeSubstitution i b a) h e = remove-mendable i b (snakeSubstitution-iff (R .fits) slideSpares i b a .0 h .0) e

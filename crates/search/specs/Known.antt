@@ -1,0 +1,36 @@
+-- What a step does to what is known of a state: its bare values, and the memory of the search.
+use mathlib.Core.Path.{_≡_}
+use mathlib.Core.Bool.{true}
+use mathlib.Core.List.{List}
+use Prim.Native.Nat.{ℕ, _<_}
+use Rattle.bounded.specs.Mask.{bit}
+use Rattle.problem.specs.Problem.{Problem, State}
+use Rattle.problem.specs.declared.Masks.{Masks}
+use Rattle.problem.specs.declared.Record.{Record}
+use Rattle.problem.specs.declared.Record.the-variants.{Unsupported, Snake, Triangle, Neighbourhood, SnakeSubstitution}
+use Rattle.memory.specs.Memory.{Woken, FoldsWoken}
+use Rattle.held.specs.Ready.{Value}
+use Rattle.unsupported.specs.Bare.{Mended}
+
+-- what waits for value b of i, or for i, is pending; before: p and w, after: q and x
+pub record ValueWoken (i b : ℕ) (p w q x : List ℕ) : Type 0 where
+  pub middle : List ℕ
+  pub folds : FoldsWoken i b p w middle
+  pub woken : Woken i middle w q x
+
+-- what the fields of a record are, in the state m after its step: a value that was listed of a variable that is active still, or a variable
+abbrev pub Mendable : (t : List ℕ) (m : Masks) → Record → Type 0
+Mendable t m (Unsupported i b k) = Value t i b × (bit (m .active) i ≡ true)
+Mendable t m (Snake i v) = i < 32
+Mendable t m (Triangle i j) = i < 32
+Mendable t m (Neighbourhood i b a) = Value t i b × (bit (m .active) i ≡ true)
+Mendable t m (SnakeSubstitution i b a) = Value t i b × (bit (m .active) i ≡ true)
+
+-- the bare values c and d, before and after, and the memory, in the state s after the step. A cover leaves no value bare, and neither does a
+-- variable that is eliminated where every value has its supports.
+abbrev pub MendedBy : (P : Problem) (s : State) (r : Record) (c d p w q x : List ℕ) → Type 0
+MendedBy P s (Unsupported i b k) c d p w q x = Mended P s i b c d × ValueWoken i b p w q x
+MendedBy P s (Snake i v) c d p w q x = (d ≡ c) × Woken i p w q x
+MendedBy P s (Triangle i j) c d p w q x = (d ≡ c) × Woken i p w q x
+MendedBy P s (Neighbourhood i b a) c d p w q x = (d ≡ c) × ValueWoken i b p w q x
+MendedBy P s (SnakeSubstitution i b a) c d p w q x = Mended P s i b c d × ValueWoken i b p w q x
