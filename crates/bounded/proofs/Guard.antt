@@ -35,10 +35,3 @@ met {a} {b} {p} {q} c x e f h = ap (λ (z : Bool). imp z x) (sym h ∙ (λ i. e 
 
 pub unmet : {a b p q : Bool} (c x : Bool) → a ≡ p → b ≡ q → (a && (b && c)) ≡ false → true ≡ imp (p && (q && c)) x
 unmet {a} {b} {p} {q} c x e f h = ap (λ (z : Bool). imp z x) (sym h ∙ (λ i. e i && (f i && c)))
-
--- one test in front of another
-pub behind : {a p : Bool} (x : Bool) → a ≡ p → a ≡ true → x ≡ (p && x)
-behind {a} {p} x e h = ap (λ (z : Bool). z && x) (sym h ∙ e)
-
-pub before : {a p : Bool} (x : Bool) → a ≡ p → a ≡ false → false ≡ (p && x)
-before {a} {p} x e h = ap (λ (z : Bool). z && x) (sym h ∙ e)

@@ -288,9 +288,6 @@ with-keeps x b c t = subst T (sym (bit-with x b c)) (or-iff (bit x c) (eqb c b) 
 pub with-has : (x b : ℕ) → T (bit (bitOr x (2 ^ b)) b)
 with-has x b = subst T (sym (bit-with x b b)) (or-iff (bit x b) (eqb b b) .1 (inr (eqb-iff b b .1 refl)))
 
-pub with-or : (x b c : ℕ) → T (bit (bitOr x (2 ^ b)) c) → T (bit x c) ⊎ (c ≡ b)
-with-or x b c t = ⊎-elim (λ h. inl h) (λ h. inr (eqb-iff c b .0 h)) (or-iff (bit x c) (eqb c b) .0 (subst T (bit-with x b c) t))
-
 pub with-lt : (n x b : ℕ) → x < 2 ^ n → b < n → bitOr x (2 ^ b) < 2 ^ n
 with-lt n x b l m = or-lt n x (2 ^ b) l (lt-of-lt-of-le (omega (arith, double b, pow-pos b)) (pow-le-pow-right (omega arith) m))
 

@@ -106,10 +106,7 @@ module _ {P : Problem} {s : State} (F : Fits P s) where
       f : ℕ → Bool
       f u = bit good u && coversIn P s rest i u j w
 
-  -- none left: no value of the set covers; some left: one does
-  pub servers-none : (rest good i j w : ℕ) → serversIn P s rest good i j w ≡ 0 → (u : ℕ) → u < 16 → T (bit good u) → ((l : ℕ) → l < 32 → T (bit rest l) → Substitutes P s i u j w l) → ⊥
-  servers-none rest good i j w e u k on h = member-some _ u (serversIn-iff rest good i j w u .1 (k, on, h)) e
-
+  -- some left: one of the set covers
   pub servers-some : (rest good i j w : ℕ) → serversIn P s rest good i j w ≢ 0 → (u : ℕ) × (u < 16) × (T (bit good u) × ((l : ℕ) → l < 32 → T (bit rest l) → Substitutes P s i u j w l))
   servers-some rest good i j w d =
       let y = serversIn-iff rest good i j w _ .0 (lowest-member 16 (serversIn P s rest good i j w) (servers-lt P s rest good i j w) d .1) in
@@ -196,20 +193,9 @@ module _ {t : List ℕ} {m : Masks} (R : Ready t m) where
         λ h. simp (all-iff, imp-iff) (λ l k u. let x = others-iff (m .active) i l p k .0 u in allOther-iff (R .fits) i f .0 h l (x .0) (x .1)),
       )
 
-  pub third-loop : (i j : ℕ) → i < 32 → j < 32 → (f : ℕ → Bool) → allBelow 32 (λ l. imp (bit (thirds (m .active) i j) l) (f l)) ≡ allThird (held t) (stateOf m) i j f
-  unfolding stateOf
-  third-loop i j p q f =
-      T-ext (
-        λ h. allThird-iff (R .fits) i j f .1 (λ l o d e. (simp (all-iff, imp-iff) at h) l (active-32 R l o) (thirds-iff (m .active) i j l p q (active-32 R l o) .1 ((o, d), e))),
-        λ h. simp (all-iff, imp-iff) (λ l k u. let x = thirds-iff (m .active) i j l p q k .0 u in allThird-iff (R .fits) i j f .0 h l (x .0 .0) (x .0 .1) (x .1)),
-      )
-
-  -- covering at every other variable, and at every third
+  -- covering at every other variable
   pub cover-word : (i j a k b : ℕ) → i < 32 → coversIn (held t) (stateOf m) (others (m .active) i) j a k b ≡ allOther (held t) (stateOf m) i (λ l. unspoilt (spoiler (held t) (stateOf m) j a k b l))
   cover-word i j a k b p = covers-all (held t) (stateOf m) (others (m .active) i) j a k b ∙ other-loop i p (λ l. unspoilt (spoiler (held t) (stateOf m) j a k b l))
-
-  pub third-word : (x y i a j b : ℕ) → x < 32 → y < 32 → coversIn (held t) (stateOf m) (thirds (m .active) x y) i a j b ≡ allThird (held t) (stateOf m) x y (λ l. unspoilt (spoiler (held t) (stateOf m) i a j b l))
-  third-word x y i a j b p q = covers-all (held t) (stateOf m) (thirds (m .active) x y) i a j b ∙ third-loop x y p q (λ l. unspoilt (spoiler (held t) (stateOf m) i a j b l))
 
   -- the first break at the other variables
   pub break-word : (i b a : ℕ) → i < 32 → firstBreakIn (held t) (stateOf m) (others (m .active) i) i a i b ≡ firstBreak (held t) (stateOf m) i b a

@@ -38,6 +38,3 @@ module _ {t : List ℕ} {m : Masks} (R : Ready t m) where
   pub not-live : (i b : ℕ) → bit (getD (m .domains) i 0) b ≡ false → Live s i b → ⊥
   unfolding stateOf
   not-live i b e h = T-not e h
-
-  pub no-domain : (i b : ℕ) → bit (m .active) i ≡ false → Live s i b → ⊥
-  no-domain i b e h = not-active i e (R .fits .live-active i b h)

@@ -31,13 +31,6 @@ module _ {P : Problem} {s : State} (F : Fits P s) where
         λ h. simp (all-iff, imp-iff) (λ l k o. allActive-iff F f .0 h l o),
       )
 
-  pub allLive-16 : (l : ℕ) → P .size l ≤ 16 → (f : ℕ → Bool) → allBelow 16 (λ c. imp (s .live l c) (f c)) ≡ allLive P s l f
-  allLive-16 l narrow f =
-      T-ext (
-        λ h. allLive-iff F l f .1 (λ c o. (simp (all-iff, imp-iff) at h) c (omega (arith, F .live-lt l c o)) o),
-        λ h. simp (all-iff, imp-iff) (λ c k o. allLive-iff F l f .0 h c o),
-      )
-
 -- a row of a filled table, bit by bit
 pub row-says : {t : List ℕ} → RowTable t → (i j a c : ℕ) → bit (rowWord (held t) i j a) c ≡ (held t) .allowed i a j c
 row-says R = row-word (held-bounded R)
@@ -131,10 +124,6 @@ module _ {t : List ℕ} {m : Masks} (R : Ready t m) where
   pub active-loop : (f : ℕ → Bool) → allBelow 32 (λ l. imp (bit (m .active) l) (f l)) ≡ allActive (held t) (stateOf m) f
   unfolding stateOf
   active-loop f = allActive-32 (R .fits) (held-few t) f
-
-  pub live-loop : (l : ℕ) → (f : ℕ → Bool) → allBelow 16 (λ c. imp (bit (getD (m .domains) l 0) c) (f c)) ≡ allLive (held t) (stateOf m) l f
-  unfolding stateOf held
-  live-loop l f = allLive-16 (R .fits) l (R .table .narrow l) f
 
   -- a value whose bit is set is a value of the problem
   pub bit-value : (i a : ℕ) → bit (getD (m .domains) i 0) a ≡ true → Value t i a

@@ -176,7 +176,3 @@ pub remembered-eliminated : {P : Problem} {s : State} {p w q x : List ℕ} → F
 remembered-eliminated {P} {s} F A l k h H E =
     remembered-changed H (eliminate-below F l) l (eliminate-keeps F A l h) (λ r d m t. t) E
     (λ i k n r C X o. absurd (eliminate-active P s l l .0 (C .active l (X .1 .0)) .1 refl))
-
--- the same state by another name
-pub remembered-same : {P : Problem} {s q : State} {p w : List ℕ} → Remembered P s p w → s ≡ q → Remembered P q p w
-remembered-same {P} {p = p} {w} H e = subst (λ (s : State). Remembered P s p w) e H

@@ -59,8 +59,3 @@ module _ {P : Problem} {s : State} {set : ℕ → ℕ → Type 0} where
       let on = K k d m o in
       let x = S .1 .1 .1 k (F .live-active k d on) n d on t in
       unserved-kept F B K k k d h (x .0) (x .1) (x .2 .0) (λ l c r. x .2 .1 l c (r .1) (λ y. r .0 (y .1)))
-
-  -- by no a: each other value of i fails for b
-  pub substitutions-rest : (i b : ℕ) → ((a : ℕ) → Live s i a → a ≢ b → Rests P s (λ q. SnakeSubstitution P q slideSpares i b a) set)
-      → Rests P s (λ q. (a : ℕ) × SnakeSubstitution P q slideSpares i b a) set
-  substitutions-rest i b h q F B K x = h (x .0) (B .live i (x .0) (x .1 .1 .0)) (x .1 .1 .1 .0) q F B K (x .1)
