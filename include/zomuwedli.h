@@ -18,7 +18,7 @@
  * 32 items of 16 settings, a trace of 512 records and colouring files of 64 KiB:
  *
  *     zomuwedli_read         ZOMUWEDLI_READ_STACK         4 KiB
- *     zomuwedli_run          ZOMUWEDLI_RUN_STACK         40 KiB
+ *     zomuwedli_run          ZOMUWEDLI_RUN_STACK         56 KiB, since it remembers which tests failed
  *     zomuwedli_start        ZOMUWEDLI_START_STACK       40 KiB
  *     zomuwedli_hand_call    ZOMUWEDLI_HAND_CALL_STACK   40 KiB
  *     zomuwedli_put_back     ZOMUWEDLI_PUT_BACK_STACK   320 KiB, since it keeps a state for each record of the trace
@@ -69,14 +69,14 @@ extern "C" {
 
 /* The stack for each call, as above, and for any but putting back and picking. */
 #define ZOMUWEDLI_READ_STACK (4 * 1024)
-#define ZOMUWEDLI_RUN_STACK (40 * 1024)
+#define ZOMUWEDLI_RUN_STACK (56 * 1024)
 #define ZOMUWEDLI_START_STACK (40 * 1024)
 #define ZOMUWEDLI_HAND_CALL_STACK (40 * 1024)
 #define ZOMUWEDLI_PUT_BACK_STACK (320 * 1024)
 #define ZOMUWEDLI_PICK_STACK (320 * 1024)
 #define ZOMUWEDLI_COLOUR_STACK (40 * 1024)
 #define ZOMUWEDLI_MOVE_STACK (40 * 1024)
-#define ZOMUWEDLI_STACK (40 * 1024)
+#define ZOMUWEDLI_STACK (56 * 1024)
 
 /* ---- The refusals: the constant, the number and the text of each. The numbers are those of docs/FORMAT.md, "Where each thing is turned
  * away"; in which order they are looked for stands with each call. A new number is one line here. */

@@ -1,6 +1,6 @@
-//! Times eight families of sheets of 32 items, seven of 16 settings and one of 4 whose run takes slides, each in both versions; moves of
-//! sheets; and colouring files: the proved library, the reference and the fast implementation, side by side in one run, and for colouring
-//! files a plain reader beside them.
+//! Times ten families of sheets of 32 items, nine of 16 settings and one of 4 whose run takes slides, each in both versions; runs of sheets
+//! that grow, and the longest run; moves of sheets; and colouring files: the proved library, the reference, the fixed peer and the fast
+//! implementation, side by side in one run. The peer has no moves and no colouring files, and for these files there is a plain reader.
 //! `families --names` lists these cases, and `families --count NAME IMPLEMENTATION` does one of them, for counting instructions
 //! (callgrind.sh).
 
@@ -11,19 +11,19 @@ mod support;
 use std::hint::black_box;
 use std::time::{Duration, Instant};
 
-use support::fast::{self, Workspace};
 use support::generate::{self, Random};
 use support::proved::{self, raw};
 use support::reference::{self, State};
-use support::{Answer, Done};
-use zomuwedli::{Taken, Written, HAND_STATE_LENGTH, MAX_ITEMS, MAX_SHEET, MAX_TRACE, OUT, STATE_LENGTH};
+use support::{fast, peer, Answer, Done};
+use zomuwedli::{Taken, Written, HAND_STATE_LENGTH, MAX_ITEMS, MAX_SETTINGS, MAX_SHEET, MAX_TRACE, OUT, STATE_LENGTH};
 
 const ROUNDS: usize = 7;
 /// A round repeats a call until it has taken about this long.
 const ROUND: Duration = Duration::from_millis(4);
 
-/// The proved library first; the plain reader has colouring files only.
-const NAMES: &[&str] = &["proved", "reference", "fast"];
+/// Who has which cases, the proved library first.
+const NAMES: &[&str] = &["proved", "reference", "peer", "fast"];
+const MOVE_NAMES: &[&str] = &["proved", "reference", "fast"];
 const FILE_NAMES: &[&str] = &["proved", "reference", "plain", "fast"];
 
 /// The timed jobs of one implementation.
@@ -31,7 +31,8 @@ enum Implementation {
     Proved,
     Reference,
     Plain,
-    Fast(Workspace),
+    Peer(peer::Workspace),
+    Fast(fast::Workspace),
 }
 
 impl Implementation {
@@ -40,8 +41,9 @@ impl Implementation {
             "proved" => Implementation::Proved,
             "reference" => Implementation::Reference,
             "plain" => Implementation::Plain,
-            "fast" => Implementation::Fast(Workspace::new()),
-            _ => panic!("no implementation {name}: one of {FILE_NAMES:?}"),
+            "peer" => Implementation::Peer(peer::Workspace::new()),
+            "fast" => Implementation::Fast(fast::Workspace::new()),
+            _ => panic!("no implementation {name}"),
         }
     }
 
@@ -50,6 +52,7 @@ impl Implementation {
             Implementation::Proved => raw::run(sheet, trace, state),
             Implementation::Reference => reference::run(sheet, trace, state),
             Implementation::Plain => no_such_job(),
+            Implementation::Peer(workspace) => workspace.run(sheet, trace, state),
             Implementation::Fast(workspace) => workspace.run(sheet, trace, state),
         }
     }
@@ -59,6 +62,7 @@ impl Implementation {
             Implementation::Proved => raw::start(sheet, state),
             Implementation::Reference => reference::start(sheet, state),
             Implementation::Plain => no_such_job(),
+            Implementation::Peer(workspace) => workspace.start(sheet, state),
             Implementation::Fast(workspace) => workspace.start(sheet, state),
         }
     }
@@ -68,6 +72,7 @@ impl Implementation {
             Implementation::Proved => raw::hand_call(sheet, state, item),
             Implementation::Reference => reference::hand_call(sheet, state, item),
             Implementation::Plain => no_such_job(),
+            Implementation::Peer(workspace) => workspace.hand_call(sheet, state, item),
             Implementation::Fast(workspace) => workspace.hand_call(sheet, state, item),
         }
     }
@@ -77,6 +82,7 @@ impl Implementation {
             Implementation::Proved => raw::put_back(sheet, trace, plan, result),
             Implementation::Reference => reference::put_back(sheet, trace, plan, result),
             Implementation::Plain => no_such_job(),
+            Implementation::Peer(workspace) => workspace.put_back(sheet, trace, plan, result),
             Implementation::Fast(workspace) => workspace.put_back(sheet, trace, plan, result),
         }
     }
@@ -86,6 +92,7 @@ impl Implementation {
             Implementation::Proved => raw::colour(file, channels, sheet),
             Implementation::Reference => reference::colour(file, channels, sheet),
             Implementation::Plain => plain::colour(file, channels, sheet),
+            Implementation::Peer(_) => no_such_job(),
             Implementation::Fast(_) => fast::colour(file, channels, sheet),
         }
     }
@@ -94,14 +101,14 @@ impl Implementation {
         match self {
             Implementation::Proved => raw::move_sheet(sheet, target),
             Implementation::Reference => reference::move_sheet(sheet, target),
-            Implementation::Plain => no_such_job(),
+            Implementation::Plain | Implementation::Peer(_) => no_such_job(),
             Implementation::Fast(workspace) => workspace.move_sheet(sheet, target),
         }
     }
 }
 
 fn no_such_job() -> ! {
-    panic!("the plain reader reads colouring files only")
+    panic!("the plain reader has colouring files only, and the peer neither these nor moves")
 }
 
 /// The buffers that a job writes, cleared before each call and outside the time.
@@ -155,7 +162,7 @@ enum Job {
 /// What is timed and counted: a row of a table.
 struct Case {
     table: String,
-    row: &'static str,
+    row: String,
     job: Job,
     /// A sheet of version 1, or a colouring file.
     input: Vec<u8>,
@@ -170,8 +177,9 @@ impl Case {
 
     fn implementations(&self) -> &'static [&'static str] {
         match self.job {
+            Job::Run | Job::PutBack | Job::Start | Job::HandCalls => NAMES,
+            Job::Move => MOVE_NAMES,
             Job::Colour { .. } => FILE_NAMES,
-            _ => NAMES,
         }
     }
 
@@ -220,21 +228,21 @@ fn cases() -> Vec<Case> {
     let mut cases = Vec::new();
     for (name, job, sheets) in jobs {
         for (version, moved) in [(1, false), (2, true)] {
-            let case = |(row, sheet): &(&'static str, Vec<u8>)| Case {
-                table: format!("{name} version {version}"),
-                row,
-                job,
-                input: sheet.clone(),
-                moved,
-            };
-            cases.extend(sheets.iter().map(case));
+            let table = format!("{name} version {version}");
+            cases.extend(sheets.iter().map(|(row, sheet)| case(&table, row, job, sheet, moved)));
         }
     }
+    cases.extend(generate::growing_sheets().iter().map(|(row, sheet)| case("growth", row, Job::Run, sheet, false)));
+    let longest = generate::longest_run();
+    cases.push(case("longest", "512 steps", Job::Run, &longest, false));
     for (row, file, channels) in generate::timed_files() {
-        let job = Job::Colour { channels };
-        cases.push(Case { table: "colouring file".to_string(), row, job, input: file, moved: false });
+        cases.push(case("colouring file", row, Job::Colour { channels }, &file, false));
     }
     cases
+}
+
+fn case(table: &str, row: &str, job: Job, input: &[u8], moved: bool) -> Case {
+    Case { table: table.to_string(), row: row.to_string(), job, input: input.to_vec(), moved }
 }
 
 fn started(sheet: &[u8]) -> Vec<u8> {
@@ -316,24 +324,35 @@ fn print_row(case: &Case) {
     };
     let times: Vec<f64> = best(case.implementations(), &call).iter().map(|time| time.as_nanos() as f64 / 1000.0).collect();
     let ratios: String = times[1..].iter().map(|time| format!(" {:>12.3}", time / times[0])).collect();
-    println!("{:<40} {:>11.1}{ratios}  {answer}", case.row, times[0] / case.calls() as f64);
+    println!("{:<44} {:>11.1}{ratios}  {answer}", case.row, times[0] / case.calls() as f64);
 }
 
 fn print_head(case: &Case) {
     let head = |name: &&str| format!(" {:>12}", format!("{}/proved", name.replace("reference", "ref")));
     let heads: String = case.implementations()[1..].iter().map(head).collect();
-    println!("\n{:<40} {:>11}{heads}  answer", case.table, "proved us");
+    println!("\n{:<44} {:>11}{heads}  answer", case.table, "proved us");
 }
 
-/// The run of the family with slides has one in each of its eight groups at least.
-fn check_slides() {
-    let families = generate::families();
-    let (_, sheet) = families.iter().find(|(name, _)| *name == generate::SLIDING_FAMILY).expect("one of the families");
+/// How many steps of each kind the run of a sheet takes.
+fn steps_by_kind(sheet: &[u8]) -> [usize; 5] {
     let (trace, _) = trace_and_plan(sheet);
     let steps = reference::steps_of(&trace).expect("a run's trace has whole records");
-    let slides = steps.iter().filter(|step| step.kind() == 5).count();
-    assert!(slides >= 8, "{} has {slides} slides", generate::SLIDING_FAMILY);
-    println!("{}: {slides} slides in {} steps.", generate::SLIDING_FAMILY, steps.len());
+    [1, 2, 3, 4, 5].map(|kind| steps.iter().filter(|step| step.kind() == kind).count())
+}
+
+/// The run of the family with slides has one in each of its eight groups at least, the last two families have steps of all kinds, and the
+/// longest run uses up one setting with each step.
+fn check_steps() {
+    let families = generate::families();
+    let kinds = families.iter().map(|(name, sheet)| (*name, steps_by_kind(sheet)));
+    for (name, kinds) in kinds.skip_while(|(name, _)| *name != generate::SLIDING_FAMILY) {
+        let least = if name == generate::SLIDING_FAMILY { kinds[4] >= 8 } else { kinds.iter().all(|&count| count >= 8) };
+        assert!(least, "{name} has {kinds:?}");
+        println!("{name}: {kinds:?} steps of kinds 1 to 5.");
+    }
+    let longest = steps_by_kind(&generate::longest_run());
+    assert_eq!(longest.iter().sum::<usize>(), MAX_ITEMS * MAX_SETTINGS);
+    println!("The longest run: {longest:?}.");
 }
 
 fn print_tables() {
@@ -341,7 +360,7 @@ fn print_tables() {
     println!("proved library's; below 1 is faster than the proved library. Each call reads the sheet, fills its table and does the job;");
     println!("the buffers are cleared before, outside the time. All gave the same answer and the same bytes before they were timed.");
     println!("Put back: the run's own trace. A hand call: the mean of one for each item from the start, taken out or refused.");
-    check_slides();
+    check_steps();
     let mut table = String::new();
     for case in cases() {
         if case.table != table {

@@ -1,26 +1,19 @@
 //! The eight jobs written for speed, from docs/FORMAT.md: sets as bit masks, and the rows of every pair both ways in one dense table. The
 //! answers' types and the limits are those of the library; all else is written here. No part of the library: tests/support has it.
 //!
-//! Two facts save most of the work, and neither changes the trace. A state only ever shrinks, so a value that covers another at an item
-//! covers it there for good: for each two values one mark, the lowest item at which the one may fail to cover the other, only moves up
-//! (`Reduction::gap`). And a rule that failed rests on a few items only: it is not tested again before one of them changes (`Failed`).
-//! Slides are looked for last, and all those of one item together, as words (`Reduction::slides_from`): a run that comes to rest has to
-//! test every one. The search for a plan keeps every set arc consistent, four items to a word (`Search`). A move goes over the sheet's bytes
-//! once, and fills no table (`Workspace::move_sheet`).
+//! Two things save most of the work, and neither changes the trace. The sixteen values of an item are asked together, in loops of constant
+//! length which the compiler makes vectors of (`Table::serving`). And a test that failed rests on a few items only: since sets only shrink,
+//! it fails until one of them changes, and is not made again before (`Reduction::pending`, `waiting`). The search for a plan keeps every set
+//! arc consistent, four items to a word (`Search`). A move goes over the sheet's bytes once, and fills no table (`Workspace::move_sheet`).
+//!
+//! What this was before, with a mark for each two values in place of these words, is kept as the fixed peer (peer.rs).
 
 use zomuwedli::{Accepted, End, Refusal, Taken, Unlawful, Written};
 use zomuwedli::{HAND_STATE_LENGTH, MAX_FILE, MAX_ITEMS, MAX_SETTINGS, MAX_SHEET, NOT_NAMED, OUT, STATE_LENGTH};
 
 use super::{Answer, Chosen, Done, Fault};
 
-/// What a mark says when no item is left at which a value fails to cover another.
-const NONE: usize = MAX_ITEMS;
-
-type Rows = [[[u16; MAX_ITEMS]; MAX_SETTINGS]; MAX_ITEMS];
-type Marks = [[[u8; MAX_SETTINGS]; MAX_SETTINGS]; MAX_ITEMS];
-
-/// The set of each value alone.
-const BITS: [u16; MAX_SETTINGS] = [1, 2, 4, 8, 16, 32, 64, 128, 256, 512, 1024, 2048, 4096, 8192, 16384, 32768];
+type Rows = [[[u16; MAX_SETTINGS]; MAX_ITEMS]; MAX_ITEMS];
 
 /// The members of a set, rising.
 fn members(set: u32) -> impl Iterator<Item = usize> {
@@ -32,8 +25,32 @@ fn members(set: u32) -> impl Iterator<Item = usize> {
     })
 }
 
+/// The members of a set, falling: a failure that is shown by high items lasts, since the run works from the lowest item up.
+fn falling(set: u32) -> impl Iterator<Item = usize> {
+    let mut rest = set;
+    std::iter::from_fn(move || {
+        let highest = 31_u32.checked_sub(rest.leading_zeros())?;
+        rest ^= 1 << highest;
+        Some(highest as usize)
+    })
+}
+
 fn values(set: u16) -> impl Iterator<Item = usize> {
-    members(u32::from(set))
+    let mut rest = set;
+    std::iter::from_fn(move || {
+        let lowest = rest.trailing_zeros() as usize;
+        rest &= rest.wrapping_sub(1);
+        (lowest < MAX_SETTINGS).then_some(lowest)
+    })
+}
+
+fn falling_values(set: u16) -> impl Iterator<Item = usize> {
+    let mut rest = set;
+    std::iter::from_fn(move || {
+        let highest = 15_u32.checked_sub(rest.leading_zeros())?;
+        rest ^= 1 << highest;
+        Some(highest as usize)
+    })
 }
 
 /// The set of all values below a size of 1 to 16.
@@ -69,22 +86,36 @@ impl State {
         }
         bytes
     }
+
+    fn is_live(&self, i: usize, a: usize) -> bool {
+        has(self.items, i) && has(u32::from(self.settings[i]), a)
+    }
+
+    fn two_live(&self, i: usize, b: usize, a: usize) -> bool {
+        self.is_live(i, a) && self.is_live(i, b) && a != b
+    }
+
+    fn is_emptied(&self) -> bool {
+        members(self.items).any(|i| self.settings[i] == 0)
+    }
 }
 
 // ---- The sheet ----------------------------------------------------------------------------------------------------------------------
 
-/// A sheet's table: `rows[i][a][j]` is the set of values of j allowed with value a of i. Where a pair has no block, and for j = i, all
-/// 16 bits are set: every use meets the row with values that are live.
+/// A sheet's table: `rows[i][j][a]` is the set of values of j allowed with value a of i, so that the sixteen rows of a pair stand side by
+/// side. Where a pair has no block, and for j = i, all 16 bits are set: every use meets the row with values that are live.
 struct Table {
     version: u8,
     sizes: [usize; MAX_ITEMS],
     count: usize,
     blocks: usize,
     rows: Rows,
-    /// The values that some row gives nothing: they have no support before the first step.
+    /// The values that no row of some block allows: they have no support before the first step.
     unsupported: [u16; MAX_ITEMS],
     /// The items that have a block with i.
     neighbours: [u32; MAX_ITEMS],
+    /// The set of each value alone, in memory: the compiler takes a constant list apart, and with it the loops over it.
+    bits: [u16; MAX_SETTINGS],
 }
 
 impl Table {
@@ -94,9 +125,10 @@ impl Table {
             sizes: [0; MAX_ITEMS],
             count: 0,
             blocks: 0,
-            rows: [[[0; MAX_ITEMS]; MAX_SETTINGS]; MAX_ITEMS],
+            rows: [[[0; MAX_SETTINGS]; MAX_ITEMS]; MAX_ITEMS],
             unsupported: [0; MAX_ITEMS],
             neighbours: [0; MAX_ITEMS],
+            bits: std::array::from_fn(|a| 1 << a),
         }
     }
 
@@ -104,7 +136,7 @@ impl Table {
     fn fill(&mut self, sheet: &[u8]) -> Result<(), Refusal> {
         self.read_front(sheet)?;
         self.read_sizes(&sheet[8..])?;
-        self.rows[..self.count].fill([[u16::MAX; MAX_ITEMS]; MAX_SETTINGS]);
+        self.rows[..self.count].fill([[u16::MAX; MAX_SETTINGS]; MAX_ITEMS]);
         self.unsupported = [0; MAX_ITEMS];
         self.neighbours = [0; MAX_ITEMS];
         let (count, blocks) = (self.count, self.blocks);
@@ -172,10 +204,8 @@ impl Table {
 
     fn enter(&mut self, i: usize, j: usize, block: &[u16; MAX_SETTINGS]) {
         self.neighbours[i] |= 1 << j;
-        for (a, &row) in block[..self.sizes[i]].iter().enumerate() {
-            self.rows[i][a][j] = row;
-            self.unsupported[i] |= u16::from(row == 0) << a;
-        }
+        self.rows[i][j] = *block;
+        self.unsupported[j] |= !block.iter().fold(0, |all, row| all | row);
     }
 
     fn full_state(&self) -> State {
@@ -237,55 +267,212 @@ fn transposed(mut block: [u16; MAX_SETTINGS]) -> [u16; MAX_SETTINGS] {
 impl Table {
     /// The values of j allowed with value a of i that are live.
     fn supports(&self, state: &State, i: usize, a: usize, j: usize) -> u16 {
-        self.rows[i][a][j] & state.settings[j]
+        self.rows[i][j][a] & state.settings[j]
     }
 
-    /// The values live at l that spoil a cover of b, a value of j, by a, a value of i: they are allowed with b and barred with a.
-    fn spoilers(&self, state: &State, (i, a): (usize, usize), (j, b): (usize, usize), l: usize) -> u16 {
-        self.rows[j][b][l] & !self.rows[i][a][l] & state.settings[l]
+    /// The values live at l that spoil a cover of b by a, two values of i: they are allowed with b and barred with a.
+    fn spoilers(&self, state: &State, i: usize, b: usize, a: usize, l: usize) -> u16 {
+        self.rows[i][l][b] & !self.rows[i][l][a] & state.settings[l]
     }
 
-    /// The lowest variable from `from` on, `apart` left out, at which a fails to cover b. A variable out has no value live, and the two
-    /// rows at i itself are full, so neither is ever one where it fails.
-    fn next_gap(&self, state: &State, i: usize, b: usize, a: usize, from: usize, apart: usize) -> usize {
-        let (rows_b, rows_a) = (&self.rows[i][b], &self.rows[i][a]);
-        (from..self.count).find(|&l| rows_b[l] & !rows_a[l] & state.settings[l] != 0 && l != apart).unwrap_or(NONE)
+    /// The values of i that are allowed with some of these values of l. All sixteen rows are met, without a branch.
+    #[inline(always)]
+    fn partners(&self, set: u16, l: usize, i: usize) -> u16 {
+        self.rows[l][i].iter().zip(&self.bits).fold(0, |all, (row, bit)| all | if set & bit != 0 { *row } else { 0 })
     }
 
-    /// The lowest variable, i and j left out, at which u, a value of i, fails to cover v, a value of j.
-    fn fold_gap(&self, state: &State, (i, u): (usize, usize), (j, v): (usize, usize)) -> usize {
-        (0..self.count).find(|&l| self.spoilers(state, (i, u), (j, v), l) != 0 && l != i && l != j).unwrap_or(NONE)
+    /// The values of i, of a set of them, that are allowed with each of these values of l: all sixteen at once, without a branch.
+    #[inline(always)]
+    fn allowed_with(&self, some: u16, set: u16, i: usize, l: usize) -> u16 {
+        self.rows[i][l].iter().zip(&self.bits).fold(0, |all, (row, bit)| all | if set & !row == 0 { *bit } else { 0 }) & some
     }
 
-    /// The values at j that lose their last support when i goes out.
-    fn lost(&self, state: &State, i: usize, j: usize) -> u16 {
-        values(state.settings[j]).filter(|&c| self.supports(state, j, c, i) == 0).fold(0, |lost, c| lost | 1 << c)
+    /// The values of i, of the good ones, that cover w, a value of j, at each of these items but i; and the items at which one failed. Where
+    /// none is left, it rests on these items alone. An item that has no block with i breaks nothing.
+    #[inline(always)]
+    fn serving(&self, state: &State, rest: u32, good: u16, i: usize, (j, w): (usize, usize)) -> (u16, u32) {
+        let (mut left, mut rests_on) = (good, 0);
+        let mut rest = falling(rest & self.neighbours[i]);
+        while left != 0 {
+            let Some(l) = rest.next() else { break };
+            let next = self.allowed_with(left, self.supports(state, j, w, l), i, l);
+            rests_on |= u32::from(next != left) << l;
+            left = next;
+        }
+        (left, rests_on)
     }
 
-    /// The lowest w' that the snake rule allows for w at j.
-    fn replacement(&self, state: &State, (i, v): (usize, usize), (j, w): (usize, usize)) -> Option<usize> {
-        values(self.supports(state, i, v, j)).find(|&new| self.next_gap(state, j, w, new, 0, i) == NONE)
+    /// The values of j that the snake rule allows for w, with v of i, and what it rests on that there are no more.
+    #[inline(always)]
+    fn replacements(&self, state: &State, (i, v): (usize, usize), (j, w): (usize, usize)) -> (u16, u32) {
+        self.serving(state, state.items & !(1 << i), self.supports(state, i, v, j), j, (j, w))
     }
 
-    /// The lowest u that the fold rule allows for v at j.
-    fn stand_in(&self, state: &State, i: usize, (j, v): (usize, usize)) -> Option<usize> {
-        values(self.supports(state, j, v, i)).find(|&u| self.fold_gap(state, (i, u), (j, v)) == NONE)
+    /// The values of i that the fold rule allows for v of j, and what it rests on that there are no more.
+    #[inline(always)]
+    fn stand_ins(&self, state: &State, i: usize, (j, v): (usize, usize)) -> (u16, u32) {
+        self.serving(state, state.items & !(1 << j), self.supports(state, j, v, i), i, (j, v))
+    }
+
+    /// The values of i that cover b, and what it rests on that there are no more.
+    #[inline(always)]
+    fn covering(&self, state: &State, i: usize, b: usize) -> (u16, u32) {
+        self.serving(state, state.items, state.settings[i] & !(1 << b), i, (i, b))
+    }
+
+    /// Nothing where the snake rule holds for a live v; else the items that its failure rests on.
+    #[inline(always)]
+    fn snake_fails(&self, state: &State, i: usize, v: usize) -> Option<u32> {
+        for j in falling(state.items & self.neighbours[i]) {
+            for w in falling_values(state.settings[j] & !self.rows[i][j][v]) {
+                let (left, rests_on) = self.replacements(state, (i, v), (j, w));
+                if left == 0 {
+                    return Some(rests_on | 1 << j);
+                }
+            }
+        }
+        None
+    }
+
+    /// Nothing where the fold rule holds for two items in; else the items other than j that its failure rests on, and the value of j.
+    #[inline(always)]
+    fn triangle_fails(&self, state: &State, i: usize, j: usize) -> Option<(u32, usize)> {
+        for v in falling_values(state.settings[j]) {
+            let (left, rests_on) = self.stand_ins(state, i, (j, v));
+            if left == 0 {
+                return Some((rests_on, v));
+            }
+        }
+        None
+    }
+
+    /// For each value b of i the values a that it can slide to, and the items that it rests on that there are no more. Each value d of
+    /// another item is looked at once, for all b and a.
+    fn slides_from(&self, state: &State, i: usize) -> ([u16; MAX_SETTINGS], u32) {
+        let live = state.settings[i];
+        let mut slides = self.bits.map(|b| if live & b == 0 { 0 } else { live & !b });
+        let mut rests_on = 0;
+        for k in falling(state.items & self.neighbours[i]) {
+            for d in falling_values(state.settings[k]) {
+                let with_d = self.rows[k][i][d];
+                // What d asks of a slide of b: nothing where d is barred with b, else one of these goals. Where a is allowed with d, d serves.
+                let asks = |goals: u16| self.bits.map(|b| if with_d & b == 0 { u16::MAX } else { goals });
+                let served = asks(with_d);
+                if slides.iter().zip(served).fold(0, |lost, (set, served)| lost | set & !served) == 0 {
+                    continue;
+                }
+                let (goals, fails_at) = self.slide_goals(state, i, k, d);
+                slides.iter_mut().zip(asks(goals)).for_each(|(set, served)| *set &= served);
+                rests_on |= fails_at | 1 << k;
+            }
+            if slides == [0; MAX_SETTINGS] {
+                break;
+            }
+        }
+        (slides, rests_on)
+    }
+
+    /// The values of i that are allowed with d, or with a value e of k that covers d at every item other than i and k; and the items that
+    /// it rests on that there are no more.
+    #[inline(always)]
+    fn slide_goals(&self, state: &State, i: usize, k: usize, d: usize) -> (u16, u32) {
+        let (serving, rests_on) = self.serving(state, state.items & !(1 << i), state.settings[k] & !(1 << d), k, (k, d));
+        (self.partners(serving | 1 << d, k, i), rests_on)
+    }
+
+    /// Whether the slide rule holds for two live values of i.
+    fn slides(&self, state: &State, i: usize, b: usize, a: usize) -> bool {
+        members(state.items & self.neighbours[i])
+            .all(|k| values(self.spoilers(state, i, b, a, k)).all(|d| self.replacements(state, (i, a), (k, d)).0 != 0))
+    }
+
+    /// The lowest item at which a fails to cover b.
+    fn first_gap(&self, state: &State, i: usize, b: usize, a: usize) -> Option<usize> {
+        members(state.items & self.neighbours[i]).find(|&l| self.spoilers(state, i, b, a, l) != 0)
+    }
+
+    fn lawful(&self, state: &State, step: Step) -> bool {
+        match step {
+            Step::Unsupported { i, b, k } => state.is_live(i, b) && has(state.items, k) && i != k && self.supports(state, i, b, k) == 0,
+            Step::Snake { i, v } => state.is_live(i, v) && self.snake_fails(state, i, v).is_none(),
+            Step::Triangle { i, j } => has(state.items, i) && has(state.items, j) && i != j && self.triangle_fails(state, i, j).is_none(),
+            Step::Neighbourhood { i, b, a } => state.two_live(i, b, a) && self.first_gap(state, i, b, a).is_none(),
+            Step::SnakeSubstitution { i, b, a } => state.two_live(i, b, a) && self.slides(state, i, b, a),
+        }
+    }
+
+    /// What 17 of an unlawful step names where no item is emptied: the lowest item where a cover breaks, and the lowest bit of the word of
+    /// what spoils it there.
+    #[cold]
+    fn named(&self, state: &State, step: Step) -> (u8, u8) {
+        match step {
+            Step::Neighbourhood { i, b, a } if state.two_live(i, b, a) => {
+                let item = self.first_gap(state, i, b, a).expect("the step is not lawful");
+                (item as u8, self.spoilers(state, i, b, a, item).trailing_zeros() as u8)
+            }
+            _ => (NOT_NAMED, NOT_NAMED),
+        }
+    }
+
+    /// Does a lawful step where no item is emptied.
+    fn perform(&self, state: &mut State, step: Step) {
+        match step {
+            Step::Unsupported { i, b, .. } | Step::Neighbourhood { i, b, .. } | Step::SnakeSubstitution { i, b, .. } => {
+                state.settings[i] &= !(1 << b)
+            }
+            Step::Snake { i, .. } | Step::Triangle { i, .. } => self.take_out(state, i),
+        }
+    }
+
+    /// Takes an item out that is not emptied, and with it what elsewhere has no support at it.
+    fn take_out(&self, state: &mut State, i: usize) {
+        let live = std::mem::take(&mut state.settings[i]);
+        state.items &= !(1 << i);
+        for j in members(state.items & self.neighbours[i]) {
+            state.settings[j] &= self.partners(live, i, j);
+        }
+    }
+
+    /// The full state without the values that have no support, until each has its supports; where an item is emptied, all of them go. Item
+    /// after item is held against those of its neighbours that changed since it was looked at last.
+    fn started(&self) -> State {
+        let mut state = self.full_state();
+        let mut changed = 0;
+        for i in members(state.items) {
+            changed |= u32::from(state.settings[i] & self.unsupported[i] != 0) << i;
+            state.settings[i] &= !self.unsupported[i];
+        }
+        let mut changed_near = self.neighbours.map(|near| near & changed);
+        while changed != 0 && !state.is_emptied() {
+            changed = 0;
+            for i in members(state.items) {
+                let near = members(std::mem::take(&mut changed_near[i]));
+                let left = near.fold(state.settings[i], |left, k| left & self.partners(state.settings[k], k, i));
+                if left != state.settings[i] {
+                    state.settings[i] = left;
+                    changed |= 1 << i;
+                    members(self.neighbours[i]).for_each(|j| changed_near[j] |= 1 << i);
+                }
+            }
+        }
+        if state.is_emptied() {
+            state.settings = [0; MAX_ITEMS];
+        }
+        state
     }
 
     fn undo(&self, before: &State, step: Step, plan: &mut [u8]) {
         match step {
             Step::Snake { i, v } => {
                 plan[i] = v as u8;
-                for j in members(before.items & !(1 << i)) {
+                for j in members(before.items & self.neighbours[i]) {
                     let w = usize::from(plan[j]);
-                    if self.rows[i][v][j] >> w & 1 == 0 {
-                        plan[j] = self.replacement(before, (i, v), (j, w)).expect("the step was lawful") as u8;
+                    if self.rows[i][j][v] >> w & 1 == 0 {
+                        plan[j] = lowest(self.replacements(before, (i, v), (j, w)).0);
                     }
                 }
             }
-            Step::Triangle { i, j } => {
-                plan[i] = self.stand_in(before, i, (j, usize::from(plan[j]))).expect("the step was lawful") as u8;
-            }
+            Step::Triangle { i, j } => plan[i] = lowest(self.stand_ins(before, i, (j, usize::from(plan[j]))).0),
             _ => {}
         }
     }
@@ -293,9 +480,15 @@ impl Table {
     fn is_solution(&self, state: &State, plan: &[u8]) -> bool {
         let live = |i: usize| has(u32::from(state.settings[i]), usize::from(plan[i]));
         let placed = |i: usize| if has(state.items, i) { live(i) } else { plan[i] == OUT };
-        let agrees = |i: usize, j: usize| has(u32::from(self.rows[i][usize::from(plan[i])][j]), usize::from(plan[j]));
-        (0..self.count).all(placed) && members(state.items).all(|i| members(state.items).all(|j| agrees(i, j)))
+        let agrees = |i: usize, j: usize| has(u32::from(self.rows[i][j][usize::from(plan[i])]), usize::from(plan[j]));
+        (0..self.count).all(placed) && members(state.items).all(|i| members(state.items & self.neighbours[i]).all(|j| agrees(i, j)))
     }
+}
+
+/// The lowest of the values that a lawful step allows: there is one.
+fn lowest(values: u16) -> u8 {
+    assert!(values != 0, "the step was lawful");
+    values.trailing_zeros() as u8
 }
 
 #[derive(Clone, Copy)]
@@ -348,59 +541,17 @@ impl Step {
 
 // ---- The reduction ------------------------------------------------------------------------------------------------------------------
 
-/// Tests of one kind, by variable and third field. A test that failed waits until one of the items that its failure rests on changes.
-struct Failed<const WIDTH: usize> {
-    rests_on: [[u32; WIDTH]; MAX_ITEMS],
-    waits: [u32; MAX_ITEMS],
-    changed: u32,
-}
+/// The tests of kinds 2 to 5, a bit for each: in each of these groups a word for each variable. A fold's bit is that of its j, in two groups;
+/// a snake's and a cover's that of its value; all slides of a variable are one test, bit 0.
+type Tests = [[u16; MAX_ITEMS]; 5];
 
-impl<const WIDTH: usize> Failed<WIDTH> {
-    fn new() -> Self {
-        Failed { rests_on: [[0; WIDTH]; MAX_ITEMS], waits: [0; MAX_ITEMS], changed: 0 }
-    }
+const SNAKES: usize = 0;
+const FOLDS: [usize; 2] = [1, 2];
+const COVERS: usize = 3;
+const SLIDES: usize = 4;
 
-    fn clear(&mut self) {
-        self.waits = [0; MAX_ITEMS];
-        self.changed = 0;
-    }
-
-    fn note(&mut self, i: usize, third: usize, rests_on: u32) {
-        self.rests_on[i][third] = rests_on;
-        self.waits[i] |= 1 << third;
-    }
-
-    /// Lets every test go that rests on an item changed since the last call.
-    fn wake(&mut self, active: u32) {
-        let changed = std::mem::take(&mut self.changed);
-        if changed == 0 {
-            return;
-        }
-        for i in members(active) {
-            let woken = self.rests_on[i].iter().enumerate().fold(0, |set, (third, on)| set | u32::from(on & changed != 0) << third);
-            self.waits[i] &= !woken;
-        }
-    }
-}
-
-/// The items at which these values fail, one for each; nothing where a value fails nowhere.
-fn all_gaps(set: u16, mut gap: impl FnMut(usize) -> usize) -> Option<u32> {
-    values(set).try_fold(0, |gaps, value| match gap(value) {
-        NONE => None,
-        item => Some(gaps | 1 << item),
-    })
-}
-
-/// The marks of one item before anything is known of it: a value covers itself at every item.
-const UNKNOWN: [[u8; MAX_SETTINGS]; MAX_SETTINGS] = {
-    let mut marks = [[0; MAX_SETTINGS]; MAX_SETTINGS];
-    let mut value = 0;
-    while value < MAX_SETTINGS {
-        marks[value][value] = NONE as u8;
-        value += 1;
-    }
-    marks
-};
+const NO_TESTS: Tests = [[0; MAX_ITEMS]; 5];
+const ALL_TESTS: Tests = [[u16::MAX; MAX_ITEMS]; 5];
 
 /// A state on its way down, with what is known of it.
 struct Reduction {
@@ -408,13 +559,12 @@ struct Reduction {
     emptied: bool,
     /// Values found without support at some other item; those still live are switched off next.
     unsupported: [u16; MAX_ITEMS],
-    /// `marks[i][b][a]`: below this item a covers b.
-    marks: Marks,
-    snakes: Failed<MAX_SETTINGS>,
-    triangles: Failed<MAX_ITEMS>,
-    neighbourhoods: Failed<MAX_SETTINGS>,
-    /// By variable alone: all slides of an item fail together.
-    slides: Failed<1>,
+    /// The tests to be made. Any other has failed, and fails still: what its failure rests on has not changed since.
+    pending: Tests,
+    /// `waiting[l]`: the tests whose failure rests on item l.
+    waiting: [Tests; MAX_ITEMS],
+    /// `shown_by[j][i]`: the value of j for which i has no stand-in. Of all that is live at j, the failed fold rests on this alone.
+    shown_by: [[u16; MAX_ITEMS]; MAX_ITEMS],
 }
 
 impl Reduction {
@@ -423,230 +573,149 @@ impl Reduction {
             state: State { items: 0, settings: [0; MAX_ITEMS] },
             emptied: false,
             unsupported: [0; MAX_ITEMS],
-            marks: [UNKNOWN; MAX_ITEMS],
-            snakes: Failed::new(),
-            triangles: Failed::new(),
-            neighbourhoods: Failed::new(),
-            slides: Failed::new(),
+            pending: NO_TESTS,
+            waiting: [NO_TESTS; MAX_ITEMS],
+            shown_by: [[0; MAX_ITEMS]; MAX_ITEMS],
         }
     }
 
-    fn begin(&mut self, table: &Table, state: State) {
-        self.emptied = members(state.items).any(|i| state.settings[i] == 0);
-        self.state = state;
+    fn begin(&mut self, table: &Table) {
+        self.state = table.full_state();
+        self.emptied = false;
         self.unsupported = table.unsupported;
-        self.marks[..table.count].fill(UNKNOWN);
-        self.snakes.clear();
-        self.triangles.clear();
-        self.neighbourhoods.clear();
-        self.slides.clear();
+        self.pending = ALL_TESTS;
+        self.waiting = [NO_TESTS; MAX_ITEMS];
     }
 
-    fn note_changed(&mut self, i: usize) {
-        self.snakes.changed |= 1 << i;
-        self.triangles.changed |= 1 << i;
-        self.neighbourhoods.changed |= 1 << i;
-        self.slides.changed |= 1 << i;
+    /// Notes that a test failed, and the items that this rests on.
+    fn note(&mut self, group: usize, i: usize, bit: usize, rests_on: u32) {
+        self.pending[group][i] &= !(1 << bit);
+        for l in members(rests_on) {
+            self.waiting[l][group][i] |= 1 << bit;
+        }
     }
 
-    fn others(&self, i: usize) -> u32 {
-        self.state.items & !(1 << i)
+    /// Item l changed: what waits for it is to be tested again.
+    fn wake(&mut self, l: usize) {
+        for (pending, waiting) in self.pending.iter_mut().zip(&mut self.waiting[l]) {
+            pending.iter_mut().zip(waiting).for_each(|(pending, waiting)| *pending |= std::mem::take(waiting));
+        }
     }
 
-    fn is_live(&self, i: usize, a: usize) -> bool {
-        has(self.state.items, i) && has(u32::from(self.state.settings[i]), a)
+    /// Switches c off at l.
+    fn switch_off(&mut self, l: usize, c: usize) {
+        self.state.settings[l] &= !(1 << c);
+        self.emptied = self.state.settings[l] == 0;
+        self.wake(l);
+        let (fold, c) = (1 << (l % 16), c as u16);
+        for (pending, by) in self.pending[FOLDS[l / 16]].iter_mut().zip(&self.shown_by[l]) {
+            *pending |= if *by == c { fold } else { 0 };
+        }
     }
 
-    /// Switches b off at i, and notes the values elsewhere that had no other support there.
-    fn switch_off(&mut self, table: &Table, i: usize, b: usize) {
-        self.state.settings[i] &= !(1 << b);
-        self.emptied |= self.state.settings[i] == 0;
-        self.note_changed(i);
-        for j in members(self.others(i)) {
-            let touched = table.supports(&self.state, i, b, j) & !self.unsupported[j];
-            for c in values(touched).filter(|&c| table.supports(&self.state, j, c, i) == 0) {
-                self.unsupported[j] |= 1 << c;
+    /// Notes the values elsewhere that had no other support at l than c, which is off. Most have one in the lowest or highest that is live.
+    fn note_unsupported(&mut self, table: &Table, l: usize, c: usize) {
+        let State { items, settings } = &self.state;
+        let live = settings[l];
+        if live == 0 {
+            return;
+        }
+        // Of these it is clear to the compiler that they are within the rows.
+        let [lowest, highest, c] = [live.trailing_zeros() as usize, live.ilog2() as usize, c].map(|value| value % MAX_SETTINGS);
+        for i in members(items & table.neighbours[l]) {
+            let rows = &table.rows[l][i];
+            let touched = settings[i] & rows[c] & !self.unsupported[i];
+            if touched & !(rows[lowest] | rows[highest]) != 0 {
+                self.unsupported[i] |= touched & !table.partners(live, l, i);
             }
         }
     }
 
-    fn take_out(&mut self, table: &Table, i: usize) {
-        let lost: [u16; MAX_ITEMS] = std::array::from_fn(|j| if j == i { 0 } else { table.lost(&self.state, i, j) });
+    /// Takes an item out where every value has its supports: then nothing else changes.
+    fn take_out(&mut self, i: usize) {
         self.state.items &= !(1 << i);
         self.state.settings[i] = 0;
-        self.note_changed(i);
-        for j in members(self.state.items) {
-            values(lost[j]).for_each(|c| self.switch_off(table, j, c));
-        }
+        self.wake(i);
     }
 
+    /// Does the step that was found. What is covered leaves no value without support: each has one in the value that covers.
     fn perform(&mut self, table: &Table, step: Step) {
         match step {
-            Step::Unsupported { i, b, .. } | Step::Neighbourhood { i, b, .. } | Step::SnakeSubstitution { i, b, .. } => {
-                self.switch_off(table, i, b)
+            Step::Unsupported { i, b, .. } | Step::SnakeSubstitution { i, b, .. } => {
+                self.switch_off(i, b);
+                self.note_unsupported(table, i, b);
             }
-            Step::Snake { i, .. } | Step::Triangle { i, .. } => self.take_out(table, i),
+            Step::Neighbourhood { i, b, .. } => self.switch_off(i, b),
+            Step::Snake { i, .. } | Step::Triangle { i, .. } => self.take_out(i),
         }
-    }
-
-    /// The lowest item at which a fails to cover b.
-    fn gap(&mut self, table: &Table, i: usize, b: usize, a: usize) -> usize {
-        let mark = &mut self.marks[i][b][a];
-        let gap = table.next_gap(&self.state, i, b, a, usize::from(*mark), NONE);
-        *mark = gap as u8;
-        gap
-    }
-
-    /// The lowest item other than `apart` at which a fails to cover b.
-    fn gap_apart(&mut self, table: &Table, i: usize, b: usize, a: usize, apart: usize) -> usize {
-        let gap = self.gap(table, i, b, a);
-        if gap == apart {
-            table.next_gap(&self.state, i, b, a, apart + 1, NONE)
-        } else {
-            gap
-        }
-    }
-
-    /// Nothing where the snake rule holds for a live v; else the items that its failure rests on.
-    fn snake_fails(&mut self, table: &Table, i: usize, v: usize) -> Option<u32> {
-        for j in members(self.others(i)) {
-            for w in values(self.state.settings[j] & !table.rows[i][v][j]) {
-                let replacements = table.supports(&self.state, i, v, j);
-                if let Some(gaps) = all_gaps(replacements, |new| self.gap_apart(table, j, w, new, i)) {
-                    return Some(gaps | 1 << j);
-                }
-            }
-        }
-        None
-    }
-
-    /// Nothing where the fold rule holds for two active items; else the items that its failure rests on.
-    fn triangle_fails(&self, table: &Table, i: usize, j: usize) -> Option<u32> {
-        for v in values(self.state.settings[j]) {
-            let stand_ins = table.supports(&self.state, j, v, i);
-            if let Some(gaps) = all_gaps(stand_ins, |u| table.fold_gap(&self.state, (i, u), (j, v))) {
-                return Some(gaps | 1 << j);
-            }
-        }
-        None
     }
 
     fn next_unsupported(&self, table: &Table) -> Option<Step> {
         let i = members(self.state.items).find(|&i| self.unsupported[i] & self.state.settings[i] != 0)?;
         let b = values(self.unsupported[i] & self.state.settings[i]).next()?;
-        let k = members(self.others(i)).find(|&k| table.supports(&self.state, i, b, k) == 0)?;
+        let k = members(self.state.items & table.neighbours[i]).find(|&k| table.supports(&self.state, i, b, k) == 0)?;
         Some(Step::Unsupported { i, b, k })
     }
 
+    // The four searches are not inlined, so that each is compiled as if it were alone.
+
+    #[inline(never)]
     fn next_snake(&mut self, table: &Table) -> Option<Step> {
-        self.snakes.wake(self.state.items);
         for i in members(self.state.items) {
-            for v in values(self.state.settings[i] & !self.snakes.waits[i] as u16) {
-                match self.snake_fails(table, i, v) {
+            for v in values(self.state.settings[i] & self.pending[SNAKES][i]) {
+                match table.snake_fails(&self.state, i, v) {
                     None => return Some(Step::Snake { i, v }),
-                    Some(rests_on) => self.snakes.note(i, v, rests_on),
+                    Some(rests_on) => self.note(SNAKES, i, v, rests_on),
                 }
             }
         }
         None
     }
 
+    #[inline(never)]
     fn next_triangle(&mut self, table: &Table) -> Option<Step> {
-        self.triangles.wake(self.state.items);
         for i in members(self.state.items) {
-            for j in members(self.others(i) & !self.triangles.waits[i]) {
-                match self.triangle_fails(table, i, j) {
+            let pending = u32::from(self.pending[FOLDS[0]][i]) | u32::from(self.pending[FOLDS[1]][i]) << 16;
+            for j in members(self.state.items & pending & !(1 << i)) {
+                match table.triangle_fails(&self.state, i, j) {
                     None => return Some(Step::Triangle { i, j }),
-                    Some(rests_on) => self.triangles.note(i, j, rests_on),
-                }
-            }
-        }
-        None
-    }
-
-    fn next_neighbourhood(&mut self, table: &Table) -> Option<Step> {
-        self.neighbourhoods.wake(self.state.items);
-        for i in members(self.state.items) {
-            for b in values(self.state.settings[i] & !self.neighbourhoods.waits[i] as u16) {
-                let mut rests_on = 0;
-                for a in values(self.state.settings[i] & !(1 << b)) {
-                    match self.gap(table, i, b, a) {
-                        NONE => return Some(Step::Neighbourhood { i, b, a }),
-                        gap => rests_on |= 1 << gap,
+                    Some((rests_on, v)) => {
+                        self.shown_by[j][i] = v as u16;
+                        self.note(FOLDS[j / 16], i, j % 16, rests_on);
                     }
                 }
-                self.neighbourhoods.note(i, b, rests_on);
             }
         }
         None
     }
 
-    /// Asked only where `next_neighbourhood` has just found nothing, which `slides_from` relies on. Not inlined, so that the search for the
-    /// other kinds is compiled as without it.
+    #[inline(never)]
+    fn next_neighbourhood(&mut self, table: &Table) -> Option<Step> {
+        for i in members(self.state.items) {
+            for b in values(self.state.settings[i] & self.pending[COVERS][i]) {
+                let (covering, rests_on) = table.covering(&self.state, i, b);
+                if covering != 0 {
+                    return Some(Step::Neighbourhood { i, b, a: covering.trailing_zeros() as usize });
+                }
+                self.note(COVERS, i, b, rests_on);
+            }
+        }
+        None
+    }
+
     #[inline(never)]
     fn next_slide(&mut self, table: &Table) -> Option<Step> {
-        self.slides.wake(self.state.items);
         for i in members(self.state.items) {
-            if self.slides.waits[i] != 0 {
+            if self.pending[SLIDES][i] & 1 == 0 {
                 continue;
             }
-            let (slides, rests_on) = self.slides_from(table, i);
-            if let Some(b) = values(self.state.settings[i]).find(|&b| slides[b] != 0) {
+            let (slides, rests_on) = table.slides_from(&self.state, i);
+            if let Some(b) = slides.iter().position(|goals| *goals != 0) {
                 return Some(Step::SnakeSubstitution { i, b, a: slides[b].trailing_zeros() as usize });
             }
-            self.slides.note(i, 0, rests_on);
+            self.note(SLIDES, i, 0, rests_on);
         }
         None
-    }
-
-    /// For each value b of i the values a that it can slide to, and the items that it rests on that there are no more. Each value d of
-    /// another item is looked at once, for all b and a.
-    ///
-    /// No cover holds, so each mark is the lowest item at which the one value fails to cover the other, and what it rests on that none covers
-    /// d has been noted. An e that covers d at every item but i and k fails at i alone: its mark is i. Most d have no such e.
-    fn slides_from(&self, table: &Table, i: usize) -> ([u16; MAX_SETTINGS], u32) {
-        let live = self.state.settings[i];
-        let mut slides = BITS.map(|b| if live & b == 0 { 0 } else { live & !b });
-        let mut rests_on = 0;
-        for k in members(self.state.items & table.neighbours[i]) {
-            for d in values(self.state.settings[k]) {
-                let with_d = table.rows[k][d][i];
-                // What d asks of a slide of b: nothing where d is barred with b, else one of these goals. Where a is allowed with d, d serves.
-                let asks = |goals: u16| BITS.map(|b| if with_d & b == 0 { u16::MAX } else { goals });
-                let served = asks(with_d);
-                if slides.iter().zip(served).fold(0, |lost, (set, served)| lost | set & !served) == 0 {
-                    continue;
-                }
-                let may_move = self.marks[k][d].iter().fold(false, |any, &mark| any | (usize::from(mark) == i));
-                let (goals, fails_at) =
-                    if may_move { self.slide_goals(table, i, k, d) } else { (with_d, self.neighbourhoods.rests_on[k][d] | 1 << k) };
-                slides.iter_mut().zip(asks(goals)).for_each(|(set, served)| *set &= served);
-                rests_on |= fails_at;
-            }
-            if slides == [0; MAX_SETTINGS] {
-                break;
-            }
-        }
-        (slides, rests_on)
-    }
-
-    /// The values of i that are allowed with d, or with a value e of k that covers d at every item other than i and k; and the items that
-    /// it rests on that there are no more. All e are looked at together: those that cover d at l are allowed with each value there that d is
-    /// allowed with.
-    fn slide_goals(&self, table: &Table, i: usize, k: usize, d: usize) -> (u16, u32) {
-        let mut serving = self.state.settings[k];
-        let mut rests_on = 1 << k;
-        for l in members(self.state.items & table.neighbours[k] & !(1 << i)) {
-            let before = serving;
-            for x in values(table.supports(&self.state, k, d, l)) {
-                serving &= table.rows[l][x][k];
-            }
-            rests_on |= u32::from(serving != before) << l;
-            if serving == 1 << d {
-                break;
-            }
-        }
-        (values(serving).fold(0, |goals, e| goals | table.rows[k][e][i]), rests_on)
     }
 
     /// The next step of the run: a slide only where no other rule holds. A slide can leave values elsewhere without support, so these are
@@ -662,45 +731,6 @@ impl Reduction {
             return Some(step);
         }
         self.next_triangle(table).or_else(|| self.next_neighbourhood(table)).or_else(|| self.next_slide(table))
-    }
-
-    /// Whether the slide rule holds for two live values of i.
-    fn slides(&self, table: &Table, i: usize, b: usize, a: usize) -> bool {
-        members(self.state.items & table.neighbours[i]).all(|k| {
-            let moved = table.spoilers(&self.state, (i, a), (i, b), k);
-            values(moved).all(|d| has(u32::from(self.slide_goals(table, i, k, d).0), a))
-        })
-    }
-
-    fn lawful(&mut self, table: &Table, step: Step) -> bool {
-        match step {
-            Step::Unsupported { i, b, k } => {
-                self.is_live(i, b) && has(self.state.items, k) && i != k && table.supports(&self.state, i, b, k) == 0
-            }
-            Step::Snake { i, v } => self.is_live(i, v) && self.snake_fails(table, i, v).is_none(),
-            Step::Triangle { i, j } => {
-                has(self.state.items, i) && has(self.state.items, j) && i != j && self.triangle_fails(table, i, j).is_none()
-            }
-            Step::Neighbourhood { i, b, a } => self.two_live(i, b, a) && self.gap(table, i, b, a) == NONE,
-            Step::SnakeSubstitution { i, b, a } => self.two_live(i, b, a) && self.slides(table, i, b, a),
-        }
-    }
-
-    fn two_live(&self, i: usize, b: usize, a: usize) -> bool {
-        self.is_live(i, a) && self.is_live(i, b) && a != b
-    }
-
-    /// What 17 of an unlawful step names: the lowest item where a cover breaks, and the lowest bit of the word of what spoils it there.
-    #[cold]
-    fn named(&self, table: &Table, step: Step) -> (u8, u8) {
-        match step {
-            Step::Neighbourhood { i, b, a } if self.two_live(i, b, a) && !self.emptied => {
-                let item = table.next_gap(&self.state, i, b, a, 0, NONE);
-                let spoilers = table.spoilers(&self.state, (i, a), (i, b), item);
-                (item as u8, spoilers.trailing_zeros() as u8)
-            }
-            _ => (NOT_NAMED, NOT_NAMED),
-        }
     }
 
     fn end(&self) -> End {
@@ -745,7 +775,7 @@ fn items_of(highest: u64) -> u32 {
 /// it in time. From each item on, those are taken, lowest first, that allow no equal value with any taken before.
 fn crowded(table: &Table, state: &State) -> bool {
     let State { items, settings } = state;
-    let apart = |i: usize, j: usize| j != i && values(settings[i] & settings[j]).all(|a| table.rows[i][a][j] >> a & 1 == 0);
+    let apart = |i: usize, j: usize| j != i && values(settings[i] & settings[j]).all(|a| table.rows[i][j][a] >> a & 1 == 0);
     let far: [u32; MAX_ITEMS] = std::array::from_fn(|i| match has(*items, i) {
         true => members(*items).filter(|&j| apart(i, j)).fold(0, |far, j| far | 1 << j),
         false => 0,
@@ -808,8 +838,7 @@ impl Search {
         self.weights = [1; MAX_ITEMS];
         for i in members(state.items) {
             for a in values(state.settings[i]) {
-                let mut lanes = table.rows[i][a];
-                lanes.iter_mut().zip(&out).for_each(|(lane, out)| *lane |= out);
+                let mut lanes = std::array::from_fn(|j| table.rows[i][j][a] | out[j]);
                 lanes[i] = 1 << a;
                 self.rows[i][a] = packed(lanes);
             }
@@ -935,7 +964,7 @@ impl Workspace {
     /// The run once its sheet is read, and its buffer is long enough; each step is told with the state before it.
     #[inline(always)]
     fn reduce(&mut self, trace: &mut [u8], mut tell: impl FnMut(&State, Step)) -> Done {
-        self.reduction.begin(&self.table, self.table.full_state());
+        self.reduction.begin(&self.table);
         let mut steps = 0;
         let mut written = 1;
         trace[0] = 1;
@@ -984,31 +1013,26 @@ impl Workspace {
             return Err(Fault::HandStateLength);
         }
         self.table.fill(sheet)?;
-        self.reduction.begin(&self.table, self.table.full_state());
-        while let Some(Step::Unsupported { i, b, .. }) = self.reduction.next_unsupported(&self.table) {
-            self.reduction.switch_off(&self.table, i, b);
-        }
-        state.copy_from_slice(&self.reduction.state.to_bytes());
+        state.copy_from_slice(&self.table.started().to_bytes());
         Ok(())
     }
 
     /// Takes one item out by hand.
     pub fn hand_call(&mut self, sheet: &[u8], state: &mut [u8], item: u64) -> Answer<Taken> {
         let bytes = <&[u8; HAND_STATE_LENGTH]>::try_from(&*state).map_err(|_| Fault::HandStateLength)?;
-        let before = State::from_bytes(bytes);
+        let mut left = State::from_bytes(bytes);
         self.table.fill(sheet)?;
-        if !self.fits(&before) {
+        if !self.fits(&left) {
             return Err(Refusal::StateMisfit.into());
         }
-        let i = members(before.items).find(|&i| i as u64 == item).ok_or(Refusal::ItemNotIn)?;
-        self.reduction.begin(&self.table, before);
-        if self.reduction.emptied {
+        let i = members(left.items).find(|&i| i as u64 == item).ok_or(Refusal::ItemNotIn)?;
+        if left.is_emptied() {
             return Err(Refusal::ItemEmpty.into());
         }
-        let live = self.reduction.state.settings[i];
-        let v = values(live).find(|&v| self.reduction.snake_fails(&self.table, i, v).is_none()).ok_or(Refusal::NoSnake)?;
-        self.reduction.take_out(&self.table, i);
-        state.copy_from_slice(&self.reduction.state.to_bytes());
+        let live = left.settings[i];
+        let v = values(live).find(|&v| self.table.snake_fails(&left, i, v).is_none()).ok_or(Refusal::NoSnake)?;
+        self.table.take_out(&mut left, i);
+        state.copy_from_slice(&left.to_bytes());
         Ok(Taken { setting: v as u8 })
     }
 
@@ -1027,8 +1051,8 @@ impl Workspace {
         if result.len() != self.table.count {
             return Err(Refusal::ResultLength.into());
         }
-        let steps = self.replay(trace)?;
-        if !self.table.is_solution(&self.reduction.state, plan) {
+        let (steps, left) = self.replay(trace)?;
+        if !self.table.is_solution(&left, plan) {
             return Err(Refusal::PlanUnfit.into());
         }
         result.copy_from_slice(plan);
@@ -1038,27 +1062,30 @@ impl Workspace {
         Ok(())
     }
 
-    /// The steps of a trace that take an item out, each with the state before it: the others change nothing when undone.
-    fn replay(&mut self, trace: &[u8]) -> Answer<Vec<(State, Step)>> {
+    /// The steps of a trace that take an item out, each with the state before it, since the others change nothing when undone; and the state
+    /// that is left.
+    fn replay(&self, trace: &[u8]) -> Answer<(Vec<(State, Step)>, State)> {
         if trace.first() != Some(&1) {
             return Err(Refusal::TraceFront.into());
         }
-        self.reduction.begin(&self.table, self.table.full_state());
+        let mut state = self.table.full_state();
+        let mut emptied = false;
         let mut steps = Vec::new();
         let mut place = 1;
         while place < trace.len() {
             let (step, length) = Step::read(&trace[place..])?;
-            if self.reduction.emptied || !self.reduction.lawful(&self.table, step) {
-                let (item, setting) = self.reduction.named(&self.table, step);
+            if emptied || !self.table.lawful(&state, step) {
+                let (item, setting) = if emptied { (NOT_NAMED, NOT_NAMED) } else { self.table.named(&state, step) };
                 return Err(Unlawful { record: records_before(trace, place), item, setting }.into());
             }
             if step.takes_out() {
-                steps.push((self.reduction.state.clone(), step));
+                steps.push((state.clone(), step));
             }
-            self.reduction.perform(&self.table, step);
+            self.table.perform(&mut state, step);
+            emptied = state.is_emptied();
             place += length;
         }
-        Ok(steps)
+        Ok((steps, state))
     }
 }
 

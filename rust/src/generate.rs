@@ -431,10 +431,11 @@ fn damage_bytes(random: &mut Random, bytes: &mut Vec<u8>) {
     }
 }
 
-/// The last of the families: a sheet of 32 items of 4 settings.
+/// The eighth of the families: a sheet of 32 items of 4 settings.
 pub const SLIDING_FAMILY: &str = "eight groups of four whose runs slide";
 
-/// The eight families of sheets of 32 items that the program is timed on: seven of 16 settings, and one of 4.
+/// The ten families of sheets of 32 items that the program is timed on: nine of 16 settings, and one of 4. The last two have runs of
+/// hundreds of steps, of all five kinds.
 pub fn families() -> Vec<(&'static str, Vec<u8>)> {
     let mut random = Random::new(1);
     let linked: Vec<bool> = (0..MAX_ITEMS * MAX_ITEMS).map(|_| random.chance(15)).collect();
@@ -444,12 +445,88 @@ pub fn families() -> Vec<(&'static str, Vec<u8>)> {
         ("no block", sheet(&mut |_, _, _, _| true)),
         ("every pair unequal", sheet(&mut |_, a, _, b| a != b)),
         ("every pair a < b", sheet(&mut |_, a, _, b| a < b)),
-        ("every pair of unlike parity", sheet(&mut |_, a, _, b| (a + b) % 2 == 1)),
+        ("every pair of unlike parity", sheet(&mut |_, a, _, b| unlike_parity(a, b))),
         ("|a - b| >= 3 for every pair", sheet(&mut |_, a, _, b| a.abs_diff(b) >= 3)),
         ("eight groups of four, pairwise unequal", sheet(&mut |i, a, j, b| i / 4 != j / 4 || a != b)),
         ("random, 15% of pairs, 30% barred", sheet(&mut |i, _, j, _| !linked[i * MAX_ITEMS + j] || !random.chance(30))),
         (SLIDING_FAMILY, sliding_family()),
+        (
+            "near each other, on a grid of four by eight",
+            near_draft(&mut Random::new(28), MAX_ITEMS, 16, 18, 4, |_, i, j| on_grid(8, i, j)).bytes(),
+        ),
+        ("near each other, 8% of pairs", near_draft(&mut Random::new(138), MAX_ITEMS, 16, 20, 4, |random, _, _| random.chance(8)).bytes()),
     ]
+}
+
+fn unlike_parity(a: usize, b: usize) -> bool {
+    (a + b) % 2 == 1
+}
+
+/// Whether two items, i < j, stand side by side or one below the other, in lines of this width.
+fn on_grid(width: usize, i: usize, j: usize) -> bool {
+    j == i + width || (j == i + 1 && j % width != 0)
+}
+
+/// A sheet of version 1 whose run takes hundreds of steps, of all kinds, and in which much that failed holds later: each setting has a place
+/// on a line of so many, and linked items must have theirs near each other, as near as 1 to `most` from pair to pair.
+fn near_draft(
+    random: &mut Random,
+    n: usize,
+    size: u8,
+    line: usize,
+    most: usize,
+    mut links: impl FnMut(&mut Random, usize, usize) -> bool,
+) -> Draft {
+    let places: Vec<usize> = (0..n * MAX_SETTINGS).map(|_| random.below(line)).collect();
+    let linked: Vec<bool> = (0..n * n).map(|pair| links(random, pair / n, pair % n)).collect();
+    let reach: Vec<usize> = (0..n * n).map(|_| random.between(1, most)).collect();
+    let place = |i: usize, a: usize| places[i * MAX_SETTINGS + a];
+    Draft::new(vec![size; n], |i, a, j, b| !linked[i * n + j] || place(i, a).abs_diff(place(j, b)) <= reach[i * n + j])
+}
+
+/// Such a sheet of 27 to 32 items of 14 to 16 settings, or of fewer: on a grid, in a chain with some further pairs, or any pairs.
+pub fn long_draft(random: &mut Random, smaller: bool) -> Draft {
+    let (least, most) = if smaller { ((23, 14), (25, 15)) } else { ((27, 14), (MAX_ITEMS, MAX_SETTINGS)) };
+    let (n, size) = (random.between(least.0, most.0), random.between(least.1, most.1) as u8);
+    let (line, most) = (random.between(17, 20), random.between(3, 5));
+    let (shape, width, percent) = (random.below(3), random.between(4, 8), random.between(2, 6));
+    let links = |random: &mut Random, i: usize, j: usize| match shape {
+        0 => on_grid(width, i, j),
+        1 => j == i + 1 || random.chance(percent),
+        _ => random.chance(2 * percent + 4),
+    };
+    near_draft(random, n, size, line, most, links).in_any_version(random)
+}
+
+/// A sheet whose run takes 512 steps, and no sheet's takes more: each uses up one setting. The settings may only rise from item to item, and
+/// that of the last must be below that of the first, or both the highest: one after the other has no partner but the highest, which then are
+/// all that is left, and each item goes out.
+pub fn longest_run() -> Vec<u8> {
+    let (last, highest) = (MAX_ITEMS - 1, MAX_SETTINGS - 1);
+    let closes = |a: usize, b: usize| b < a || (a, b) == (highest, highest);
+    let allowed = |i: usize, a: usize, j: usize, b: usize| if (i, j) == (0, last) { closes(a, b) } else { j != i + 1 || a <= b };
+    Draft::new(vec![MAX_SETTINGS as u8; MAX_ITEMS], allowed).bytes()
+}
+
+/// Sheets that show how the cost of a run grows with the items and the settings: every pair of unlike parity, and random ones with 15% of
+/// the pairs linked and 30% barred.
+pub fn growing_sheets() -> Vec<(String, Vec<u8>)> {
+    let mut random = Random::new(1);
+    let mut sheets = Vec::new();
+    for n in [8, 16, 32] {
+        for size in [4, 8, 16] {
+            let parity = Draft::new(vec![size; n], |_, a, _, b| unlike_parity(a, b)).bytes();
+            sheets.push((format!("unlike parity, {n} items of {size}"), parity));
+        }
+    }
+    for n in [8, 16, 32] {
+        for size in [4, 8, 16] {
+            let linked: Vec<bool> = (0..n * n).map(|_| random.chance(15)).collect();
+            let draft = Draft::new(vec![size; n], |i, _, j, _| !linked[i * n + j] || !random.chance(30));
+            sheets.push((format!("random, {n} items of {size}"), draft.bytes()));
+        }
+    }
+    sheets
 }
 
 /// Eight groups of four items of 4 settings, linked within their group only, so that each is worked as if it were alone: its run takes a

@@ -42,7 +42,7 @@
 #![deny(unsafe_code)]
 #![deny(unsafe_op_in_unsafe_fn)]
 
-// reference.rs, fast.rs, generate.rs and corpus.rs beside this file are no part of the library: tests/support has them.
+// reference.rs, fast.rs, peer.rs, generate.rs and corpus.rs beside this file are no part of the library: tests/support has them.
 #[allow(unsafe_code)]
 mod boundary;
 /// An answer that is dropped is warned of, here as an error: each of these eight does not compile.
@@ -251,7 +251,7 @@ pub const NOT_NAMED: u8 = 255;
 /// assert!(thread.join().expect("the thread ends").is_ok());
 /// # Ok::<(), std::io::Error>(())
 /// ```
-pub const STACK: usize = 40 * 1024;
+pub const STACK: usize = 56 * 1024;
 
 /// The stack that is enough for putting back, in bytes: it keeps a state for each record of the trace.
 ///

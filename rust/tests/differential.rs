@@ -1,7 +1,8 @@
-//! Compares every job of the proved library with the reference and with the fast implementation: answers, and each lent byte afterwards.
-//! Half of the sheets are of version 2, and every call that is lent a sheet, but the move, is made with both its versions: the archive's
-//! function has the sheet, the library's (support/proved.rs) has it in the other version, and the fast implementation has both. The
-//! library's decoder is asked of every trace.
+//! Compares every job of the proved library with the reference and with the fast implementation, and those that the fixed peer has, reading,
+//! run, start, hand call and putting back, with it too: answers, and each lent byte afterwards. Half of the sheets are of version 2, and
+//! every call that is lent a sheet, but the move, is made with both its versions: the archive's function and the peer have the sheet, the
+//! library's (support/proved.rs) has it in the other version, and the fast implementation has both. The library's decoder is asked of every
+//! trace.
 //!
 //! ZOMUWEDLI_SEED: the seed. ZOMUWEDLI_PART: a divisor of the sizes and of the least counts.
 
@@ -12,11 +13,10 @@ use std::fmt::Debug;
 
 use support::corpus::{corpus, Entry};
 use support::decoder::{decode, record, reference_decode};
-use support::fast::{self, Workspace};
 use support::generate::{self, Random};
 use support::proved::{library, raw};
 use support::reference::{self, Problem, State, Step};
-use support::{proved, Answer, Chosen, Done, Fault};
+use support::{fast, peer, proved, Answer, Chosen, Done, Fault};
 use zomuwedli::{Accepted, End, Record, Refusal, Unlawful, Written, HAND_STATE_LENGTH, MAX_FILE, MAX_SHEET, OUT, STATE_LENGTH};
 
 const SEED: u64 = 20_260_917;
@@ -26,6 +26,7 @@ const SHEETS: u64 = 94_000;
 const SLIDING_SHEETS: u64 = 15_000;
 const LARGE_SLIDING_SHEETS: u64 = 2_000;
 const LARGE_SHEETS: u64 = 200;
+const LONG_RUNS: u64 = 1_150;
 const HAND_LISTS: u64 = 14_000;
 const TRACES: u64 = 12_000;
 const UNLAWFUL_TRACES: u64 = 24_000;
@@ -50,10 +51,14 @@ const LEAST_ALIKE: u64 = 10_000;
 const LEAST_OF_EACH_CAUSE: u64 = 500;
 const LEAST_SLIDING: u64 = 2_000;
 const LEAST_BARE_AFTER: u64 = 200;
+/// Runs of so many steps in which a test that failed holds later.
+const LONG: usize = 200;
+const LEAST_WOKEN: u64 = 1_000;
 const LEAST_PICKS: u64 = 10_000;
 const LEAST_OF_EACH_PICK: u64 = 1_000;
 
 const JOBS: [&str; 8] = ["read", "run", "start", "hand call", "put back", "pick", "colour", "move"];
+const RUN: usize = 1;
 const PICK: usize = 5;
 /// The job that is lent no sheet but a colouring file.
 const COLOUR: usize = 6;
@@ -118,6 +123,7 @@ fn main() {
     comparison.part("larger ones", LARGE_SLIDING_SHEETS / divisor, large_sliding_case);
     comparison.part("large sheets", LARGE_SHEETS / divisor, large_case);
     comparison.part("large sheets put back", LARGE_SHEETS / 4 / divisor, large_trace_case);
+    comparison.part("long runs", LONG_RUNS / divisor, long_case);
     comparison.part("picking", PICKS / divisor, picking_case);
     comparison.part("picking from the corpus", comparison.corpus.len() as u64 / divisor, corpus_case);
     comparison.part("colouring files", FILES / divisor, colouring_case);
@@ -158,6 +164,11 @@ struct Counts {
     sliding_runs: u64,
     sliding_on: u64,
     bare_after_slide: u64,
+    /// Runs of LONG steps and more in which a test that failed holds later, and how often it does in them, by kind; and how many of all
+    /// long runs the reference made too.
+    woken_runs: u64,
+    woken: [u64; 6],
+    long_by_reference: u64,
     /// Runs that were compared with those by the slide rule of before, and those that go on where these end.
     runs_of_before: u64,
     longer_than_before: u64,
@@ -204,7 +215,7 @@ struct Counts {
     /// Calls that were made with both versions of a sheet, by job; and those of them in which the one is shorter.
     alike: BTreeMap<usize, u64>,
     alike_shorter: u64,
-    /// Sheets that were moved and moved back by all three, and those of the longest length.
+    /// Sheets that were moved and moved back by all, and those of the longest length.
     moved_twice: u64,
     longest_moved: u64,
 }
@@ -266,6 +277,12 @@ impl Counts {
             self.sliding_runs, self.sliding_on, self.bare_after_slide
         );
         println!(
+            "runs of {LONG} steps and more in which a test that failed holds later: {}; how often: {}; long runs by the reference too: {}",
+            self.woken_runs,
+            by_kind(&self.woken),
+            self.long_by_reference
+        );
+        println!(
             "runs that begin as by the slide rule of before: {}, {} of these going on, with a slide that it does not allow",
             self.runs_of_before, self.longer_than_before
         );
@@ -322,6 +339,7 @@ impl Counts {
         let answers = (0..JOBS.len()).flat_map(of_job).map(of_answer);
         let ends = [0, 1, 2].map(|end| (format!("end {end}"), *self.ends.get(&end).unwrap_or(&0), LEAST_OF_EACH));
         let steps = [1, 2, 3, 4, 5].map(|kind| (format!("steps of runs of kind {kind}"), self.run_steps[kind], LEAST_OF_EACH));
+        let woken = [2, 3, 4, 5].map(|kind| (format!("tests of kind {kind} that failed and hold later"), self.woken[kind], LEAST_OF_EACH));
         let records = [1, 2, 3, 4, 5].map(|kind| (format!("lent records of kind {kind}"), self.lent_records[kind], LEAST_OF_EACH));
         let decoded = [0, 15, 16].map(|number| (format!("traces taken apart, {number}"), self.of_decoding(number), LEAST_OF_EACH));
         let causes = self.of_causes().map(|(cause, count)| (format!("17: {cause}"), count, LEAST_OF_EACH_CAUSE));
@@ -344,6 +362,8 @@ impl Counts {
             ("runs with a slide".to_string(), self.sliding_runs, LEAST_SLIDING),
             ("runs with several slides".to_string(), self.sliding_on, LEAST_OF_EACH_CAUSE),
             ("runs in which a bare step follows a slide".to_string(), self.bare_after_slide, LEAST_BARE_AFTER),
+            ("long runs in which a test that failed holds later".to_string(), self.woken_runs, LEAST_WOKEN),
+            ("long runs by the reference too".to_string(), self.long_by_reference, LEAST_FULLEST),
             ("runs compared with those of before".to_string(), self.runs_of_before, LEAST_SHEETS / 2),
             ("runs that are longer than before".to_string(), self.longer_than_before, LEAST_SLIDING),
             ("slides that are no covers".to_string(), self.slides_not_covers, LEAST_OF_EACH),
@@ -365,7 +385,7 @@ impl Counts {
             ("longest sheets moved and moved back".to_string(), self.longest_moved, LEAST_FULLEST / 2),
         ];
         let all = jobs.into_iter().chain(answers).chain(ends).chain(steps).chain(records).chain(decoded).chain(causes).chain(picks);
-        let all = all.chain(widths).chain(no_versions).chain(alike).chain(others);
+        let all = all.chain(widths).chain(no_versions).chain(alike).chain(woken).chain(others);
         let scaled = all.map(|(name, count, least)| (name, count, least / divisor));
         scaled.filter(|(_, count, least)| count < least).map(|(name, count, least)| format!("{name}: {count}, least {least}")).collect()
     }
@@ -389,7 +409,7 @@ struct Comparison {
     seed: u64,
     part: &'static str,
     case: u64,
-    fast: Workspace,
+    unproved: Unproved,
     /// The sheets of the corpus that are held to the bar.
     corpus: Vec<Entry>,
     /// The sheet of the last call, and the same sheet in the other version where it keeps the layout.
@@ -418,14 +438,21 @@ fn number<T>(answer: &Answer<T>) -> u8 {
     answer.as_ref().map_or_else(|fault| fault.number(), |_| 0)
 }
 
-/// A call of one layer or implementation: it is lent inputs, and buffers to write; the workspace is for the fast one.
-type Call<'a, T> = &'a dyn Fn(&mut Workspace, &[Lent], &mut [Lent]) -> Answer<T>;
+/// The workspaces of the two implementations that have one.
+struct Unproved {
+    peer: peer::Workspace,
+    fast: fast::Workspace,
+}
+
+/// A call of one layer or implementation: it is lent inputs, and buffers to write.
+type Call<'a, T> = &'a dyn Fn(&mut Unproved, &[Lent], &mut [Lent]) -> Answer<T>;
 
 impl Comparison {
     fn new(seed: u64) -> Comparison {
         let corpus = corpus().into_iter().filter(|entry| entry.held).collect();
+        let unproved = Unproved { peer: peer::Workspace::new(), fast: fast::Workspace::new() };
         // No byte is no sheet.
-        Comparison { seed, part: "", case: 0, fast: Workspace::new(), corpus, last: (lend(&[]), None), counts: Counts::default() }
+        Comparison { seed, part: "", case: 0, unproved, corpus, last: (lend(&[]), None), counts: Counts::default() }
     }
 
     fn part(&mut self, part: &'static str, cases: u64, compare: fn(&mut Comparison, &mut Random)) {
@@ -441,8 +468,9 @@ impl Comparison {
         println!("{part}: {cases} cases in {:.1} s", began.elapsed().as_secs_f64());
     }
 
-    /// Calls the three implementations, each with its own copies of the lent bytes: inputs, and buffers that it may write. All must give
-    /// one answer and leave the same bytes, and a refused call must leave them as they were. The first input is a sheet, or a file.
+    /// Calls the implementations, the peer where it has the job, each with its own copies of the lent bytes: inputs, and buffers that it may
+    /// write. All must give one answer and leave the same bytes, and a refused call must leave them as they were. The first input is a
+    /// sheet, or a file.
     fn call<T: PartialEq + Debug>(
         &mut self,
         job: usize,
@@ -450,18 +478,20 @@ impl Comparison {
         buffers: &[&[u8]],
         note: &str,
         calls: [Call<T>; 4],
+        peer: Option<Call<T>>,
     ) -> (Answer<T>, Vec<Lent>) {
         let other = if ALIKE_JOBS.contains(&job) { self.other_version(inputs[0]) } else { None };
         let [archive, library, reference, fast] = calls;
         // "Every other job answers on the moved sheet as on the sheet, whatever else it is lent, and leaves the same bytes."
         let (first, last) = (inputs[0], other.as_deref().unwrap_or(inputs[0]));
-        let mut calls =
-            vec![("archive", archive, first), ("library", library, last), ("reference", reference, first), ("fast", fast, first)];
+        let mut calls = vec![("archive", archive, first), ("library", library, last), ("reference", reference, first)];
+        calls.extend(peer.map(|peer| ("peer", peer, first)));
+        calls.push(("fast", fast, first));
         calls.extend(other.iter().map(|other| ("fast", fast, &**other)));
         let mut result = |call: Call<T>, front: &[u8]| {
             let lent: Vec<Lent> = std::iter::once(front).chain(inputs[1..].iter().copied()).map(lend).collect();
             let mut written: Vec<Lent> = buffers.iter().map(|bytes| lend(bytes)).collect();
-            let answer = call(&mut self.fast, &lent, &mut written);
+            let answer = call(&mut self.unproved, &lent, &mut written);
             let inputs_stay = *lent[0] == *front && lent[1..].iter().zip(&inputs[1..]).all(|(after, before)| **after == **before);
             (answer, written, inputs_stay)
         };
@@ -533,8 +563,9 @@ impl Comparison {
                 &|_, lent, _| raw::read(&lent[0]),
                 &|_, lent, _| library::read(&lent[0]),
                 &|_, lent, _| reference::read(&lent[0]),
-                &|fast, lent, _| fast.read(&lent[0]),
+                &|by, lent, _| by.fast.read(&lent[0]),
             ],
+            Some(&|by, lent, _| by.peer.read(&lent[0])),
         );
         match answer {
             Ok(Accepted { items, blocks }) => {
@@ -560,8 +591,9 @@ impl Comparison {
                 &|_, lent, written| on_two(written, |trace, state| raw::run(&lent[0], trace, state)),
                 &|_, lent, written| on_two(written, |trace, state| library::run(&lent[0], trace, state)),
                 &|_, lent, written| on_two(written, |trace, state| reference::run(&lent[0], trace, state)),
-                &|fast, lent, written| on_two(written, |trace, state| fast.run(&lent[0], trace, state)),
+                &|by, lent, written| on_two(written, |trace, state| by.fast.run(&lent[0], trace, state)),
             ],
+            Some(&|by, lent, written| on_two(written, |trace, state| by.peer.run(&lent[0], trace, state))),
         );
         let [trace, state] = <[Lent; 2]>::try_from(written).expect("two buffers");
         (answer.ok(), trace, state)
@@ -577,8 +609,9 @@ impl Comparison {
                 &|_, lent, written| raw::start(&lent[0], &mut written[0]),
                 &|_, lent, written| library::start(&lent[0], &mut written[0]),
                 &|_, lent, written| reference::start(&lent[0], &mut written[0]),
-                &|fast, lent, written| fast.start(&lent[0], &mut written[0]),
+                &|by, lent, written| by.fast.start(&lent[0], &mut written[0]),
             ],
+            Some(&|by, lent, written| by.peer.start(&lent[0], &mut written[0])),
         );
         written.remove(0)
     }
@@ -593,8 +626,9 @@ impl Comparison {
                 &|_, lent, written| raw::hand_call(&lent[0], &mut written[0], item),
                 &|_, lent, written| library::hand_call(&lent[0], &mut written[0], item),
                 &|_, lent, written| reference::hand_call(&lent[0], &mut written[0], item),
-                &|fast, lent, written| fast.hand_call(&lent[0], &mut written[0], item),
+                &|by, lent, written| by.fast.hand_call(&lent[0], &mut written[0], item),
             ],
+            Some(&|by, lent, written| by.peer.hand_call(&lent[0], &mut written[0], item)),
         );
         let after = written.remove(0);
         if answer.is_ok() {
@@ -613,8 +647,9 @@ impl Comparison {
                 &|_, lent, written| raw::put_back(&lent[0], &lent[1], &lent[2], &mut written[0]),
                 &|_, lent, written| library::put_back(&lent[0], &lent[1], &lent[2], &mut written[0]),
                 &|_, lent, written| reference::put_back(&lent[0], &lent[1], &lent[2], &mut written[0]),
-                &|fast, lent, written| fast.put_back(&lent[0], &lent[1], &lent[2], &mut written[0]),
+                &|by, lent, written| by.fast.put_back(&lent[0], &lent[1], &lent[2], &mut written[0]),
             ],
+            Some(&|by, lent, written| by.peer.put_back(&lent[0], &lent[1], &lent[2], &mut written[0])),
         );
         let decoded = decode(trace);
         let agrees = match answer {
@@ -644,8 +679,9 @@ impl Comparison {
                 &|_, lent, written| on_three(written, |trace, plan, state| raw::pick(&lent[0], trace, plan, state)),
                 &|_, lent, written| on_three(written, |trace, plan, state| library::pick(&lent[0], trace, plan, state)),
                 &|_, lent, written| on_three(written, |trace, plan, state| reference::pick(&lent[0], trace, plan, state)),
-                &|fast, lent, written| on_three(written, |trace, plan, state| fast.pick(&lent[0], trace, plan, state)),
+                &|by, lent, written| on_three(written, |trace, plan, state| by.fast.pick(&lent[0], trace, plan, state)),
             ],
+            None,
         );
         (answer.ok(), written.try_into().expect("three buffers"))
     }
@@ -663,6 +699,7 @@ impl Comparison {
                 &|_, lent, written| reference::colour(&lent[0], channels, &mut written[0]),
                 &|_, lent, written| fast::colour(&lent[0], channels, &mut written[0]),
             ],
+            None,
         );
         (answer.ok().map(|Written { bytes }| bytes), written.remove(0))
     }
@@ -678,8 +715,9 @@ impl Comparison {
                 &|_, lent, written| raw::move_sheet(&lent[0], &mut written[0]),
                 &|_, lent, written| library::move_sheet(&lent[0], &mut written[0]),
                 &|_, lent, written| reference::move_sheet(&lent[0], &mut written[0]),
-                &|fast, lent, written| fast.move_sheet(&lent[0], &mut written[0]),
+                &|by, lent, written| by.fast.move_sheet(&lent[0], &mut written[0]),
             ],
+            None,
         );
         (answer.ok().map(|Written { bytes }| bytes), written.remove(0))
     }
@@ -713,13 +751,29 @@ impl Comparison {
     /// Counts the slides of a run, by the trace that the fast implementation writes.
     fn count_slides(&mut self, sheet: &[u8], problem: &Problem) {
         let (mut trace, mut state) = (buffer(trace_length(problem)), buffer(STATE_LENGTH));
-        let Done { written, .. } = self.fast.run(sheet, &mut trace, &mut state).expect("the sheet was accepted");
+        let Done { written, .. } = self.unproved.fast.run(sheet, &mut trace, &mut state).expect("the sheet was accepted");
         let steps = reference::steps_of(&trace[..written]).expect("a run's trace has whole records");
         let kinds: Vec<usize> = steps.iter().map(|step| step.kind()).collect();
         let slides = kinds.iter().filter(|&&kind| kind == 5).count();
         self.counts.sliding_runs += u64::from(slides > 0);
         self.counts.sliding_on += u64::from(slides > 1);
         self.counts.bare_after_slide += u64::from(kinds.windows(2).any(|two| two == [5, 1]));
+    }
+
+    /// Counts the steps of a long run whose test failed before. A run takes the lowest step that holds, by kind, item and third field: so
+    /// where it took a later one, the test of this one had failed.
+    fn count_woken(&mut self, steps: &[Step]) {
+        let mut woken = [0; 6];
+        let mut latest = (0, 0, 0);
+        for step in steps {
+            let test = tested(*step);
+            woken[test.0] += u64::from(test.0 > 1 && test < latest);
+            latest = latest.max(test);
+        }
+        if steps.len() >= LONG && woken != [0; 6] {
+            self.counts.woken_runs += 1;
+            self.counts.woken.iter_mut().zip(woken).for_each(|(all, count)| *all += count);
+        }
     }
 
     /// A run begins as that by the slide rule of before, and ends with it or goes on with a slide that this rule does not allow.
@@ -763,6 +817,15 @@ impl Comparison {
         self.counts.slides_added += added;
         let moved = plan.iter().zip(result).any(|(&left, &full)| left != OUT && left != full);
         self.counts.changed_when_undone += u64::from(moved);
+    }
+}
+
+/// What a step is the outcome of a test of: its kind, its item and its third field.
+fn tested(step: Step) -> (usize, usize, usize) {
+    match step {
+        Step::Unsupported { i, b, .. } | Step::Neighbourhood { i, b, .. } | Step::SnakeSubstitution { i, b, .. } => (step.kind(), i, b),
+        Step::Snake { i, v } => (step.kind(), i, v),
+        Step::Triangle { i, j } => (step.kind(), i, j),
     }
 }
 
@@ -937,6 +1000,42 @@ fn counted_run(comparison: &mut Comparison, sheet: &[u8], problem: &Problem) {
             comparison.compare_before(problem, &steps);
         }
     }
+}
+
+/// A run by one layer or implementation, lent a trace buffer and a state.
+type Run<'a> = &'a mut dyn FnMut(&mut [u8], &mut [u8]) -> Answer<Done>;
+
+/// A run of hundreds of steps, by the library, the fast implementation and the peer; by the reference, which takes long for it, every
+/// twentieth time, of a smaller sheet.
+fn long_case(comparison: &mut Comparison, random: &mut Random) {
+    let by_reference = comparison.case % 20 == 0;
+    let sheet = &generate::long_draft(random, by_reference).bytes()[..];
+    let (problem, _) = reference::read_sheet(sheet).expect("the sheet keeps the layout");
+    let other = comparison.other_version(sheet).expect("the sheet keeps the layout");
+    let ran = |run: Run| {
+        let mut lent = [trace_length(&problem), STATE_LENGTH].map(buffer);
+        (on_two(&mut lent, run), lent)
+    };
+    let Unproved { peer, fast } = &mut comparison.unproved;
+    let mut results = vec![
+        ran(&mut |trace, state| raw::run(sheet, trace, state)),
+        ran(&mut |trace, state| library::run(&other, trace, state)),
+        ran(&mut |trace, state| peer.run(sheet, trace, state)),
+        ran(&mut |trace, state| fast.run(sheet, trace, state)),
+        ran(&mut |trace, state| fast.run(&other, trace, state)),
+    ];
+    if by_reference {
+        results.push(ran(&mut |trace, state| reference::run(sheet, trace, state)));
+    }
+    if results.iter().any(|result| *result != results[0]) {
+        comparison.difference(RUN, &[sheet], &[], "");
+        println!("archive, library with the other version, peer, fast with each, and the reference every twentieth time: {results:02x?}");
+        std::process::exit(1);
+    }
+    let (answer, [trace, _]) = &results[0];
+    let Done { written, .. } = answer.expect("the sheet was accepted");
+    comparison.count_woken(&reference::steps_of(&trace[..written]).expect("a run's trace has whole records"));
+    comparison.counts.long_by_reference += u64::from(by_reference);
 }
 
 /// Each job reads its sheet first: whatever else is wrong, the sheet's number is the answer; but the boundary looks at states before.
@@ -1126,7 +1225,7 @@ fn picking_case(comparison: &mut Comparison, random: &mut Random) {
 const QUICK: [&str; 9] =
     ["queens-0", "latin-3x3", "latin-4x4", "pigeons-03", "pigeons-04", "pigeons-05", "pigeons-06", "petersen", "mycielski-3-4"];
 
-/// A sheet of the corpus by the three, or where the reference would take too long by the other two.
+/// A sheet of the corpus by all, or where the reference would take too long by the library and the fast implementation.
 fn corpus_case(comparison: &mut Comparison, random: &mut Random) {
     let Entry { name, sheet, solvable, .. } = comparison.corpus[comparison.case as usize].clone();
     let quick = QUICK.iter().any(|front| name.starts_with(front));
@@ -1147,8 +1246,8 @@ fn picked_by_two(comparison: &mut Comparison, sheet: &[u8]) -> bool {
     let results = [
         picked(&mut |trace, plan, state| raw::pick(sheet, trace, plan, state)),
         picked(&mut |trace, plan, state| library::pick(&other, trace, plan, state)),
-        picked(&mut |trace, plan, state| comparison.fast.pick(sheet, trace, plan, state)),
-        picked(&mut |trace, plan, state| comparison.fast.pick(&other, trace, plan, state)),
+        picked(&mut |trace, plan, state| comparison.unproved.fast.pick(sheet, trace, plan, state)),
+        picked(&mut |trace, plan, state| comparison.unproved.fast.pick(&other, trace, plan, state)),
     ];
     if results.iter().any(|result| *result != results[0]) {
         comparison.difference(PICK, &[sheet], &[], "");

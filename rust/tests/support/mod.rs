@@ -1,5 +1,5 @@
-//! What the tests and the bench share and the library does not have: the reference, the fast implementation, what is compared, and the
-//! calls of the archive with states of any length.
+//! What the tests and the bench share and the library does not have: the reference, the fast implementation, the fixed peer, what is
+//! compared, and the calls of the archive with states of any length.
 
 // Each test has all of it and uses a part.
 #![allow(dead_code)]
@@ -15,6 +15,8 @@ pub mod decoder;
 pub mod fast;
 #[path = "../../src/generate.rs"]
 pub mod generate;
+#[path = "../../src/peer.rs"]
+pub mod peer;
 pub mod proved;
 #[path = "../../src/reference.rs"]
 pub mod reference;
