@@ -101,6 +101,23 @@ pub fn weight(t: bool, b: usize) -> u16
     if t { power(b) as u16 } else { 0 }
 }
 
+// The bit of lane u of sixteen. That of the first is lent: where the compiler knows it, it makes less of that lane than of the others, and no
+// longer does all of them at once.
+fn bit_of(u: usize, one: u16) -> u16
+    requires { ⌜ (u < 16) × (one ≡ 1) ⌝ }
+    ensures { λ r. ⌜ r ≡ 2 ^ u ⌝ }
+{
+    if u == 0 { one } else { power(u) as u16 }
+}
+
+// The bit of lane u where t holds, else 0.
+pub fn lane(t: bool, u: usize, one: u16) -> u16
+    requires { ⌜ (u < 16) × (one ≡ 1) ⌝ }
+    ensures { λ r. ⌜ r ≡ cond t (2 ^ u) 0 ⌝ }
+{
+    if t { bit_of(u, one) } else { 0 }
+}
+
 // The word x where c is in a set of 16, else 0. By `&`, so that a loop over c can do many at once.
 pub fn where16(set: u16, c: usize, x: u16) -> u16
     requires { ⌜ c < 16 ⌝ }

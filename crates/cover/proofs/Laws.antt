@@ -12,10 +12,10 @@ use Rattle.bounded.specs.Bounded.{imp, allBelow, lowest, atLowest}
 use Rattle.bounded.specs.Mask.{bit, without}
 use Rattle.bounded.proofs.Truth.{T-ext, T-not, T-false, T-true, split, clash, and-iff, imp-iff, imp-fails, not-iff, eqb-iff}
 use Rattle.bounded.proofs.Bounded.{all-iff, any-iff}
-use Rattle.bounded.proofs.Mask.{bit-and, bit-not16, bit-mask, bit-without32, mask-lt, member-lt, member-some, without-met}
+use Rattle.bounded.proofs.Mask.{bit-and, bit-not16, bit-mask, bit-without32, mask-lt, member-lt, without-met}
 use Rattle.bounded.proofs.Members.{lowest-member}
 use Rattle.bounded.proofs.Loops.{all-intro, all-fail, lowest-or, at-lowest-is, at-lowest-none, at-lowest-same, at-lowest-ext}
-use Rattle.problem.specs.Problem.{Problem, State, allOther, allThird, unspoilt, breakAt, unbroken, spoils, spoiler, breaks, firstBreak}
+use Rattle.problem.specs.Problem.{Problem, State, allOther, unspoilt, breakAt, unbroken, spoils, spoiler, breaks, firstBreak}
 use Rattle.problem.specs.Held.{rowWord, rowsAt, held}
 use Rattle.problem.specs.Masks.{stateOf}
 use Rattle.problem.specs.declared.Masks.{Masks}
@@ -23,7 +23,7 @@ use Rattle.problem.specs.declared.Cover.{Cover}
 use Rattle.problem.specs.declared.Cover.the-variants.{Spoilt, Holds}
 use Rattle.problem.specs.declared.Break.{Break}
 use Rattle.problem.specs.declared.Break.the-variants.{Nowhere}
-use Rattle.problem.proofs.Reflect.{Fits, allOther-iff, allThird-iff, Substitutes, spoils-iff, unspoilt-iff}
+use Rattle.problem.proofs.Reflect.{Fits, allOther-iff, Substitutes, spoils-iff, unspoilt-iff}
 use Rattle.problem.proofs.Spoiler.{breaks-iff}
 use Rattle.problem.proofs.HeldTable.{row-lt, row-met}
 use Rattle.held.specs.Ready.{Ready, Value, Near}

@@ -2,7 +2,7 @@
 -- Assumes nothing.
 use mathlib.Core.Path.{_≡_, refl, sym, ap, _∙_, subst}
 use mathlib.Core.Bool.{Bool, true, false, cond, not, _&&_}
-use mathlib.Core.Logic.{_⊎_, inl, inr, ⊎-elim, _≢_, _↔_, Iff·rfl}
+use mathlib.Core.Logic.{inl, inr, ⊎-elim, _≢_, _↔_, Iff·rfl}
 use mathlib.Core.List.{List}
 use Prim.Native.Nat.{ℕ, _+_, _-_, _^_, _<_}
 use native.Mathlib.Nat.{lt-of-le-of-lt}
@@ -75,13 +75,12 @@ module _ {t : List ℕ} {m : Masks} (R : Ready t m) where
       asked : eqb (bitAnd (bitAnd (getD (m .domains) l 0) (rowWord P j l w)) (rowWord P i l u)) (bitAnd (getD (m .domains) l 0) (rowWord P j l w)) ≡ allBelow 16 (λ c. imp (bit (bitAnd (getD (m .domains) l 0) (rowWord P j l w)) c) (bit (rowWord P i l u) c))
       asked = within 16 (bitAnd (getD (m .domains) l 0) (rowWord P j l w)) (rowWord P i l u) (word-lt R l _ k)
 
-  -- only the neighbours of i are to be asked
-  pub serving-first : (rest good i j w x : ℕ) → good < 2 ^ 16 → Among m i good → Near t i x → bit rest i ≡ false → Serving t m rest good i j w (bitAnd rest x) good 0
-  serving-first rest good i j w x small among near out =
+  pub serving-first : (rest good i j w : ℕ) → good < 2 ^ 16 → Among m i good → Serving t m rest good i j w rest good 0
+  serving-first rest good i j w small among =
       record {
         values = record { small = small; within = λ u h. R .fits .live-lt i u (among .live u h) };
         part = λ u h. h;
-        covers = λ u h l k on off. near-covers R i u j w x (live-value R i u (among .live u h)) near l k (apart rest l i (T-true _ on) out) (T-false _ (λ y. off (subst T (sym (bit-and rest x l)) (and-iff (bit rest l) (bit x l) .1 (on, y)))));
+        covers = λ u h l k on off. absurd (off on);
         shown = record { small = pow-pos 32; at = λ u on off. absurd (off on) };
       }
 
@@ -149,6 +148,39 @@ module _ {t : List ℕ} {m : Masks} (R : Ready t m) where
     where
       none : (u : ℕ) → T (bit some u) → (l : ℕ) → T (bit left l) → ⊥
       none u h l y = clash {b = not (eqb left 0) && not (eqb some 0)} (rw (ne-eqb left 0 (member-some left l y), ne-eqb some 0 (member-some some u h))) e
+
+-- ---- asked of the neighbours only
+
+meet-iff : (x y l : ℕ) → T (bit (bitAnd x y) l) ↔ (T (bit x l) × T (bit y l))
+meet-iff x y l = rw (bit-and x y l) (and-iff (bit x l) (bit y l))
+
+-- the values that cover at the neighbours of i cover at any other variable too
+pub near-servers : {t : List ℕ} {m : Masks} (R : Ready t m) (rest good i j w x : ℕ) → Among m i good → Near t i x → bit rest i ≡ false → serversIn (held t) (stateOf m) (bitAnd rest x) good i j w ≡ serversIn (held t) (stateOf m) rest good i j w
+near-servers {t} {m} R rest good i j w x among near out =
+    mask-ext 16 _ _ (servers-lt P s (bitAnd rest x) good i j w) (servers-lt P s rest good i j w)
+    (λ u k. T-ext (
+      λ h. let y = serversIn-iff (R .fits) (bitAnd rest x) good i j w u .0 h in
+          serversIn-iff (R .fits) rest good i j w u .1 (
+            k,
+            y .1,
+            λ l q on. elim (T-dec (bit x l)) [
+              | inl z ↦ y .2 l q (meet-iff rest x l .1 (on, z))
+              | inr z ↦ near-covers R i u j w x (live-value R i u (among .live u (y .1))) near l q (apart rest l i (T-true _ on) out) (T-false _ z)
+            ],
+          ),
+      λ h. let y = serversIn-iff (R .fits) rest good i j w u .0 h in
+          serversIn-iff (R .fits) (bitAnd rest x) good i j w u .1 (k, y .1, λ l q on. y .2 l q (meet-iff rest x l .0 on .0)),
+    ))
+  where
+    P : Problem
+    P = held t
+
+    s : State
+    s = stateOf m
+
+-- what breaks at some of a set breaks in the set
+pub part-broken : {P : Problem} {s : State} (rest x : ℕ) {good left broken i j w : ℕ} → BrokenIn P s (bitAnd rest x) good left broken i j w → BrokenIn P s rest good left broken i j w
+part-broken rest x B = record { small = B .small; at = λ u on off. let y = B .at u on off in (y .0, y .1, y .2, meet-iff rest x (y .0) .0 (y .3) .0, y .4) }
 
 -- ---- values to serve, one after another
 

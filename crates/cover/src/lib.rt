@@ -1,7 +1,7 @@
 // Covering, the format's word for one value in another's place, over a lent table of rows: what spoils it at one variable, where it breaks
 // first in a set of them, which values of a set cover, and where the others break.
 ghost use mathlib.Core.Path.{_≡_};
-ghost use mathlib.Core.Bool.{cond, true, false};
+ghost use mathlib.Core.Bool.{cond, false};
 ghost use mathlib.Core.Logic.{_≢_};
 ghost use Prim.Native.Nat.{_<_, _≤_, _+_, _^_};
 ghost use lib.Bits.{bitAnd, bitOr};
@@ -14,13 +14,14 @@ ghost use Rattle.cover.specs.Words.{firstBreakIn, allowedWith, serversIn
 ghost use Rattle.cover.specs.Broken.{BrokenIn, UnservedIn};
 use bounded::highest16;
 use bounded::highest32;
+use bounded::lane;
 use bounded::lowest16;
 use bounded::lowest32;
-use bounded::weight;
 use bounded::with32;
 use bounded::without16;
 use bounded::without32;
 use held::neighbours;
+use held::one_of;
 use held::row_among;
 use held::rows_at;
 use problem::Break;
@@ -153,19 +154,20 @@ fn allowed_with(t: &[u16], some: u16, x: u16, i: usize, l: usize) -> u16
     ensures { λ r. ⌜ r ≡ bitAnd some (allowedWith (held (now (t .entry))) x i l) ⌝ }
 {
     let at = rows_at(t, i, l);
+    let one = one_of(t);
     let mut word: u16 = 0;
     let mut u: usize = 0;
     while u < 16 {
-        word = word | weight(x & t[at + u] == x, u);
+        word = word | lane(x & t[at + u] == x, u, one);
         u += 1;
     }
     some & word
 }
 
-// Those of the values `good` of i that cover value w of j at each variable of `rest`, and where the others break. Only the neighbours of i
-// are asked, one by one and the highest first, each of all values that are left: a run works from the lowest variable up, so that what
-// breaks at a high one lasts.
-pub fn serving(
+// Those of the values `good` of i that cover value w of j at each variable of `rest`, and where the others break. The variables are asked one
+// by one and the highest first, each of all values that are left: a run works from the lowest variable up, so that what breaks at a high one
+// lasts.
+fn serving_in(
     t: &[u16],
     active: u32,
     on: &[u16; 32],
@@ -181,7 +183,7 @@ pub fn serving(
 {
     let mut some = good;
     let mut broken: u32 = 0;
-    let mut left = rest & neighbours(t, i);
+    let mut left = rest;
     while (left != 0) & (some != 0) {
         let l = highest32(left);
         let x = row_among(t, on[l], j, l, w);
@@ -191,6 +193,24 @@ pub fn serving(
         left = without32(left, l);
     }
     Candidates { left: some, broken }
+}
+
+// The same, asked of the neighbours of i only: at any other variable every value of i covers.
+pub fn serving(
+    t: &[u16],
+    active: u32,
+    on: &[u16; 32],
+    rest: u32,
+    good: u16,
+    i: usize,
+    j: usize,
+    w: usize,
+) -> Candidates
+    requires { ⌜ Ready (now t) (sets active (now on)) × Among (sets active (now on)) i good × Value (now t) j w × (bit rest i ≡ false) × (bit rest j ≡ false) × (i < 32) ⌝ }
+    ensures is { λ r. ⌜ r .left ≡ serversIn (held (now (t .entry))) (stateOf (sets active (now (on .entry)))) rest good i j w ⌝ }
+    ensures shown { λ r. ⌜ BrokenIn (held (now (t .entry))) (stateOf (sets active (now (on .entry)))) rest good (r .left) (r .broken) i j w ⌝ }
+{
+    serving_in(t, active, on, rest & neighbours(t, i), good, i, j, w)
 }
 
 // 0 where each value of `bad` that is not one of `good` is covered by one of `good` at each variable of `rest`; else j, and the variables
@@ -207,10 +227,11 @@ pub fn unserved(
     requires { ⌜ Ready (now t) (sets active (now on)) × Among (sets active (now on)) j good × Among (sets active (now on)) j bad × (bit rest j ≡ false) × (j < 32) ⌝ }
     ensures { λ r. ⌜ UnservedIn (held (now (t .entry))) (stateOf (sets active (now (on .entry)))) rest good bad j r ⌝ }
 {
+    let near = rest & neighbours(t, j);
     let mut left = bad & !good;
     while left != 0 {
         let w = highest16(left);
-        let found = serving(t, active, on, rest, good, j, j, w);
+        let found = serving_in(t, active, on, near, good, j, j, w);
         if found.left == 0 {
             return with32(found.broken, j);
         }

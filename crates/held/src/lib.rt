@@ -73,6 +73,14 @@ pub fn rows_at(t: &[u16], i: usize, j: usize) -> usize
     }
 }
 
+// 1, as the list of places has it for items 0 and 2.
+pub fn one_of(t: &[u16]) -> u16
+    requires { ⌜ Located (now t) ⌝ }
+    ensures { λ r. ⌜ r ≡ 1 ⌝ }
+{
+    t[34]
+}
+
 // Of a set of values of j, those that are allowed with value a of another variable i. The word in the table may have bits beyond the size
 // of j, and the set has none.
 pub fn row_among(t: &[u16], set: u16, i: usize, j: usize, a: usize) -> u16

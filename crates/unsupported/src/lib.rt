@@ -16,11 +16,12 @@ ghost use Rattle.unsupported.specs.Bare.{Bare, BareOf, Alone, Mended};
 use bounded::has16;
 use bounded::has32;
 use bounded::highest16;
+use bounded::lane;
 use bounded::lowest16;
 use bounded::lowest32;
-use bounded::weight;
 use bounded::without32;
 use held::neighbours;
+use held::one_of;
 use held::row_among;
 use held::rows_at;
 use problem::Next;
@@ -106,10 +107,11 @@ fn all_alone(t: &[u16], some: u16, domain: u16, l: usize, i: usize) -> u16
     ensures { λ r. ⌜ Alone (held (now (t .entry))) some domain l i r ⌝ }
 {
     let at = rows_at(t, i, l);
+    let one = one_of(t);
     let mut word: u16 = 0;
     let mut u: usize = 0;
     while u < 16 {
-        word = word | weight(domain & t[at + u] == 0, u);
+        word = word | lane(domain & t[at + u] == 0, u, one);
         u += 1;
     }
     some & word

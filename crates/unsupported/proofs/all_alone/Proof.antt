@@ -15,21 +15,21 @@ use Rattle.unsupported.proofs.all_alone.Statement.{statement}
 use Rattle.unsupported.proofs.all_alone.Tie as tie
 
 abbrev Inv-loop : tie.InvT-loop
-Inv-loop t some domain l i at word₀ u₀ word u = (u ≤ 16) × (word ≡ maskOf u (λ (u : ℕ). eqb (bitAnd domain (getD t (rowsAt i l + u) 0)) 0))
+Inv-loop t some domain l i at one word₀ u₀ word u = (u ≤ 16) × (word ≡ maskOf u (λ (u : ℕ). eqb (bitAnd domain (getD t (rowsAt i l + u) 0)) 0))
 
 abbrev μ-loop : tie.MeasureT-loop
-μ-loop t some domain l i at word₀ u₀ word u = 16 - u
+μ-loop t some domain l i at one word₀ u₀ word u = 16 - u
 
 loop-again : tie.Need-loop-again Inv-loop μ-loop
 loop-again c =
-    let a = c .before .before .before .before .before .before .args in
+    let a = c .before .before .before .before .before .before .before .args in
     let w = c .before .before .before .loop in
-    let e = c .weight .ensures ∙ ap (λ (k : ℕ). cond (eqb (bitAnd (a .domain) (getD (a .t .now) (k + w .u) 0)) 0) (2 ^ w .u) 0) (c .before .before .before .before .rows-at .ensures .0) in
+    let e = c .lane .ensures ∙ ap (λ (k : ℕ). cond (eqb (bitAnd (a .domain) (getD (a .t .now) (k + w .u) 0)) 0) (2 ^ w .u) 0) (c .before .before .before .before .before .rows-at .ensures .0) in
     (omega arith, mask-or (λ u. eqb (bitAnd (a .domain) (getD (a .t .now) (rowsAt (a .i) (a .l) + u) 0)) 0) (w .word) (w .u) _ (w .inv .1) e)
 
 returns : tie.Need-returns Inv-loop μ-loop
 returns c =
-    let p = c .before .before .before .before .pre in
+    let p = c .before .before .before .before .before .pre in
     let w = c .before .loop in
     let e : w .u ≡ 16 = omega arith in
     alone-met (p .0) _ _ _ _ (p .1) (p .2) (p .5) (w .word) (w .u) e (w .inv .1)
@@ -39,6 +39,7 @@ all-alone-spec =
     tie.close
     (tie.spec Inv-loop μ-loop
     (λ c κs. search needs)
+    (λ c κs. c .before .before .pre .0 .located)
     (λ c. (search needs, mask-none _))
     (λ c. search needs)
     (λ c. search needs)
