@@ -73,7 +73,7 @@ pub fn rows_at(t: &[u16], i: usize, j: usize) -> usize
     }
 }
 
-// 1, as the list of places has it for items 0 and 2.
+// 1, as the list of places has it for items 0 and 2: a bit that the compiler does not know, for the first lane of sixteen (`bounded::lane`).
 pub fn one_of(t: &[u16]) -> u16
     requires { ⌜ Located (now t) ⌝ }
     ensures { λ r. ⌜ r ≡ 1 ⌝ }
