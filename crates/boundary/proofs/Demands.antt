@@ -18,10 +18,8 @@ use Rattle.problem.specs.declared.End.{End}
 use Rattle.problem.specs.declared.End.the-variants as end·
 use Rattle.problem.specs.declared.Masks.{Masks}
 use Rattle.problem.specs.declared.Record.{Record}
-use Rattle.problem.proofs.Reflect.{Active}
+use Rattle.problem.specs.Sentences.{Active, Solvable, Alike}
 use Rattle.problem.proofs.Bridge.{masks-back}
-use Rattle.problem.proofs.Order.{Alike}
-use Rattle.problem.proofs.Sound.{Solvable}
 use Rattle.sheet.specs.Bytes.{numberAt}
 use Rattle.sheet.specs.Sheet.{layout, variablesOf, Keeps}
 use Rattle.sheet.specs.Relation.{problemOf}

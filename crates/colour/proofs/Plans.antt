@@ -13,7 +13,8 @@ use Rattle.bounded.proofs.Truth.{T-true, T-of, T-not, T-ext, and-iff, or-iff, e
 use Rattle.problem.specs.Problem.{Problem, full}
 use Rattle.problem.specs.Held.{Bounded}
 use Rattle.problem.specs.Extend.{solvesWhole}
-use Rattle.problem.proofs.Sound.{Solution, solvesWhole-iff}
+use Rattle.problem.proofs.Sound.{solvesWhole-iff}
+use Rattle.problem.specs.Sentences.{Solution}
 use Rattle.sheet.specs.Sheet.{layout, versionOf, Keeps}
 use Rattle.sheet.specs.Relation.{rowsOf, rowIn, problemOf}
 use Rattle.sheet.specs.declared.Rows.the-variants.{At}

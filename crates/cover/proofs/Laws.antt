@@ -23,7 +23,8 @@ use Rattle.problem.specs.declared.Cover.{Cover}
 use Rattle.problem.specs.declared.Cover.the-variants.{Spoilt, Holds}
 use Rattle.problem.specs.declared.Break.{Break}
 use Rattle.problem.specs.declared.Break.the-variants.{Nowhere}
-use Rattle.problem.proofs.Reflect.{Fits, allOther-iff, Substitutes, spoils-iff, unspoilt-iff}
+use Rattle.problem.proofs.Reflect.{allOther-iff, spoils-iff, unspoilt-iff}
+use Rattle.problem.specs.Sentences.{Fits, Substitutes}
 use Rattle.problem.proofs.Spoiler.{breaks-iff}
 use Rattle.problem.proofs.HeldTable.{row-lt, row-met}
 use Rattle.held.specs.Ready.{Ready, Value, Near}

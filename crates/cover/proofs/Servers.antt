@@ -21,7 +21,7 @@ use Rattle.problem.specs.Problem.{Problem, State}
 use Rattle.problem.specs.Held.{rowWord, rowsAt, held, RowTable}
 use Rattle.problem.specs.Masks.{stateOf}
 use Rattle.problem.specs.declared.Masks.{Masks}
-use Rattle.problem.proofs.Reflect.{Fits, Substitutes}
+use Rattle.problem.specs.Sentences.{Fits, Substitutes}
 use Rattle.problem.proofs.HeldTable.{row-met, held-value}
 use Rattle.held.specs.Ready.{Ready, Values, Near, Among}
 use Rattle.held.proofs.Laws.{row-says, part-values, live-value, word-iff, word-lt}

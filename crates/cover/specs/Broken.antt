@@ -5,7 +5,7 @@ use Prim.Native.Nat.{ℕ, _^_, _<_}
 use lib.Dec.{T}
 use Rattle.bounded.specs.Mask.{bit}
 use Rattle.problem.specs.Problem.{Problem, State}
-use Rattle.problem.proofs.Reflect.{Substitutes}
+use Rattle.problem.specs.Sentences.{Substitutes}
 use Rattle.cover.specs.Words.{allServedIn}
 
 module _ (P : Problem) (s : State) where

@@ -22,9 +22,8 @@ use Rattle.bounded.proofs.Members.{Left, left-all, left-next, left-other, witho
 use Rattle.problem.specs.Problem.{Problem}
 use Rattle.problem.specs.Held.{held, rowWord, RowTable}
 use Rattle.problem.specs.Masks.{stateOf, sets}
-use Rattle.problem.proofs.Reflect.{Allowed}
+use Rattle.problem.specs.Sentences.{Allowed, Solution}
 use Rattle.problem.proofs.HeldTable.{held-bounded}
-use Rattle.problem.proofs.Sound.{Solution}
 use Rattle.held.proofs.Laws.{row-says}
 use Rattle.crowd.specs.Crowd.{Apart, Told, AllApart, Rows, Differs, Crowd, Unsolved}
 

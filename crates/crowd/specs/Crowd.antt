@@ -9,8 +9,7 @@ use lib.Dec.{T}
 use lib.ListN.{getD}
 use Rattle.bounded.specs.Mask.{bit}
 use Rattle.problem.specs.Problem.{Problem, State}
-use Rattle.problem.proofs.Reflect.{Allowed}
-use Rattle.problem.proofs.Sound.{Solvable}
+use Rattle.problem.specs.Sentences.{Allowed, Solvable}
 
 -- no value is allowed at i and at j at once
 pub record Apart (P : Problem) (i j : ℕ) : Type 0 where

@@ -16,8 +16,9 @@ use Rattle.problem.specs.Problem.{Problem, State, full, allOther}
 use Rattle.problem.specs.Reduce.{lawful, lawfulTrace, afterTrace}
 use Rattle.problem.specs.Extend.{solves, planOf}
 use Rattle.problem.specs.declared.Record.{Record}
-use Rattle.problem.proofs.Reflect.{Active, Live, Allowed, Fits, full-fits, allActive-or}
-use Rattle.problem.proofs.Sound.{Solution, solves-iff}
+use Rattle.problem.proofs.Reflect.{full-fits, allActive-or}
+use Rattle.problem.specs.Sentences.{Active, Live, Allowed, Fits, Solution}
+use Rattle.problem.proofs.Sound.{solves-iff}
 use Rattle.problem.proofs.Trace.{trace-fits}
 use Rattle.sheet.specs.Bytes.{byteAt}
 use Rattle.sheet.proofs.Refusals.{sheet-number}

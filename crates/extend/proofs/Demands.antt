@@ -13,9 +13,11 @@ use Rattle.problem.specs.Problem.{Problem, full}
 use Rattle.problem.specs.Reduce.{lawfulTrace, afterTrace, run}
 use Rattle.problem.specs.Extend.{solves, solvesWhole, undoTrace, planOf}
 use Rattle.problem.specs.declared.Record.{Record}
-use Rattle.problem.proofs.Reflect.{Active, Live, Fits, full-fits}
-use Rattle.problem.proofs.Published.{Published, trace-published}
-use Rattle.problem.proofs.Sound.{Solvable, solves-iff, solvesWhole-iff}
+use Rattle.problem.proofs.Reflect.{full-fits}
+use Rattle.problem.specs.Sentences.{Active, Live, Fits, Solvable}
+use Rattle.problem.proofs.Published.{trace-published}
+use Rattle.problem.specs.Published.{Published}
+use Rattle.problem.proofs.Sound.{solves-iff, solvesWhole-iff}
 use Rattle.problem.proofs.Trace.{trace-fits, trace-undone, trace-solvable}
 use Rattle.problem.proofs.Run.{run-lawful}
 use Rattle.sheet.specs.Sheet.{layout, variablesOf, Keeps}

@@ -17,7 +17,7 @@ use Rattle.problem.specs.declared.Record.{Record}
 use Rattle.problem.specs.declared.End.{End}
 use Rattle.problem.specs.declared.End.the-variants.{Impossible, Solved}
 use Rattle.problem.proofs.Reflect.{full-fits}
-use Rattle.problem.proofs.Run.{EndSays}
+use Rattle.problem.specs.Sentences.{EndSays}
 use Rattle.problem.proofs.Sound.{solves-iff, solvesWhole-iff}
 use Rattle.problem.proofs.Trace.{trace-fits}
 use Rattle.sheet.specs.Sheet.{layout, variablesOf, Keeps}

@@ -12,8 +12,8 @@ use Rattle.problem.specs.Held.{held, RowTable}
 use Rattle.problem.specs.Masks.{stateOf, masksOf}
 use Rattle.problem.specs.declared.Masks.{Masks}
 use Rattle.problem.specs.declared.Record.{Record}
-use Rattle.problem.proofs.Reflect.{Fits, full-fits}
-use Rattle.problem.proofs.Sound.{Solution}
+use Rattle.problem.proofs.Reflect.{full-fits}
+use Rattle.problem.specs.Sentences.{Fits, Solution}
 use Rattle.problem.proofs.Trace.{trace-fits}
 use Rattle.jobs.specs.PutBack.{Checked, Lawful as Records, planFits, checkTrace, PutBackResult, putBackRefused, putBackDone, afterCheck}
 use Rattle.jobs.specs.declared.Extended.the-variants.{Done}

@@ -11,8 +11,8 @@ use Rattle.bounded.proofs.Truth.{T-ext, T-dec, and-iff, or-iff, imp-iff, not-if
 use Rattle.bounded.proofs.Bounded.{all-iff}
 use Rattle.problem.specs.Problem.{Problem, State}
 use Rattle.problem.specs.Extend.{solves, planOf}
-use Rattle.problem.proofs.Reflect.{Active, Live, Allowed, Fits}
-use Rattle.problem.proofs.Sound.{Solution, solves-iff}
+use Rattle.problem.specs.Sentences.{Active, Live, Allowed, Fits, Solution}
+use Rattle.problem.proofs.Sound.{solves-iff}
 use Rattle.jobs.specs.PutBack.{planFits}
 use Rattle.extend.specs.Plan.{entryFits, pairsOf}
 

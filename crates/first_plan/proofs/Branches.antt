@@ -18,9 +18,9 @@ use Rattle.problem.specs.Problem.{Problem, State, remove}
 use Rattle.problem.specs.Held.{held, RowTable}
 use Rattle.problem.specs.Masks.{stateOf, masksOf}
 use Rattle.problem.specs.declared.Masks.{Masks}
-use Rattle.problem.proofs.Reflect.{Active, Live, Fits, remove-live, remove-fits}
+use Rattle.problem.proofs.Reflect.{remove-live, remove-fits}
+use Rattle.problem.specs.Sentences.{Active, Live, Fits, Solution, Solvable}
 use Rattle.problem.proofs.HeldTable.{held-few}
-use Rattle.problem.proofs.Sound.{Solution, Solvable}
 use Rattle.held.specs.Ready.{Ready}
 use Rattle.held.proofs.Laws.{active-32}
 use Rattle.held.proofs.After.{state-held}

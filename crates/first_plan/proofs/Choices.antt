@@ -19,7 +19,7 @@ use Rattle.bounded.proofs.Table.{length-tab, getD-tab}
 use Rattle.problem.specs.Held.{held, rowWord}
 use Rattle.problem.specs.Masks.{stateOf}
 use Rattle.problem.specs.declared.Masks.{Masks}
-use Rattle.problem.proofs.Reflect.{Active}
+use Rattle.problem.specs.Sentences.{Active}
 use Rattle.held.specs.Ready.{Ready}
 use Rattle.held.proofs.Laws.{word-iff, word-lt}
 use Rattle.first_plan.specs.Steps.{choose}

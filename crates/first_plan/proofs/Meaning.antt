@@ -12,8 +12,8 @@ use lib.Seq.{getD-set-same, getD-set-other}
 use Rattle.bounded.proofs.Truth.{T-true, T-of, clash, eq-dec, lt-dec}
 use Rattle.problem.specs.Problem.{Problem, State}
 use Rattle.problem.specs.Extend.{solves, planOf}
-use Rattle.problem.proofs.Reflect.{Active, Fits}
-use Rattle.problem.proofs.Sound.{Solution, Solvable, solves-iff}
+use Rattle.problem.specs.Sentences.{Active, Fits, Solution, Solvable}
+use Rattle.problem.proofs.Sound.{solves-iff}
 use Rattle.first_plan.specs.First.{none, orElse, firstOf, firstFrom, firstPlan, NotAfter}
 use Rattle.first_plan.specs.declared.Found.{Found}
 

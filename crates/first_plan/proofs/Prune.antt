@@ -10,8 +10,9 @@ use lib.Seq.{getD-set-same, getD-set-other}
 use Rattle.bounded.proofs.Truth.{T-true, T-false, T-not, T-ext, and-iff, not-iff, eqb-iff, eq-dec}
 use Rattle.problem.specs.Problem.{Problem, State, remove}
 use Rattle.problem.specs.Extend.{solves, planOf}
-use Rattle.problem.proofs.Reflect.{Active, Live, Allowed, Fits, turn, remove-live, remove-fits}
-use Rattle.problem.proofs.Sound.{Solution, solves-iff, remove-undone}
+use Rattle.problem.proofs.Reflect.{turn, remove-live, remove-fits}
+use Rattle.problem.specs.Sentences.{Active, Live, Allowed, Fits, Solution}
+use Rattle.problem.proofs.Sound.{solves-iff, remove-undone}
 use Rattle.first_plan.specs.First.{found, none, orElse, firstOf, firstFrom, firstPlan}
 use Rattle.first_plan.specs.Steps.{choose}
 use Rattle.first_plan.specs.declared.Found.{Found}

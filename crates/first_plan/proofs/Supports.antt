@@ -17,8 +17,7 @@ use Rattle.problem.specs.Problem.{Problem, State}
 use Rattle.problem.specs.Held.{held, rowWord, RowTable}
 use Rattle.problem.specs.Masks.{stateOf, sets}
 use Rattle.problem.specs.declared.Masks.{Masks}
-use Rattle.problem.proofs.Reflect.{Active, Live, Allowed}
-use Rattle.problem.proofs.Sound.{Solution}
+use Rattle.problem.specs.Sentences.{Active, Live, Allowed, Solution}
 use Rattle.held.specs.Ready.{Ready}
 use Rattle.held.proofs.Laws.{row-says}
 use Rattle.first_plan.specs.Steps.{Supported, Narrowed, Emptied}

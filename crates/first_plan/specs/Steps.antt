@@ -12,8 +12,7 @@ use Rattle.problem.specs.Problem.{Problem, State}
 use Rattle.problem.specs.Held.{held}
 use Rattle.problem.specs.Masks.{stateOf, sets}
 use Rattle.problem.specs.declared.Masks.{Masks}
-use Rattle.problem.proofs.Reflect.{Active, Live, Allowed}
-use Rattle.problem.proofs.Sound.{Solution}
+use Rattle.problem.specs.Sentences.{Active, Live, Allowed, Solution}
 use Rattle.held.specs.Ready.{Ready}
 use Rattle.first_plan.specs.declared.Found.{Found}
 use Rattle.first_plan.specs.declared.Opened.{Opened}

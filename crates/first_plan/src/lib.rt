@@ -9,7 +9,7 @@ ghost use Rattle.bounded.specs.Mask.{bit};
 ghost use Rattle.problem.specs.Problem.{remove as removed};
 ghost use Rattle.problem.specs.Held.{held, RowTable};
 ghost use Rattle.problem.specs.Masks.{stateOf, masksOf, sets};
-ghost use Rattle.problem.proofs.Reflect.{Live};
+ghost use Rattle.problem.specs.Sentences.{Live};
 ghost use Rattle.held.specs.Ready.{Ready, Values};
 ghost use Rattle.first_plan.specs.First.{firstPlan};
 ghost use Rattle.first_plan.specs.Steps.{answer, choose as chosen, Next, Supported, Sweeps, Opens};

@@ -15,7 +15,8 @@ use Rattle.problem.specs.Held.{held}
 use Rattle.problem.specs.Masks.{stateOf}
 use Rattle.problem.specs.declared.Masks.{Masks}
 use Rattle.problem.specs.declared.Call.the-variants.{Eliminated, NotActive, Emptied, NoSnake}
-use Rattle.problem.proofs.Reflect.{Live, fits-test, anyLive-iff, snake-iff}
+use Rattle.problem.proofs.Reflect.{fits-test, anyLive-iff, snake-iff}
+use Rattle.problem.specs.Sentences.{Live}
 use Rattle.problem.proofs.OneCall.{call-item, call-emptied, call-none, call-done}
 use Rattle.held.specs.Ready.{Ready}
 use Rattle.held.proofs.Laws.{live-value, active-32}

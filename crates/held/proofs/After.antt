@@ -5,7 +5,7 @@ use Prim.Native.Nat.{ℕ}
 use Rattle.problem.specs.Problem.{State}
 use Rattle.problem.specs.Held.{held, RowTable}
 use Rattle.problem.specs.Masks.{stateOf, masksOf}
-use Rattle.problem.proofs.Reflect.{Fits}
+use Rattle.problem.specs.Sentences.{Fits}
 use Rattle.problem.proofs.HeldTable.{held-few, held-narrow}
 use Rattle.problem.proofs.Bridge.{state-within, masks-proper}
 use Rattle.held.specs.Ready.{Ready}

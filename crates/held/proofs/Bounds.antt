@@ -12,7 +12,7 @@ use Rattle.problem.specs.Problem.{Problem, State}
 use Rattle.problem.specs.Held.{held}
 use Rattle.problem.specs.Masks.{stateOf}
 use Rattle.problem.specs.declared.Masks.{Masks}
-use Rattle.problem.proofs.Reflect.{Active, Live}
+use Rattle.problem.specs.Sentences.{Active, Live}
 use Rattle.held.specs.Ready.{Ready}
 
 module _ {t : List ℕ} {m : Masks} (R : Ready t m) where

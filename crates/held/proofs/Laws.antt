@@ -19,7 +19,8 @@ use Rattle.problem.specs.Problem.{Problem, State, allActive, allLive, anyLive}
 use Rattle.problem.specs.Held.{rowWord, heldSize, heldVariables, held, RowTable}
 use Rattle.problem.specs.Masks.{stateOf}
 use Rattle.problem.specs.declared.Masks.{Masks}
-use Rattle.problem.proofs.Reflect.{Active, Live, Allowed, Fits, allActive-iff, allLive-iff, anyLive-iff}
+use Rattle.problem.proofs.Reflect.{allActive-iff, allLive-iff, anyLive-iff}
+use Rattle.problem.specs.Sentences.{Active, Live, Allowed, Fits}
 use Rattle.problem.proofs.HeldTable.{row-word, row-only, held-bounded, held-few, held-narrow, heldValue-iff, far-free}
 use Rattle.held.specs.Ready.{Ready, Value, Values, Near, Among}
 

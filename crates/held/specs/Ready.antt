@@ -8,7 +8,7 @@ use Rattle.bounded.specs.Mask.{bit}
 use Rattle.problem.specs.Masks.{stateOf, Proper}
 use Rattle.problem.specs.Held.{farFrom, held, heldValue, RowTable}
 use Rattle.problem.specs.declared.Masks.{Masks}
-use Rattle.problem.proofs.Reflect.{Fits}
+use Rattle.problem.specs.Sentences.{Fits}
 
 -- a table that can be read, and a state of the problem that it holds
 pub record Ready (t : List ℕ) (m : Masks) : Type 0 where

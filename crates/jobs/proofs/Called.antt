@@ -13,7 +13,7 @@ use Rattle.problem.specs.Manual.{call}
 use Rattle.problem.specs.Masks.{Proper}
 use Rattle.problem.specs.declared.Call.{Call}
 use Rattle.problem.specs.declared.Call.the-variants as outcome
-use Rattle.problem.proofs.Reflect.{Active, Fits, NoneEmpty}
+use Rattle.problem.specs.Sentences.{Active, Fits, NoneEmpty}
 use Rattle.problem.proofs.Bridge.{fits-iff}
 use Rattle.problem.proofs.OneCall.{Misfits, Named, SomeEmpty, LowestSnake, CallCause, call-iff}
 use Rattle.sheet.specs.Sheet.{layout, Keeps}

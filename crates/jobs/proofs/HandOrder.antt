@@ -12,11 +12,11 @@ use Rattle.problem.specs.Held.{Bounded}
 use Rattle.problem.specs.Masks.{Proper}
 use Rattle.problem.specs.declared.Call.{Call}
 use Rattle.problem.specs.declared.Call.the-variants as outcome
-use Rattle.problem.proofs.Reflect.{Active, Fits, fits-test, arcConsistent-iff, eliminate-fits}
+use Rattle.problem.proofs.Reflect.{fits-test, arcConsistent-iff, eliminate-fits}
+use Rattle.problem.specs.Sentences.{Active, Fits, Solution, Solvable, Alike}
 use Rattle.problem.proofs.Bridge.{state-back, fits-iff, masks-proper}
-use Rattle.problem.proofs.Sound.{Solution, Solvable}
 use Rattle.problem.proofs.Start.{start-fits, start-consistent, start-keeps}
-use Rattle.problem.proofs.Order.{call-fits, call-solvable, finished-exists, Alike, demand-three}
+use Rattle.problem.proofs.Order.{call-fits, call-solvable, finished-exists, demand-three}
 use Rattle.sheet.specs.Sheet.{layout, Keeps}
 use Rattle.sheet.specs.Relation.{problemOf}
 use Rattle.sheet.proofs.Accepted.{problem-bounded}

@@ -14,12 +14,14 @@ use Rattle.problem.specs.Extend.{undoTrace}
 use Rattle.problem.specs.declared.Record.{Record}
 use Rattle.problem.specs.declared.Record.the-variants.{Unsupported, Snake, Triangle, Neighbourhood, SnakeSubstitution}
 use Rattle.problem.proofs.Reflect.{full-fits}
-use Rattle.problem.proofs.Published.{Published, holds-published, run-published}
-use Rattle.problem.proofs.Least.{FirstLawful, run-least}
-use Rattle.problem.proofs.Sound.{Solution, Solvable}
+use Rattle.problem.proofs.Published.{holds-published, run-published}
+use Rattle.problem.specs.Published.{Published}
+use Rattle.problem.proofs.Least.{run-least}
+use Rattle.problem.specs.Order.{FirstLawful}
+use Rattle.problem.specs.Sentences.{Solution, Solvable, EndSays}
 use Rattle.problem.proofs.Trace.{trace-fits, trace-undone, trace-solvable, lawful-iff}
 use Rattle.problem.proofs.Bridge.{state-back}
-use Rattle.problem.proofs.Run.{run-lawful, run-complete, run-short, EndSays, end-says}
+use Rattle.problem.proofs.Run.{run-lawful, run-complete, run-short, end-says}
 use Rattle.sheet.specs.Sheet.{layout, Keeps}
 use Rattle.sheet.specs.Relation.{problemOf}
 use Rattle.sheet.proofs.Accepted.{problem-bounded}

@@ -10,7 +10,8 @@ use Rattle.problem.specs.Reduce.{kindOf, after, first, nextUnsupported, kindBou
 use Rattle.problem.specs.declared.Record.{Record}
 use Rattle.problem.specs.declared.Record.the-variants.{Unsupported, Snake, Triangle, Neighbourhood, SnakeSubstitution}
 use Rattle.problem.specs.declared.Next.the-variants.{Step, Nothing}
-use Rattle.problem.proofs.Reflect.{Active, Live, Allowed, Fits, ArcConsistent, Neighbourhood as Covers, turn, anyLive-iff, unsupported-iff, snake-iff, triangle-iff, remove-live, eliminate-active, eliminate-live}
+use Rattle.problem.proofs.Reflect.{turn, anyLive-iff, unsupported-iff, snake-iff, triangle-iff, remove-live, eliminate-active, eliminate-live}
+use Rattle.problem.specs.Sentences.{Active, Live, Allowed, Fits, ArcConsistent, Neighbourhood as Covers}
 use Rattle.problem.proofs.Trace.{lawful-iff}
 use Rattle.problem.proofs.Run.{never, first-each, first-found, first-where, stepIf-found, stepIf-none, next-open, next-lawful}
 use Rattle.memory.specs.Rests.{Below, Kept, Elsewhere}

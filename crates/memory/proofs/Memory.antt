@@ -10,7 +10,8 @@ use Rattle.bounded.specs.Mask.{bit}
 use Rattle.bounded.proofs.Truth.{T-of, T-not, eq-dec, lt-dec}
 use Rattle.bounded.proofs.Mask.{full-bit, bit-high}
 use Rattle.problem.specs.Problem.{Problem, State, remove, eliminate}
-use Rattle.problem.proofs.Reflect.{Active, Live, Fits, ArcConsistent, Triangle, remove-live, eliminate-active}
+use Rattle.problem.proofs.Reflect.{remove-live, eliminate-active}
+use Rattle.problem.specs.Sentences.{Active, Live, Fits, ArcConsistent, Triangle}
 use Rattle.memory.specs.Rests.{Below, Kept, Rests, Of, Elsewhere}
 use Rattle.memory.specs.Memory.{rows, foldsFrom, waitingLength, rowOf, waitsAt, foldAt, Passes, In, WaitsFor, Awaited, Remembered, Learned, Woken, FoldLearned, FoldsWoken}
 use Rattle.memory.proofs.Rests.{below-trans, rests-fails, rests-more}

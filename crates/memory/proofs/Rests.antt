@@ -2,7 +2,7 @@
 use mathlib.Core.Logic.{_≢_}
 use Prim.Native.Nat.{ℕ}
 use Rattle.problem.specs.Problem.{Problem, State, slideSpares}
-use Rattle.problem.proofs.Reflect.{Active, Live, Allowed, Fits, Substitutes, Snake, Triangle, Neighbourhood, SnakeSubstitution}
+use Rattle.problem.specs.Sentences.{Active, Live, Allowed, Fits, Substitutes, Snake, Triangle, Neighbourhood, SnakeSubstitution}
 use Rattle.memory.specs.Rests.{Below, Kept, Rests, Unserved}
 
 -- ---- states that shrink

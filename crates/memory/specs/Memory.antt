@@ -9,8 +9,8 @@ use lib.ListN.{length, getD}
 use Rattle.bounded.specs.Mask.{bit}
 use Rattle.problem.specs.Problem.{Problem, State, slideSpares}
 use Rattle.problem.specs.declared.Record.{Record}
-use Rattle.problem.proofs.Least.{itemOf}
-use Rattle.problem.proofs.Reflect.{Snake, Triangle, Neighbourhood, SnakeSubstitution}
+use Rattle.problem.specs.Order.{itemOf}
+use Rattle.problem.specs.Sentences.{Snake, Triangle, Neighbourhood, SnakeSubstitution}
 use Rattle.memory.specs.Rests.{Rests}
 
 -- how many rows there are, how many words wait for variables, and how many wait at all: the rest tells for each fold a value of j

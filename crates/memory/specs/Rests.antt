@@ -6,7 +6,7 @@ use Prim.Native.Nat.{ℕ}
 use lib.Dec.{T}
 use Rattle.bounded.specs.Mask.{bit}
 use Rattle.problem.specs.Problem.{Problem, State}
-use Rattle.problem.proofs.Reflect.{Active, Live, Fits, Substitutes}
+use Rattle.problem.specs.Sentences.{Active, Live, Fits, Substitutes}
 
 -- ---- states that shrink
 

@@ -22,7 +22,8 @@ use Rattle.problem.specs.Masks.{stateOf}
 use Rattle.problem.specs.declared.Masks.{Masks}
 use Rattle.problem.specs.declared.Record.the-variants.{Neighbourhood}
 use Rattle.problem.specs.declared.Next.the-variants.{Step, Nothing}
-use Rattle.problem.proofs.Reflect.{Live, Neighbourhood as Covered, neighbourhood-iff}
+use Rattle.problem.proofs.Reflect.{neighbourhood-iff}
+use Rattle.problem.specs.Sentences.{Live, Neighbourhood as Covered}
 use Rattle.problem.proofs.HeldTable.{held-few, held-narrow}
 use Rattle.problem.proofs.Run.{first-where, stepIf-found}
 use Rattle.problem.proofs.Search.{stepIf-on, step-is, nothing-is, first-off, first-at, wide-three, outside}

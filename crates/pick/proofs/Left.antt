@@ -17,8 +17,9 @@ use Rattle.problem.specs.Extend.{solves, solvesWhole, planOf}
 use Rattle.problem.specs.Held.{Bounded, held, RowTable}
 use Rattle.problem.specs.Masks.{stateOf, masksOf}
 use Rattle.problem.specs.declared.Masks.{Masks}
-use Rattle.problem.proofs.Reflect.{Active, Live, Fits, full-fits}
-use Rattle.problem.proofs.Sound.{Solution, solves-iff, solvesWhole-iff}
+use Rattle.problem.proofs.Reflect.{full-fits}
+use Rattle.problem.specs.Sentences.{Active, Live, Fits, Solution}
+use Rattle.problem.proofs.Sound.{solves-iff, solvesWhole-iff}
 use Rattle.problem.proofs.Trace.{trace-fits, trace-solvable}
 use Rattle.problem.proofs.Run.{run-lawful}
 use Rattle.held.specs.Ready.{Ready}

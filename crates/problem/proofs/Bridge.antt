@@ -16,7 +16,8 @@ use Rattle.problem.specs.Problem.{Problem, State, stateFits}
 use Rattle.problem.specs.Masks.{stateOf, masksOf, Proper}
 use Rattle.problem.specs.Held.{Bounded}
 use Rattle.problem.specs.declared.Masks.{Masks}
-use Rattle.problem.proofs.Reflect.{Active, Live, Fits, fits-says, fits-test}
+use Rattle.problem.proofs.Reflect.{fits-says, fits-test}
+use Rattle.problem.specs.Sentences.{Active, Live, Fits}
 
 -- the struct's numbers are a state's masks where every bit says so
 pub masks-is : (m : Masks) (s : State) → Proper m → ((i : ℕ) → i < 32 → (stateOf m) .active i ≡ s .active i) → ((i a : ℕ) → i < 32 → a < 16 → (stateOf m) .live i a ≡ s .live i a) → m ≡ masksOf s

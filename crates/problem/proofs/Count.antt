@@ -9,7 +9,7 @@ use Rattle.bounded.proofs.Truth.{and-iff, ltb-iff}
 use Rattle.bounded.proofs.Bounded.{sum-lt, sum-ext, count-le, count-lt, count-all}
 use Rattle.problem.specs.Problem.{Problem, State, full, liveCount, sizeSum}
 use Rattle.problem.specs.Held.{Bounded}
-use Rattle.problem.proofs.Reflect.{Live}
+use Rattle.problem.specs.Sentences.{Live}
 
 pub count-falls : (P : Problem) (s r : State) → ((i a : ℕ) → Live r i a → Live s i a) → (i a : ℕ) → i < P .n → a < P .size i → Live s i a → (Live r i a → ⊥) → liveCount P r < liveCount P s
 unfolding liveCount

@@ -13,7 +13,8 @@ use Rattle.problem.specs.Problem.{Problem, State, maxVariables, maxValue
 use Rattle.problem.specs.Manual.{call}
 use Rattle.problem.specs.declared.Call.{Call}
 use Rattle.problem.specs.declared.Call.the-variants.{Eliminated, Misfit, NotActive, Emptied, NoSnake}
-use Rattle.problem.proofs.Reflect.{Active, Live, Fits, NoneEmpty, fits-test, allActive-or, anyLive-iff, lowestLive-is, noneEmpty-iff, snake-iff}
+use Rattle.problem.proofs.Reflect.{fits-test, allActive-or, anyLive-iff, lowestLive-is, noneEmpty-iff, snake-iff}
+use Rattle.problem.specs.Sentences.{Active, Live, Fits, NoneEmpty}
 
 -- ---- the tests, in their order
 

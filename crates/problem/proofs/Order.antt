@@ -14,9 +14,10 @@ use Rattle.bounded.proofs.Bounded.{count-lt, count-most}
 use Rattle.problem.specs.Problem.{Problem, State, stateFits, noneEmpty, allActive, anyLive, lowestLive, snake, eliminate}
 use Rattle.problem.specs.Manual.{call, stateAfter, callState, callsState, finished, pairLeft, arcConsistent}
 use Rattle.problem.specs.declared.Call.the-variants.{Eliminated}
-use Rattle.problem.proofs.Reflect.{Active, Live, Allowed, Fits, turn, fits-test, allActive-or, anyLive-iff, Snake, ArcConsistent, Finished, NoneEmpty, snake-iff, finished-iff, noneEmpty-iff, lowestLive-is, eliminate-active, eliminate-live, eliminate-fits}
+use Rattle.problem.proofs.Reflect.{turn, fits-test, allActive-or, anyLive-iff, snake-iff, finished-iff, noneEmpty-iff, lowestLive-is, eliminate-active, eliminate-live, eliminate-fits}
+use Rattle.problem.specs.Sentences.{Alike, Active, Live, Allowed, Fits, Snake, ArcConsistent, Finished, NoneEmpty, Solvable}
 use Rattle.problem.proofs.OneCall.{call-item, call-emptied, call-none, call-done}
-use Rattle.problem.proofs.Sound.{Solvable, snake-undone, eliminate-kept}
+use Rattle.problem.proofs.Sound.{snake-undone, eliminate-kept}
 
 module _ (P : Problem) where
   -- ---- one call
@@ -304,12 +305,6 @@ module _ (P : Problem) where
       )
 
 -- ---- demand 3, over a problem: both sentences, as the demand asks them
-
--- the items left, their settings, and the pairs allowed among them are alike
-pub record Alike (P : Problem) (s r : State) : Type 0 where
-  pub variables : (i : ℕ) → s .active i ≡ r .active i
-  pub values : (i a : ℕ) → s .live i a ≡ r .live i a
-  pub pairs : (i a j b : ℕ) → pairLeft P s i a j b ≡ pairLeft P r i a j b
 
 pub demand-three : (P : Problem) {s : State} → Fits P s → T (arcConsistent P s)
     → ((k l : List ℕ) → T (finished P (callsState P s k)) → T (finished P (callsState P s l)) → Alike P (callsState P s k) (callsState P s l))

@@ -1,4 +1,4 @@
--- What each test of specs/Problem.antt says, as a proposition, in a state that fits. Assumes nothing.
+-- Each test of specs/Problem.antt holds exactly where its sentence of specs/Sentences.antt does, in a state that fits. Assumes nothing.
 use mathlib.Core.Path.{_≡_, refl, sym, subst}
 use mathlib.Core.Bool.{Bool, true, false, not, _&&_}
 use mathlib.Core.Logic.{_⊎_, inl, inr, _≢_, _↔_, Iff·rfl}
@@ -8,27 +8,13 @@ use Rattle.bounded.specs.Bounded.{imp, anyBelow, lowest, atLowest}
 use Rattle.bounded.proofs.Truth.{T-dec, and-iff, imp-iff, imp-fails, not-iff, eqb-iff, ltb-iff}
 use Rattle.bounded.proofs.Bounded.{all-iff, any-iff, all-or, lowest-is}
 use Rattle.problem.specs.Problem.{Problem, State, full, maxVariables, maxValues, allActive, allLive, anyLive, lowestLive, allOther, allThird, stateFits, noneEmpty, unspoilt, spoils, spoiler, unsupported, snakeServes, snake, triangleServes, triangle, neighbourhood, slideServes, snakeSubstitution, remove, eliminate}
+use Rattle.problem.specs.Sentences.{Active, Live, Allowed, Fits, Spoils, Substitutes, Unsupported, SnakeServes, Snake, TriangleServes, Triangle, Neighbourhood, SlideServes, SnakeSubstitution, Supported, ArcConsistent, Finished, NoneEmpty}
 use Rattle.problem.specs.declared.Cover.{Cover}
 use Rattle.problem.specs.declared.Cover.the-variants.{Holds}
 use Rattle.problem.specs.Manual.{supported, arcConsistent, finished}
 
-abbrev pub Active : State → ℕ → Type 0
-Active s i = T (s .active i)
-
-abbrev pub Live : State → ℕ → ℕ → Type 0
-Live s i a = T (s .live i a)
-
-abbrev pub Allowed : Problem → ℕ → ℕ → ℕ → ℕ → Type 0
-Allowed P i a j b = T (P .allowed i a j b)
-
 pub turn : (P : Problem) (i a j b : ℕ) → Allowed P i a j b → Allowed P j b i a
 turn P i a j b t = subst T (P .symmetric i a j b) t
-
--- the state fits the problem: no cause of 11 speaks against it, at any number
-pub record Fits (P : Problem) (s : State) : Type 0 where
-  pub active-lt : (i : ℕ) → Active s i → i < P .n
-  pub live-active : (i a : ℕ) → Live s i a → Active s i
-  pub live-lt : (i a : ℕ) → Live s i a → a < P .size i
 
 pub full-fits : (P : Problem) → Fits P (full P)
 unfolding full
@@ -87,55 +73,7 @@ pub allActive-or : (P : Problem) (s : State) (f : ℕ → Bool) → T (allActive
 unfolding allActive
 allActive-or P s f = elim (all-or (P .n) (λ l. imp (s .active l) (f l))) [ inl t ↦ inl t | inr x ↦ inr (let y = imp-fails (s .active (x .0)) (f (x .0)) (x .2) in (x .0, y .0, y .1)) ]
 
--- ---- the rules, as propositions, and their tests
-
-module _ (P : Problem) (s : State) where
-  -- "on at l, allowed with b and barred with a"
-  abbrev pub Spoils : (i a j b l c : ℕ) → Type 0
-  Spoils i a j b l c = Live s l c × (Allowed P j b l c × (Allowed P i a l c → ⊥))
-
-  abbrev pub Substitutes : (i a j b l : ℕ) → Type 0
-  Substitutes i a j b l = (c : ℕ) → Live s l c → Allowed P j b l c → Allowed P i a l c
-
-  abbrev pub Unsupported : (i b k : ℕ) → Type 0
-  Unsupported i b k = Live s i b × Active s k × (k ≢ i) × ((c : ℕ) → Live s k c → Allowed P i b k c → ⊥)
-
-  abbrev pub SnakeServes : (i v j w w' : ℕ) → Type 0
-  SnakeServes i v j w w' = Allowed P i v j w' × ((l : ℕ) → Active s l → l ≢ i → l ≢ j → Substitutes j w' j w l)
-
-  abbrev pub Snake : (i v : ℕ) → Type 0
-  Snake i v = Live s i v × ((j : ℕ) → Active s j → j ≢ i → (w : ℕ) → Live s j w → (Allowed P i v j w → ⊥) → (w' : ℕ) × Live s j w' × SnakeServes i v j w w')
-
-  abbrev pub TriangleServes : (i j v u : ℕ) → Type 0
-  TriangleServes i j v u = Allowed P i u j v × ((l : ℕ) → Active s l → l ≢ i → l ≢ j → Substitutes i u j v l)
-
-  abbrev pub Triangle : (i j : ℕ) → Type 0
-  Triangle i j = Active s i × (Active s j × (j ≢ i × ((v : ℕ) → Live s j v → (u : ℕ) × Live s i u × TriangleServes i j v u)))
-
-  abbrev pub Neighbourhood : (i b a : ℕ) → Type 0
-  Neighbourhood i b a = Live s i b × (Live s i a × (a ≢ b × ((l : ℕ) → Active s l → l ≢ i → Substitutes i a i b l)))
-
-  abbrev pub SlideServes : (spare : Bool) (i a k d e : ℕ) → Type 0
-  SlideServes spare i a k d e = Allowed P i a k e × ((l : ℕ) → Active s l → l ≢ k → ((T spare × l ≡ i) → ⊥) → Substitutes k e k d l)
-
-  abbrev pub SnakeSubstitution : (spare : Bool) (i b a : ℕ) → Type 0
-  SnakeSubstitution spare i b a =
-      Live s i b × (Live s i a × (a ≢ b × ((k : ℕ) → Active s k → k ≢ i → (d : ℕ) → Live s k d → Allowed P i b k d → (e : ℕ) × Live s k e × SlideServes spare i a k d e)))
-
-  -- every value in a domain has a support at each other active variable
-  abbrev pub Supported : ℕ → ℕ → Type 0
-  Supported i a = (j : ℕ) → Active s j → j ≢ i → (b : ℕ) × Live s j b × Allowed P i a j b
-
-  abbrev pub ArcConsistent : Type 0
-  ArcConsistent = (i a : ℕ) → Live s i a → Supported i a
-
-  -- the snake rule holds for no active variable
-  abbrev pub Finished : Type 0
-  Finished = (i : ℕ) → Active s i → (v : ℕ) → Snake i v → ⊥
-
-  -- every active variable has a value
-  abbrev pub NoneEmpty : Type 0
-  NoneEmpty = (i : ℕ) → Active s i → (a : ℕ) × Live s i a
+-- ---- the rules and their tests
 
 -- whatever setting is answered, it says that the cover does not hold
 unspoilt-at : (n : ℕ) (f : ℕ → Bool) (g : ℕ → Cover) → ((c : ℕ) → unspoilt (g c) ≡ false) → unspoilt (atLowest n f g Holds) ≡ not (anyBelow n f)

@@ -19,7 +19,8 @@ use Rattle.problem.specs.declared.Next.{Next}
 use Rattle.problem.specs.declared.Next.the-variants.{Step, Nothing}
 use Rattle.problem.specs.declared.End.{End}
 use Rattle.problem.specs.declared.End.the-variants.{Impossible, Solved, Rest}
-use Rattle.problem.proofs.Reflect.{Active, Live, Fits, allActive-or, anyLive-iff, noneEmpty-iff, unsupported-iff, snake-iff, triangle-iff, neighbourhood-iff, snakeSubstitution-iff}
+use Rattle.problem.proofs.Reflect.{allActive-or, anyLive-iff, noneEmpty-iff, unsupported-iff, snake-iff, triangle-iff, neighbourhood-iff, snakeSubstitution-iff}
+use Rattle.problem.specs.Sentences.{EndSays, Active, Live, Fits}
 use Rattle.problem.proofs.Trace.{after-fits, trace-fits, step-by-falls, step-falls, lawful-by-iff, trace-iff, trace-short}
 
 -- ---- searching
@@ -304,13 +305,6 @@ module _ (P : Problem) where
   run-short = trace-short P (run P (full P)) (run-lawful (full P))
 
 -- ---- the end, as the format has it
-
--- what each end says of a state: "an item in has no setting on", "no item in", "items in"; and where it is not impossible each item in
--- has a setting on
-abbrev pub EndSays : State → End → Type 0
-EndSays s Impossible = (i : ℕ) × Active s i × ((a : ℕ) → Live s i a → ⊥)
-EndSays s Solved = (i : ℕ) → Active s i → ⊥
-EndSays s Rest = ((i : ℕ) × Active s i) × ((i : ℕ) → Active s i → (a : ℕ) × Live s i a)
 
 module _ (P : Problem) (s : State) where
   pub end-impossible : noneEmpty P s ≡ false → endOf P s ≡ Impossible

@@ -11,8 +11,8 @@ use Rattle.bounded.proofs.Truth.{T-dec, T-true, T-false, ltb-iff, eq-dec, lt-de
 use Rattle.problem.specs.Problem.{Problem, State}
 use Rattle.problem.specs.Extend.{solves, put}
 use Rattle.problem.specs.Solutions.{solutionsFrom, solutionCount, solvable}
-use Rattle.problem.proofs.Reflect.{Active, Fits}
-use Rattle.problem.proofs.Sound.{Solution, Solvable, solves-iff, put-same, put-other}
+use Rattle.problem.specs.Sentences.{Active, Fits, Solution, Solvable}
+use Rattle.problem.proofs.Sound.{solves-iff, put-same, put-other}
 
 -- a sum is positive exactly where a term is
 sum-some : (n : ℕ) (f : ℕ → ℕ) → 0 < sumTo n f → (k : ℕ) × (k < n) × (0 < f k)

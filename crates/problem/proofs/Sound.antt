@@ -8,12 +8,8 @@ use Rattle.bounded.proofs.Truth.{T-true, T-false, T-dec, eq-dec, and-iff, not-i
 use Rattle.problem.specs.Problem.{Problem, State, full, lowestLive, snakeServes, triangleServes, slideServes, remove, eliminate}
 use Rattle.problem.specs.Extend.{solves, solvesWhole, put, repair, undo}
 use Rattle.problem.specs.declared.Record.the-variants as record·
-use Rattle.problem.proofs.Reflect.{Active, Live, Allowed, Fits, full-fits, turn, allActive-iff, allOther-iff, lowestLive-is, Substitutes, Unsupported, Snake, Triangle, TriangleServes, Neighbourhood, SnakeSubstitution, snakeServes-iff, triangleServes-iff, slideServes-iff, remove-live, eliminate-active, eliminate-live}
-
--- p gives each active variable a live value, and each two of them an allowed pair
-pub record Solution (P : Problem) (s : State) (p : ℕ → ℕ) : Type 0 where
-  pub live : (i : ℕ) → Active s i → Live s i (p i)
-  pub ok : (i j : ℕ) → Active s i → Active s j → i ≢ j → Allowed P i (p i) j (p j)
+use Rattle.problem.proofs.Reflect.{full-fits, turn, allActive-iff, allOther-iff, lowestLive-is, snakeServes-iff, triangleServes-iff, slideServes-iff, remove-live, eliminate-active, eliminate-live}
+use Rattle.problem.specs.Sentences.{Solution, Solvable, Active, Live, Allowed, Fits, Substitutes, Unsupported, Snake, Triangle, TriangleServes, Neighbourhood, SnakeSubstitution}
 
 pub solves-iff : {P : Problem} {s : State} → Fits P s → (p : ℕ → ℕ) → T (solves P s p) ↔ Solution P s p
 unfolding solves
@@ -27,10 +23,6 @@ solves-iff F p = (
 pub solvesWhole-iff : (P : Problem) (p : ℕ → ℕ) → T (solvesWhole P p) ↔ Solution P (full P) p
 unfolding solvesWhole
 solvesWhole-iff P p = solves-iff (full-fits P) p
-
--- a state has a solution
-abbrev pub Solvable : Problem → State → Type 0
-Solvable P s = (p : ℕ → ℕ) × Solution P s p
 
 -- ---- assignments changed at one variable
 

@@ -18,7 +18,8 @@ use Rattle.problem.specs.declared.Cover.{Cover}
 use Rattle.problem.specs.declared.Cover.the-variants.{Spoilt, Holds}
 use Rattle.problem.specs.declared.Break.{Break}
 use Rattle.problem.specs.declared.Break.the-variants.{At, Nowhere}
-use Rattle.problem.proofs.Reflect.{Active, Live, Fits, Spoils, Substitutes, NoneEmpty, spoils-iff, unspoilt-none, unspoilt-iff, neighbourhood-iff, noneEmpty-iff}
+use Rattle.problem.proofs.Reflect.{spoils-iff, unspoilt-none, unspoilt-iff, neighbourhood-iff, noneEmpty-iff}
+use Rattle.problem.specs.Sentences.{Active, Live, Fits, Spoils, Substitutes, NoneEmpty}
 
 -- c is the lowest number of which p is true
 abbrev pub Lowest : (ℕ → Type 0) → ℕ → Type 0

@@ -13,8 +13,9 @@ use Rattle.problem.specs.Reduce.{holdsBy, holds, lawfulBy, lawful, after
 use Rattle.problem.specs.Extend.{undo, undoTrace}
 use Rattle.problem.specs.declared.Record.{Record}
 use Rattle.problem.specs.declared.Record.the-variants.{Unsupported, Snake, Triangle, Neighbourhood, SnakeSubstitution}
-use Rattle.problem.proofs.Reflect.{Live, Fits, full-fits, NoneEmpty, noneEmpty-iff, unsupported-iff, snake-iff, triangle-iff, neighbourhood-iff, snakeSubstitution-iff, remove-live, eliminate-live, remove-fits, eliminate-fits}
-use Rattle.problem.proofs.Sound.{Solution, Solvable, remove-undone, triangle-undone, snake-undone, unsupported-kept, eliminate-kept, neighbourhood-kept, slide-kept}
+use Rattle.problem.proofs.Reflect.{full-fits, noneEmpty-iff, unsupported-iff, snake-iff, triangle-iff, neighbourhood-iff, snakeSubstitution-iff, remove-live, eliminate-live, remove-fits, eliminate-fits}
+use Rattle.problem.specs.Sentences.{Live, Fits, NoneEmpty, Solution, Solvable}
+use Rattle.problem.proofs.Sound.{remove-undone, triangle-undone, snake-undone, unsupported-kept, eliminate-kept, neighbourhood-kept, slide-kept}
 use Rattle.problem.proofs.Count.{count-falls, full-count}
 
 module _ (P : Problem) where

@@ -9,7 +9,8 @@ use Rattle.bounded.proofs.Bounded.{lowest-least}
 use Rattle.problem.specs.Problem.{Problem, State, lowestLive, snake, snakeServes, triangle, triangleServes}
 use Rattle.problem.specs.Extend.{repair, undo}
 use Rattle.problem.specs.declared.Record.the-variants.{Unsupported, Snake, Triangle, Neighbourhood, SnakeSubstitution}
-use Rattle.problem.proofs.Reflect.{Active, Live, Allowed, Fits, lowestLive-is, SnakeServes, TriangleServes, snakeServes-iff, snake-iff, triangleServes-iff, triangle-iff}
+use Rattle.problem.proofs.Reflect.{lowestLive-is, snakeServes-iff, snake-iff, triangleServes-iff, triangle-iff}
+use Rattle.problem.specs.Sentences.{Active, Live, Allowed, Fits, SnakeServes, TriangleServes}
 use Rattle.problem.proofs.Sound.{put-same, put-other}
 
 -- no live value below the lowest live one passes

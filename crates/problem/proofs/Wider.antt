@@ -13,7 +13,8 @@ use Rattle.problem.specs.declared.Record.{Record}
 use Rattle.problem.specs.declared.Record.the-variants.{Unsupported, Snake, Triangle, Neighbourhood, SnakeSubstitution}
 use Rattle.problem.specs.declared.Next.{Next}
 use Rattle.problem.specs.declared.Next.the-variants.{Step, Nothing}
-use Rattle.problem.proofs.Reflect.{Fits, snakeSubstitution-iff}
+use Rattle.problem.proofs.Reflect.{snakeSubstitution-iff}
+use Rattle.problem.specs.Sentences.{Fits}
 use Rattle.problem.proofs.Trace.{after-fits, trace-fits, step-falls, lawful-by-iff, lawful-iff, trace-by-iff, trace-iff}
 use Rattle.problem.proofs.Run.{next-open, next-lawful, run-by-step, run-by-stop, run-by-complete, run-step, run-stop, run-enough}
 use Rattle.problem.proofs.Search.{first-at}

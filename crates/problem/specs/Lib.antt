@@ -2,6 +2,9 @@ pub mod Problem
 pub mod Reduce
 pub mod Manual
 pub mod Extend
+pub mod Sentences
+pub mod Order
+pub mod Published
 pub mod Masks
 pub mod Solutions
 pub mod Places

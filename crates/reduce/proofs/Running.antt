@@ -16,7 +16,8 @@ use Rattle.problem.specs.declared.Masks.{Masks}
 use Rattle.problem.specs.declared.Record.{Record}
 use Rattle.problem.specs.declared.Record.the-variants.{Unsupported, Snake, Triangle, Neighbourhood, SnakeSubstitution}
 use Rattle.problem.specs.declared.Next.the-variants.{Step, Nothing}
-use Rattle.problem.proofs.Reflect.{Fits, full-fits, noneEmpty-iff}
+use Rattle.problem.proofs.Reflect.{full-fits, noneEmpty-iff}
+use Rattle.problem.specs.Sentences.{Fits}
 use Rattle.problem.proofs.HeldTable.{held-bounded}
 use Rattle.problem.proofs.Trace.{after-fits, lawful-iff, step-falls, trace-iff, trace-falls}
 use Rattle.problem.proofs.Count.{full-count}

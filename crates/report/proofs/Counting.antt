@@ -12,7 +12,7 @@ use Rattle.bounded.proofs.Loops.{sum-more}
 use Rattle.problem.specs.Problem.{Problem, State, liveCount}
 use Rattle.problem.specs.Held.{Bounded}
 use Rattle.problem.specs.Masks.{stateOf, masksOf}
-use Rattle.problem.proofs.Reflect.{Fits}
+use Rattle.problem.specs.Sentences.{Fits}
 use Rattle.problem.proofs.Bridge.{state-back}
 
 -- ---- one turn of a count

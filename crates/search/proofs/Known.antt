@@ -15,7 +15,8 @@ use Rattle.problem.specs.declared.Masks.{Masks}
 use Rattle.problem.specs.declared.Record.{Record}
 use Rattle.problem.specs.declared.Record.the-variants.{Unsupported, Snake, Triangle, Neighbourhood, SnakeSubstitution}
 use Rattle.problem.specs.declared.Next.the-variants.{Step}
-use Rattle.problem.proofs.Reflect.{Active, Live, Fits, ArcConsistent, unsupported-iff, snake-iff, triangle-iff, neighbourhood-iff, snakeSubstitution-iff, eliminate-active, eliminate-live, remove-fits, eliminate-fits}
+use Rattle.problem.proofs.Reflect.{unsupported-iff, snake-iff, triangle-iff, neighbourhood-iff, snakeSubstitution-iff, eliminate-active, eliminate-live, remove-fits, eliminate-fits}
+use Rattle.problem.specs.Sentences.{Active, Live, Fits, ArcConsistent}
 use Rattle.problem.proofs.Trace.{lawful-iff}
 use Rattle.problem.proofs.Run.{next-lawful}
 use Rattle.memory.specs.Memory.{Remembered, Woken}

@@ -18,7 +18,8 @@ use Rattle.problem.specs.Problem.{Problem, State, snakeServes, snake}
 use Rattle.problem.specs.Held.{rowWord, held}
 use Rattle.problem.specs.Masks.{stateOf}
 use Rattle.problem.specs.declared.Masks.{Masks}
-use Rattle.problem.proofs.Reflect.{Active, Live, Allowed, Fits, allLive-iff, anyLive-iff, SnakeServes, snakeServes-iff, Snake as SnakeHolds, snake-iff}
+use Rattle.problem.proofs.Reflect.{allLive-iff, anyLive-iff, snakeServes-iff, snake-iff}
+use Rattle.problem.specs.Sentences.{Active, Live, Allowed, Fits, SnakeServes, Snake as SnakeHolds}
 use Rattle.problem.proofs.HeldTable.{held-few, held-narrow}
 use Rattle.memory.specs.Rests.{Tried}
 use Rattle.memory.specs.Memory.{rowOf, In, Remembered, Learned}

@@ -10,7 +10,7 @@ use Rattle.problem.specs.Problem.{Problem, State, allLive, anyLive, snakeServes
 use Rattle.problem.specs.Reduce.{stepIf, first}
 use Rattle.problem.specs.declared.Record.the-variants as record·
 use Rattle.problem.specs.declared.Next.{Next}
-use Rattle.problem.proofs.Reflect.{Snake}
+use Rattle.problem.specs.Sentences.{Snake}
 use Rattle.memory.specs.Rests.{Rests, Of}
 
 module _ (P : Problem) (s : State) where

@@ -9,7 +9,7 @@ ghost use Rattle.problem.specs.Problem.{snake as snakeHolds, snakeServes};
 ghost use Rattle.problem.specs.Held.{held};
 ghost use Rattle.problem.specs.Masks.{stateOf, sets};
 ghost use Rattle.problem.specs.Reduce.{nextSnake};
-ghost use Rattle.problem.proofs.Reflect.{Snake};
+ghost use Rattle.problem.specs.Sentences.{Snake};
 ghost use Rattle.memory.specs.Rests.{Tried};
 ghost use Rattle.memory.specs.Memory.{Remembered};
 ghost use Rattle.held.specs.Ready.{Ready, Value};

@@ -24,7 +24,8 @@ use Rattle.problem.specs.Reduce.{stepIf, first}
 use Rattle.problem.specs.declared.Masks.{Masks}
 use Rattle.problem.specs.declared.Next.the-variants.{Nothing}
 use Rattle.problem.specs.declared.Record.the-variants as record·
-use Rattle.problem.proofs.Reflect.{Live, Allowed, turn, SnakeSubstitution, snakeSubstitution-iff}
+use Rattle.problem.proofs.Reflect.{turn, snakeSubstitution-iff}
+use Rattle.problem.specs.Sentences.{Live, Allowed, SnakeSubstitution}
 use Rattle.problem.proofs.Search.{first-ext}
 use Rattle.memory.specs.Rests.{Rests, Of, Broken}
 use Rattle.memory.specs.Memory.{Passes, Remembered}

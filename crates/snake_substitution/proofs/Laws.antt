@@ -18,7 +18,8 @@ use Rattle.problem.specs.Problem.{Problem, State, snakeSubstitution, slideSpare
 use Rattle.problem.specs.Held.{rowWord, held}
 use Rattle.problem.specs.Masks.{stateOf}
 use Rattle.problem.specs.declared.Masks.{Masks}
-use Rattle.problem.proofs.Reflect.{Live, Allowed, Fits, allLive-iff, anyLive-iff, Substitutes, SlideServes, SnakeSubstitution, slideServes-iff, snakeSubstitution-iff}
+use Rattle.problem.proofs.Reflect.{allLive-iff, anyLive-iff, slideServes-iff, snakeSubstitution-iff}
+use Rattle.problem.specs.Sentences.{Live, Allowed, Fits, Substitutes, SlideServes, SnakeSubstitution}
 use Rattle.problem.proofs.HeldTable.{held-few, held-narrow}
 use Rattle.held.specs.Ready.{Ready, Value, Near}
 use Rattle.cover.specs.Words.{allServedIn, others, thirds}

@@ -13,7 +13,7 @@ use Rattle.problem.specs.Problem.{Problem, State, allLive, anyLive, slideServes
 use Rattle.problem.specs.Reduce.{stepIf, first}
 use Rattle.problem.specs.declared.Record.the-variants as record·
 use Rattle.problem.specs.declared.Next.{Next}
-use Rattle.problem.proofs.Reflect.{Live, Allowed, SlideServes, SnakeSubstitution}
+use Rattle.problem.specs.Sentences.{Live, Allowed, SlideServes, SnakeSubstitution}
 use Rattle.memory.specs.Rests.{Rests, Of}
 
 module _ (P : Problem) (s : State) where

@@ -21,7 +21,8 @@ use Rattle.problem.specs.Manual.{supported, prune, start}
 use Rattle.problem.specs.Held.{held, RowTable}
 use Rattle.problem.specs.Masks.{stateOf, masksOf, Proper}
 use Rattle.problem.specs.declared.Masks.{Masks}
-use Rattle.problem.proofs.Reflect.{Active, Live, Fits, Supported, ArcConsistent, allActive-or, allLive-or, allActive-iff, allLive-iff, supported-iff, noneEmpty-iff}
+use Rattle.problem.proofs.Reflect.{allActive-or, allLive-or, allActive-iff, allLive-iff, supported-iff, noneEmpty-iff}
+use Rattle.problem.specs.Sentences.{Active, Live, Fits, Supported, ArcConsistent}
 use Rattle.problem.proofs.Start.{start-active, start-consistent, start-largest, start-fits}
 use Rattle.problem.proofs.Count.{count-falls}
 use Rattle.problem.proofs.Bridge.{putDomain, masks-put, masks-is, masks-back}

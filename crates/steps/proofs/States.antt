@@ -10,7 +10,8 @@ use Rattle.problem.specs.Masks.{stateOf, masksOf}
 use Rattle.problem.specs.declared.Masks.{Masks}
 use Rattle.problem.specs.declared.Record.{Record}
 use Rattle.problem.specs.declared.Record.the-variants.{Unsupported, Snake, Triangle, Neighbourhood, SnakeSubstitution}
-use Rattle.problem.proofs.Reflect.{Live, unsupported-iff, snake-iff, triangle-iff, neighbourhood-iff, snakeSubstitution-iff}
+use Rattle.problem.proofs.Reflect.{unsupported-iff, snake-iff, triangle-iff, neighbourhood-iff, snakeSubstitution-iff}
+use Rattle.problem.specs.Sentences.{Live}
 use Rattle.problem.proofs.Trace.{after-fits}
 use Rattle.held.specs.Ready.{Ready}
 use Rattle.held.proofs.Laws.{live-value, active-32}

@@ -20,7 +20,8 @@ use Rattle.problem.specs.Manual.{supported, prune}
 use Rattle.problem.specs.Held.{rowsAt, held, RowTable}
 use Rattle.problem.specs.Masks.{stateOf}
 use Rattle.problem.specs.declared.Masks.{Masks}
-use Rattle.problem.proofs.Reflect.{Active, Live, Allowed, turn, supported-iff, noneEmpty-iff}
+use Rattle.problem.proofs.Reflect.{turn, supported-iff, noneEmpty-iff}
+use Rattle.problem.specs.Sentences.{Active, Live, Allowed}
 use Rattle.problem.proofs.HeldTable.{row-tells, held-value}
 use Rattle.held.specs.Ready.{Ready, Values, Near}
 use Rattle.held.proofs.Laws.{near-free, part-values, live-value, active-32, domain-values}

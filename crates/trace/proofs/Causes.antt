@@ -16,7 +16,8 @@ use Rattle.problem.specs.Reduce.{lawful, brokenCover, after, lawfulTraceBy, law
 use Rattle.problem.specs.declared.Record.{Record}
 use Rattle.problem.specs.declared.Break.{Break}
 use Rattle.problem.specs.declared.Break.the-variants.{At, Nowhere}
-use Rattle.problem.proofs.Reflect.{Fits, full-fits}
+use Rattle.problem.proofs.Reflect.{full-fits}
+use Rattle.problem.specs.Sentences.{Fits}
 use Rattle.problem.proofs.Trace.{trace-iff, trace-fits}
 use Rattle.problem.proofs.Spoiler.{CoverAlone, BreaksAt, names-iff}
 use Rattle.sheet.specs.Bytes.{byteAt}

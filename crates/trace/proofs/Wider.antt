@@ -17,7 +17,8 @@ use Rattle.problem.specs.declared.Record.the-variants.{SnakeSubstitution}
 use Rattle.problem.specs.declared.Break.{Break}
 use Rattle.problem.specs.declared.Break.the-variants.{At, Nowhere}
 use Rattle.problem.specs.declared.End.{End}
-use Rattle.problem.proofs.Reflect.{Fits, full-fits}
+use Rattle.problem.proofs.Reflect.{full-fits}
+use Rattle.problem.specs.Sentences.{Fits}
 use Rattle.problem.proofs.Trace.{after-fits, trace-by-iff}
 use Rattle.problem.proofs.Wider.{lawful-widens, trace-stays, endBefore, Added, run-extends}
 use Rattle.sheet.specs.Sheet.{layout}

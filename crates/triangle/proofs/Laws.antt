@@ -21,7 +21,8 @@ use Rattle.problem.specs.Reduce.{stepIf, first, nextTriangle}
 use Rattle.problem.specs.declared.Masks.{Masks}
 use Rattle.problem.specs.declared.Record.the-variants.{Triangle}
 use Rattle.problem.specs.declared.Next.the-variants.{Step, Nothing}
-use Rattle.problem.proofs.Reflect.{Active, Live, turn, TriangleServes, triangleServes-iff, triangle-iff}
+use Rattle.problem.proofs.Reflect.{turn, triangleServes-iff, triangle-iff}
+use Rattle.problem.specs.Sentences.{Active, Live, TriangleServes}
 use Rattle.problem.proofs.HeldTable.{held-few}
 use Rattle.problem.proofs.Search.{stepIf-on, first-off, first-at, wide-two, outside}
 use Rattle.memory.specs.Memory.{rowOf, In, Remembered, FoldLearned}

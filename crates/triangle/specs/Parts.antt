@@ -9,7 +9,7 @@ use Rattle.problem.specs.Problem.{Problem, State, triangle}
 use Rattle.problem.specs.Reduce.{stepIf, first}
 use Rattle.problem.specs.declared.Record.the-variants as record·
 use Rattle.problem.specs.declared.Next.{Next}
-use Rattle.problem.proofs.Reflect.{Triangle}
+use Rattle.problem.specs.Sentences.{Triangle}
 use Rattle.memory.specs.Rests.{Rests}
 
 module _ (P : Problem) (s : State) where

@@ -15,7 +15,7 @@ use Rattle.problem.specs.Held.{held}
 use Rattle.problem.specs.Masks.{stateOf, masksOf}
 use Rattle.problem.specs.declared.Masks.{Masks}
 use Rattle.problem.specs.declared.Record.{Record}
-use Rattle.problem.proofs.Sound.{Solution}
+use Rattle.problem.specs.Sentences.{Solution}
 use Rattle.problem.proofs.Trace.{lawful-iff}
 use Rattle.jobs.specs.Trace.{recordAt}
 use Rattle.jobs.specs.PutBack.{Checked, Lawful as Records}

@@ -18,8 +18,9 @@ use Rattle.problem.specs.Reduce.{holdsBy, holds, after, afterTrace, lawfulTrace
 use Rattle.problem.specs.Extend.{put, repair, undo, undoTrace, planOf}
 use Rattle.problem.specs.declared.Record.{Record}
 use Rattle.problem.specs.declared.Record.the-variants.{Unsupported, Snake, Triangle, Neighbourhood, SnakeSubstitution}
-use Rattle.problem.proofs.Reflect.{Active, Live, Fits, snake-iff, triangle-iff, eliminate-active, eliminate-live}
-use Rattle.problem.proofs.Sound.{Solution, put-same, put-other}
+use Rattle.problem.proofs.Reflect.{snake-iff, triangle-iff, eliminate-active, eliminate-live}
+use Rattle.problem.specs.Sentences.{Active, Live, Fits, Solution}
+use Rattle.problem.proofs.Sound.{put-same, put-other}
 use Rattle.problem.proofs.Trace.{after-fits, trace-undone}
 use Rattle.undo.specs.Undone.{mended}
 

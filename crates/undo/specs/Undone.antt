@@ -14,7 +14,7 @@ use Rattle.problem.specs.Held.{held}
 use Rattle.problem.specs.Masks.{stateOf}
 use Rattle.problem.specs.declared.Masks.{Masks}
 use Rattle.problem.specs.declared.Record.{Record}
-use Rattle.problem.proofs.Sound.{Solution}
+use Rattle.problem.specs.Sentences.{Solution}
 use Rattle.jobs.specs.PutBack.{Checked, Lawful as Records, Fault as Faulty}
 use Rattle.replay.specs.Walk.{checkedFrom}
 

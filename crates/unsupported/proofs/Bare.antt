@@ -6,7 +6,8 @@ use Prim.Native.Nat.{ℕ}
 use lib.Dec.{T}
 use Rattle.bounded.proofs.Truth.{T-dec, eq-dec}
 use Rattle.problem.specs.Problem.{Problem, State, noneEmpty, remove}
-use Rattle.problem.proofs.Reflect.{Active, Live, Allowed, Fits, Unsupported, ArcConsistent, turn, noneEmpty-iff, remove-live, remove-fits}
+use Rattle.problem.proofs.Reflect.{turn, noneEmpty-iff, remove-live, remove-fits}
+use Rattle.problem.specs.Sentences.{Active, Live, Allowed, Fits, Unsupported, ArcConsistent}
 use Rattle.unsupported.specs.Bare.{Bare, Mended}
 use Rattle.unsupported.proofs.Words.{Last}
 

@@ -24,7 +24,8 @@ use Rattle.problem.specs.declared.Record.{Record}
 use Rattle.problem.specs.declared.Record.the-variants.{Unsupported as step}
 use Rattle.problem.specs.declared.Next.{Next}
 use Rattle.problem.specs.declared.Next.the-variants.{Step, Nothing}
-use Rattle.problem.proofs.Reflect.{Active, Live, Allowed, Unsupported, allLive-iff, unsupported-iff}
+use Rattle.problem.proofs.Reflect.{allLive-iff, unsupported-iff}
+use Rattle.problem.specs.Sentences.{Active, Live, Allowed, Unsupported}
 use Rattle.problem.proofs.HeldTable.{held-few, held-narrow}
 use Rattle.problem.proofs.Run.{first-each}
 use Rattle.problem.proofs.Search.{first-off, first-at, wide-three, outside}

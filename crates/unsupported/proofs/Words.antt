@@ -18,7 +18,8 @@ use Rattle.problem.specs.Problem.{Problem, State, noneEmpty}
 use Rattle.problem.specs.Held.{rowWord, rowsAt, held, RowTable}
 use Rattle.problem.specs.Masks.{stateOf}
 use Rattle.problem.specs.declared.Masks.{Masks}
-use Rattle.problem.proofs.Reflect.{Active, Live, Allowed, Unsupported, turn, noneEmpty-iff}
+use Rattle.problem.proofs.Reflect.{turn, noneEmpty-iff}
+use Rattle.problem.specs.Sentences.{Active, Live, Allowed, Unsupported}
 use Rattle.problem.proofs.HeldTable.{row-tells, row-met, held-value}
 use Rattle.held.specs.Ready.{Ready, Values, Near}
 use Rattle.held.proofs.Laws.{row-says, near-free, live-value, active-32}

@@ -7,7 +7,7 @@ use lib.Dec.{T}
 use lib.ListN.{length, getD}
 use Rattle.bounded.specs.Mask.{bit}
 use Rattle.problem.specs.Problem.{Problem, State, noneEmpty}
-use Rattle.problem.proofs.Reflect.{Live, Allowed, Unsupported}
+use Rattle.problem.specs.Sentences.{Live, Allowed, Unsupported}
 
 -- Where no active variable is emptied: a value in the domain of i is in word i exactly where it has no support at some other active
 -- variable. Of values that are in no domain the words say nothing.

@@ -10,7 +10,7 @@ use borrow.Author.Needs.{needs}
 use borrow.Author.Tests.{not-true}
 use Rattle.problem.specs.Held.{held}
 use Rattle.problem.specs.Masks.{stateOf, sets}
-use Rattle.problem.proofs.Sound.{Solution}
+use Rattle.problem.specs.Sentences.{Solution}
 use Rattle.first_plan.specs.Steps.{answer}
 use borrow.Fn.Kinds.{In}
 use borrow.Fn.PlainCycle.{Measures, is, falls, and}

@@ -7,7 +7,7 @@ use Rattle.bounded.proofs.Mask.{bit-without16}
 use Rattle.bounded.proofs.Members.{Sought, left-lowest}
 use Rattle.problem.specs.Held.{held}
 use Rattle.problem.specs.Masks.{stateOf, sets}
-use Rattle.problem.proofs.Reflect.{Live}
+use Rattle.problem.specs.Sentences.{Live}
 use Rattle.memory.specs.Memory.{Remembered}
 use Rattle.held.proofs.Laws.{live-value}
 use Rattle.cover.proofs.Laws.{others-out}

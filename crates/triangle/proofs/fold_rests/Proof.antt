@@ -7,7 +7,7 @@ use Rattle.bounded.proofs.Truth.{T-of}
 use Rattle.bounded.proofs.Mask.{bit-without16}
 use Rattle.bounded.proofs.Members.{Sought, left-highest}
 use Rattle.problem.specs.Masks.{stateOf, sets}
-use Rattle.problem.proofs.Reflect.{Live}
+use Rattle.problem.specs.Sentences.{Live}
 use Rattle.held.proofs.Laws.{domain-values, domain-among, live-value, word-among}
 use Rattle.cover.proofs.Laws.{thirds-out}
 use Rattle.triangle.proofs.Laws.{bareAt, fold-first, fold-next, fold-fails, fold-holds}
