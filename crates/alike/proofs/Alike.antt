@@ -9,9 +9,9 @@ use Rattle.sheet.specs.Sheet.{layout, variablesOf, blocksOf, readSheet, Keeps}
 use Rattle.sheet.specs.declared.SheetRefusal.{SheetRefusal}
 use Rattle.sheet.specs.declared.SheetRead.the-variants.{Accepted}
 use Rattle.jobs.specs.WithSheet.{withSheet}
-use Rattle.jobs.specs.Run.{runJobBy, runJob}
+use Rattle.jobs.specs.Run.{runJob}
 use Rattle.jobs.specs.Hand.{startJob, callJob, callsJob}
-use Rattle.jobs.specs.PutBack.{putBackJobBy, putBackJob}
+use Rattle.jobs.specs.PutBack.{putBackJob}
 use Rattle.jobs.specs.Print.{sheetLines, printed}
 use Rattle.jobs.specs.declared.ManualState.{ManualState}
 use Rattle.jobs.specs.declared.CallAnswer.{CallAnswer}
@@ -41,8 +41,8 @@ module _ (s : List ℕ) (K : Keeps layout s) where
       blocks = blocks-counted layout (movedBytes s) (move-keeps s K) ∙ ap (λ (P : Problem). blockCount P 1024 0) (move-same s K) ∙ sym (blocks-counted layout s K)
 
   -- the run, by either rulebook
-  pub run-alike-by : (spare : Bool) (b : List ℕ) → runJobBy spare (movedBytes s) b ≡ runJobBy spare s b
-  unfolding runJobBy
+  pub run-alike-by : (spare : Bool) (b : List ℕ) → runJob (movedBytes s) b ≡ runJob s b
+  unfolding runJob
   run-alike-by spare b = sheet-alike _ _
 
   pub run-alike : (b : List ℕ) → runJob (movedBytes s) b ≡ runJob s b
@@ -63,8 +63,8 @@ module _ (s : List ℕ) (K : Keeps layout s) where
   calls-alike st (i ∷ l) = ap (λ (y : CallAnswer). callsJob (movedBytes s) (y .state) l) (call-alike st i) ∙ calls-alike ((callJob s st i) .state) l
 
   -- putting back, by either rulebook
-  pub put-back-alike-by : (spare : Bool) (t p b : List ℕ) → putBackJobBy spare (movedBytes s) t p b ≡ putBackJobBy spare s t p b
-  unfolding putBackJobBy
+  pub put-back-alike-by : (spare : Bool) (t p b : List ℕ) → putBackJob (movedBytes s) t p b ≡ putBackJob s t p b
+  unfolding putBackJob
   put-back-alike-by spare t p b = sheet-alike _ _
 
   pub put-back-alike : (t p b : List ℕ) → putBackJob (movedBytes s) t p b ≡ putBackJob s t p b

@@ -24,7 +24,7 @@ use Rattle.sheet.specs.Bytes.{byteAt}
 use Rattle.sheet.proofs.Refusals.{sheet-number}
 use Rattle.jobs.specs.Numbers.{putBackNumber}
 use Rattle.jobs.specs.Trace.{recordBytes, traceBytes}
-use Rattle.jobs.specs.PutBack.{PutBackResult, putBackRefused, putBackDone, Checked, Lawful, Fault, checkTrace, planFits, afterCheck, putBackOver, putBackJobBy, putBackJob}
+use Rattle.jobs.specs.PutBack.{PutBackResult, putBackRefused, putBackDone, Checked, Lawful, Fault, checkTrace, planFits, afterCheck, putBackOver, putBackJob}
 use Rattle.jobs.specs.declared.Extended.{Extended}
 use Rattle.jobs.specs.declared.Extended.the-variants.{Done, Refused}
 use Rattle.jobs.specs.declared.ExtendRefusal.the-variants as refusal
@@ -233,7 +233,7 @@ module _ (s t p b : List ℕ) where
 
   -- Putting back answers as it does for its cause and for no other.
   pub put-back-iff : (o : Extended) → ((putBackJob s t p b) .answer ≡ o) ↔ BackCause o
-  unfolding putBackJobBy
+  unfolding putBackJob
   put-back-iff = sheet-iff s _ _ (λ (y : PutBackResult). y .answer) whoseBack told (λ r. refl) (λ P. BackCauseOver P t p b) (λ P r x. x) (λ _. put-back-iff-over _ t p b)
 
   by-number : (o : Extended) → Single (putBackNumber o) → (putBackNumber ((putBackJob s t p b) .answer) ≡ putBackNumber o) ↔ BackCause o

@@ -15,9 +15,9 @@ use Rattle.sheet.specs.declared.SheetRead.{SheetRead}
 use Rattle.sheet.specs.declared.SheetRead.the-variants as read
 use Rattle.sheet.proofs.Accepted.{keeps, problem-bounded}
 use Rattle.jobs.specs.WithSheet.{withSheet}
-use Rattle.jobs.specs.Run.{runRefused, runDone, runOverBy, runOver, runJobBy, runJob}
+use Rattle.jobs.specs.Run.{runRefused, runDone, runOver, runJob}
 use Rattle.jobs.specs.Hand.{startRefused, startOver, startJob, callRefused, callOver, callJob, callsOver, callsJob}
-use Rattle.jobs.specs.PutBack.{putBackRefused, checkTrace, afterCheck, putBackOverBy, putBackOver, putBackJobBy, putBackJob}
+use Rattle.jobs.specs.PutBack.{putBackRefused, checkTrace, afterCheck, putBackOver, putBackJob}
 use Rattle.jobs.specs.declared.ManualState.{ManualState}
 use Rattle.jobs.specs.declared.CallAnswer.{CallAnswer}
 use Rattle.jobs.specs.declared.ReduceRefusal.the-variants as run
@@ -75,22 +75,22 @@ sheet-both s refused over other Q x y =
 module _ (P : Problem) (b : List ℕ) where
   -- 10: the buffer is shorter than 1 + 5 × the sum of the sizes
   pub run-buffer-refused-over : length b < 1 + 5 * sizeSum P → runOver P b ≡ runRefused run.Buffer b
-  unfolding runOverBy
-  run-buffer-refused-over l = rw (lt-ltb (length b) (1 + 5 * sizeSum P) l, runOverBy)
+  unfolding runOver
+  run-buffer-refused-over l = rw (lt-ltb (length b) (1 + 5 * sizeSum P) l, runOver)
 
   -- otherwise the problem is worked
   pub run-accepted-over : 1 + 5 * sizeSum P ≤ length b → runOver P b ≡ runDone P b
-  unfolding runOverBy
-  run-accepted-over l = rw (le-ltb (length b) (1 + 5 * sizeSum P) l, runOverBy)
+  unfolding runOver
+  run-accepted-over l = rw (le-ltb (length b) (1 + 5 * sizeSum P) l, runOver)
 
 module _ (s b : List ℕ) where
   pub run-sheet-refused : (r : SheetRefusal) → readSheet layout s ≡ read.Refused r → runJob s b ≡ runRefused (run.Sheet r) b
-  unfolding runJobBy
+  unfolding runJob
   run-sheet-refused r e = sheet-refused s _ _ r e
 
   module _ (K : Keeps layout s) where
     pub run-kept : runJob s b ≡ runOver (problemOf layout s) b
-    unfolding runJobBy
+    unfolding runJob
     run-kept = sheet-kept s _ _ K
 
     pub run-accepted : 1 + 5 * sizeSum (problemOf layout s) ≤ length b → runJob s b ≡ runDone (problemOf layout s) b
@@ -130,24 +130,24 @@ module _ (s : List ℕ) where
 module _ (P : Problem) (t p b : List ℕ) where
   -- 18
   pub put-back-plan-length-over : length p ≢ P .n → putBackOver P t p b ≡ putBackRefused back.PlanLength b
-  unfolding putBackOverBy
-  put-back-plan-length-over d = rw (ne-eqb (length p) (P .n) d, putBackOverBy)
+  unfolding putBackOver
+  put-back-plan-length-over d = rw (ne-eqb (length p) (P .n) d, putBackOver)
 
   -- 20
   pub put-back-result-length-over : length p ≡ P .n → length b ≢ P .n → putBackOver P t p b ≡ putBackRefused back.ResultLength b
-  unfolding putBackOverBy
-  put-back-result-length-over e d = rw (eq-eqb (length p) (P .n) e, ne-eqb (length b) (P .n) d, putBackOverBy)
+  unfolding putBackOver
+  put-back-result-length-over e d = rw (eq-eqb (length p) (P .n) e, ne-eqb (length b) (P .n) d, putBackOver)
 
   -- then 15, 16 and 17 by the trace, and 19
   pub put-back-checked-over : length p ≡ P .n → length b ≡ P .n → putBackOver P t p b ≡ afterCheck P p b (checkTrace P t)
-  unfolding putBackOverBy
-  put-back-checked-over e f = rw (eq-eqb (length p) (P .n) e, eq-eqb (length b) (P .n) f, putBackOverBy)
+  unfolding putBackOver
+  put-back-checked-over e f = rw (eq-eqb (length p) (P .n) e, eq-eqb (length b) (P .n) f, putBackOver)
 
 module _ (s t p b : List ℕ) where
   pub put-back-sheet-refused : (r : SheetRefusal) → readSheet layout s ≡ read.Refused r → putBackJob s t p b ≡ putBackRefused (back.Sheet r) b
-  unfolding putBackJobBy
+  unfolding putBackJob
   put-back-sheet-refused r e = sheet-refused s _ _ r e
 
   pub put-back-kept : Keeps layout s → putBackJob s t p b ≡ putBackOver (problemOf layout s) t p b
-  unfolding putBackJobBy
+  unfolding putBackJob
   put-back-kept K = sheet-kept s _ _ K

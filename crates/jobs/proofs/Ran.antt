@@ -15,7 +15,7 @@ use Rattle.sheet.specs.declared.SheetRead.the-variants as read
 use Rattle.sheet.proofs.Refusals.{sheet-number}
 use Rattle.jobs.specs.Numbers.{runNumber}
 use Rattle.jobs.specs.Trace.{traceBytes}
-use Rattle.jobs.specs.Run.{RunResult, runDoneBy, runOver, runJobBy, runJob}
+use Rattle.jobs.specs.Run.{RunResult, runDone, runOver, runJob}
 use Rattle.jobs.specs.Hand.{startJob}
 use Rattle.jobs.specs.declared.ReduceOutcome.{ReduceOutcome}
 use Rattle.jobs.specs.declared.ReduceOutcome.the-variants.{Done, Refused}
@@ -40,7 +40,7 @@ module _ (P : Problem) (b : List ℕ) where
       × ((e ≡ endOf P (afterTrace P (full P) (run P (full P)))) × ((k ≡ length (run P (full P))) × (w ≡ length (traceBytes (run P (full P))))))
 
   cause-runs : (o : ReduceOutcome) → RunCauseOver o → (runOver P b) .answer .outcome ≡ o
-  unfolding runDoneBy
+  unfolding runDone
   cause-runs (Refused (refusal.Sheet r)) x = absurd x
   cause-runs (Refused refusal.Buffer) l = ap (λ (y : RunResult). y .answer .outcome) (run-buffer-refused-over P b l)
   cause-runs (Done e k w) (l, (p, (q, r))) = ap (λ (y : RunResult). y .answer .outcome) (run-accepted-over P b l) ∙ (λ t. Done (sym p t) (sym q t) (sym r t))
@@ -69,7 +69,7 @@ module _ (s b : List ℕ) where
 
   -- A run answers as it does for its cause and for no other.
   pub ran-iff : (o : ReduceOutcome) → ((runJob s b) .answer .outcome ≡ o) ↔ RunCause o
-  unfolding runJobBy
+  unfolding runJob
   ran-iff = sheet-iff s _ _ (λ (y : RunResult). y .answer .outcome) whoseRun told (λ r. refl) (λ P. RunCauseOver P b) (λ P r x. x) (λ _. ran-iff-over (problemOf layout s) b)
 
   number-back : (o : ReduceOutcome) → 10 ≤ runNumber o → Refused refusal.Buffer ≡ o

@@ -16,9 +16,9 @@ use Rattle.problem.specs.declared.Call.the-variants as outcome
 use Rattle.sheet.specs.Sheet.{layout}
 use Rattle.sheet.specs.Relation.{problemOf}
 use Rattle.sheet.specs.declared.SheetRefusal.{SheetRefusal}
-use Rattle.jobs.specs.Run.{RunResult, runDoneBy, runOver, runJobBy, runJob}
+use Rattle.jobs.specs.Run.{RunResult, runDone, runOver, runJob}
 use Rattle.jobs.specs.Hand.{handState, startJob, callAnswer, callOver, callJob}
-use Rattle.jobs.specs.PutBack.{PutBackResult, Checked, Lawful, Fault, checkTrace, planFits, afterCheck, putBackOver, putBackJobBy, putBackJob}
+use Rattle.jobs.specs.PutBack.{PutBackResult, Checked, Lawful, Fault, checkTrace, planFits, afterCheck, putBackOver, putBackJob}
 use Rattle.jobs.specs.declared.ManualState.{ManualState}
 use Rattle.jobs.specs.declared.ReduceRefusal.{ReduceRefusal}
 use Rattle.jobs.specs.declared.ReduceOutcome.the-variants as reduced
@@ -35,7 +35,7 @@ use Rattle.jobs.proofs.Opened.{sheet-each, run-buffer-refused-over, run
 
 -- a refused run leaves the trace's buffer as it was
 pub run-unaltered-over : (P : Problem) (b : List ℕ) (r : ReduceRefusal) → (runOver P b) .answer .outcome ≡ reduced.Refused r → (runOver P b) .buffer ≡ b
-unfolding runDoneBy
+unfolding runDone
 run-unaltered-over P b r o = go (lt-dec (length b) (1 + 5 * sizeSum P))
   where
     go : (length b < 1 + 5 * sizeSum P) ⊎ (1 + 5 * sizeSum P ≤ length b) → (runOver P b) .buffer ≡ b
@@ -80,7 +80,7 @@ put-back-unaltered-over P t p b r o = by-plan (eq-dec (length p) (P .n))
 -- ---- over a sheet
 
 pub run-unaltered : (s b : List ℕ) (r : ReduceRefusal) → (runJob s b) .answer .outcome ≡ reduced.Refused r → (runJob s b) .buffer ≡ b
-unfolding runJobBy
+unfolding runJob
 run-unaltered s b r = sheet-each s _ _ (λ (y : RunResult). y .answer .outcome ≡ reduced.Refused r → y .buffer ≡ b) (λ _ _ _. refl) (λ _. run-unaltered-over (problemOf layout s) b r)
 
 -- "A refused start answers a state with no items in and no settings on"
@@ -93,5 +93,5 @@ unfolding callJob
 call-unaltered s st i r = sheet-each s _ _ (λ (y : CallAnswer). y .outcome ≡ called.Refused r → y .state ≡ st) (λ _ _ _. refl) (λ _. call-unaltered-over (problemOf layout s) st i r)
 
 pub put-back-unaltered : (s t p b : List ℕ) (r : ExtendRefusal) → (putBackJob s t p b) .answer ≡ extended.Refused r → (putBackJob s t p b) .result ≡ b
-unfolding putBackJobBy
+unfolding putBackJob
 put-back-unaltered s t p b r = sheet-each s _ _ (λ (y : PutBackResult). y .answer ≡ extended.Refused r → y .result ≡ b) (λ _ _ _. refl) (λ _. put-back-unaltered-over (problemOf layout s) t p b r)

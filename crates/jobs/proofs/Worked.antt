@@ -26,7 +26,7 @@ use Rattle.sheet.specs.Sheet.{layout, Keeps}
 use Rattle.sheet.specs.Relation.{problemOf}
 use Rattle.sheet.proofs.Accepted.{problem-bounded}
 use Rattle.jobs.specs.Trace.{recordBytes, recordsBytes, traceBytes, fronted}
-use Rattle.jobs.specs.Run.{RunResult, runDoneBy, runOver, runJob}
+use Rattle.jobs.specs.Run.{RunResult, runDone, runOver, runJob}
 use Rattle.jobs.specs.declared.Reduced.{Reduced}
 use Rattle.jobs.specs.declared.ReduceOutcome.the-variants.{Done}
 use Rattle.jobs.proofs.Opened.{run-accepted-over, run-kept}
@@ -78,7 +78,7 @@ pub record Worked (P : Problem) (t : List Record) (last : State) (b : List ℕ) 
 
 -- every problem, with a buffer as long as the format asks, is worked to its end
 pub run-worked-over : (P : Problem) (b : List ℕ) → 1 + 5 * sizeSum P ≤ length b → Worked P (run P (full P)) (afterTrace P (full P) (run P (full P))) b (runOver P b)
-unfolding runDoneBy
+unfolding runDone
 run-worked-over P b l =
     let t = run P (full P) in
     let e = run-accepted-over P b l in

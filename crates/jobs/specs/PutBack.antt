@@ -1,5 +1,4 @@
--- Putting back: lent a problem, a trace, a plan for the items left and a buffer for the result; as a job, a sheet and these. `spare` is the
--- rulebook's word.
+-- Putting back: lent a problem, a trace, a plan for the items left and a buffer for the result; as a job, a sheet and these.
 use mathlib.Core.Bool.{Bool, true, false, _&&_, _||_}
 use mathlib.Core.List.{List, [], _∷_}
 use Prim.Native.Nat.{ℕ, zero, suc, _+_}
@@ -7,8 +6,8 @@ use lib.Dec.{ltb, eqb}
 use lib.ListN.{length}
 use Rattle.bounded.specs.Bounded.{allBelow}
 use Rattle.bounded.specs.Table.{tab}
-use Rattle.problem.specs.Problem.{Problem, State, full, slideSpares}
-use Rattle.problem.specs.Reduce.{lawfulBy, brokenCover, after, afterTrace}
+use Rattle.problem.specs.Problem.{Problem, State, full}
+use Rattle.problem.specs.Reduce.{lawful, brokenCover, after, afterTrace}
 use Rattle.problem.specs.Extend.{solves, planOf, undoTrace}
 use Rattle.problem.specs.declared.Record.{Record}
 use Rattle.problem.specs.declared.Break.{Break}
@@ -57,29 +56,23 @@ withRecord r (Fault e) = Fault e
 
 -- from the place p in the state s, where record k stands: a malformed record is 16, one that is not lawful in the state reached is 17 (also
 -- where an item in has no setting on). A record has at least one byte, so that as many turns as the trace has bytes are enough.
-unfoldable pub checkFromBy : (spare : Bool) → ℕ → Problem → List ℕ → State → (k p : ℕ) → Checked
-checkFromBy spare zero P t s k p = Fault Malformed
-checkFromBy spare (suc f) P t s k p =
+unfoldable pub checkFrom : ℕ → Problem → List ℕ → State → (k p : ℕ) → Checked
+checkFrom zero P t s k p = Fault Malformed
+checkFrom (suc f) P t s k p =
     elim (recordAt t p) [
       | record·.End ↦ Lawful []
       | record·.Malformed ↦ Fault Malformed
       | record·.Read r next ↦
-          elim (lawfulBy spare P s r) [
-            | true ↦ withRecord r (checkFromBy spare f P t (after P s r) (k + 1) next)
+          elim (lawful P s r) [
+            | true ↦ withRecord r (checkFrom f P t (after P s r) (k + 1) next)
             | false ↦ Fault (unlawfulRecord k (brokenCover P s r))
           ]
     ]
 
 -- "no byte, or byte 0 is not 1" is 15
-unfoldable pub checkTraceBy : (spare : Bool) → Problem → List ℕ → Checked
-checkTraceBy spare P t =
-    elim (ltb 0 (length t) && eqb (byteAt t 0) 1) [ true ↦ checkFromBy spare (suc (length t)) P t (full P) 0 1 | false ↦ Fault TraceFront ]
-
-abbrev pub checkFrom : ℕ → Problem → List ℕ → State → (k p : ℕ) → Checked
-checkFrom = checkFromBy slideSpares
-
-abbrev pub checkTrace : Problem → List ℕ → Checked
-checkTrace = checkTraceBy slideSpares
+unfoldable pub checkTrace : Problem → List ℕ → Checked
+checkTrace P t =
+    elim (ltb 0 (length t) && eqb (byteAt t 0) 1) [ true ↦ checkFrom (suc (length t)) P t (full P) 0 1 | false ↦ Fault TraceFront ]
 
 -- ---- the plan
 
@@ -99,19 +92,13 @@ afterCheck P p b (Lawful t) = elim (planFits P (afterTrace P (full P) t) p) [ tr
 
 -- over the problem P, in the order of the table: 18, "plan is not n bytes"; 20, "result buffer is not n bytes"; 15; then 16 and 17 record by
 -- record; then 19
-unfoldable pub putBackOverBy : (spare : Bool) → Problem → (t p b : List ℕ) → PutBackResult
-putBackOverBy spare P t p b =
+unfoldable pub putBackOver : Problem → (t p b : List ℕ) → PutBackResult
+putBackOver P t p b =
     elim (eqb (length p) (P .n)) [
       | false ↦ putBackRefused PlanLength b
-      | true ↦ elim (eqb (length b) (P .n)) [ false ↦ putBackRefused ResultLength b | true ↦ afterCheck P p b (checkTraceBy spare P t) ]
+      | true ↦ elim (eqb (length b) (P .n)) [ false ↦ putBackRefused ResultLength b | true ↦ afterCheck P p b (checkTrace P t) ]
     ]
 
 -- putting back over the sheet s
-unfoldable pub putBackJobBy : (spare : Bool) → (s t p b : List ℕ) → PutBackResult
-putBackJobBy spare s t p b = withSheet s (λ r. putBackRefused (Sheet r) b) (λ P. putBackOverBy spare P t p b)
-
-abbrev pub putBackOver : Problem → (t p b : List ℕ) → PutBackResult
-putBackOver = putBackOverBy slideSpares
-
-abbrev pub putBackJob : (s t p b : List ℕ) → PutBackResult
-putBackJob = putBackJobBy slideSpares
+unfoldable pub putBackJob : (s t p b : List ℕ) → PutBackResult
+putBackJob s t p b = withSheet s (λ r. putBackRefused (Sheet r) b) (λ P. putBackOver P t p b)

@@ -1,12 +1,11 @@
--- The run: lent a problem and a trace buffer; as a job, a sheet and a trace buffer. Its answer, and the buffer afterwards. `spare` is the
--- rulebook's word.
+-- The run: lent a problem and a trace buffer; as a job, a sheet and a trace buffer. Its answer, and the buffer afterwards.
 use mathlib.Core.Bool.{Bool, true, false}
 use mathlib.Core.List.{List}
 use Prim.Native.Nat.{ℕ, _+_, _*_}
 use lib.Dec.{ltb}
 use lib.ListN.{length}
-use Rattle.problem.specs.Problem.{Problem, full, sizeSum, slideSpares}
-use Rattle.problem.specs.Reduce.{runBy, afterTrace, endOf}
+use Rattle.problem.specs.Problem.{Problem, full, sizeSum}
+use Rattle.problem.specs.Reduce.{run, afterTrace, endOf}
 use Rattle.problem.specs.Masks.{masksOf, emptyMasks}
 use Rattle.problem.specs.declared.Record.{Record}
 use Rattle.jobs.specs.Trace.{traceBytes, fronted}
@@ -34,26 +33,17 @@ ranThrough P t b =
       buffer = fronted (traceBytes t) b;
     }
 
-unfoldable pub runDoneBy : (spare : Bool) → Problem → List ℕ → RunResult
-runDoneBy spare P b = ranThrough P (runBy spare P (full P)) b
+unfoldable pub runDone : Problem → List ℕ → RunResult
+runDone P b = ranThrough P (run P (full P)) b
 
 -- 10: "shorter than 1 + 5 × the sum of the sizes"
 abbrev pub bufferShort : Problem → List ℕ → Bool
 bufferShort P b = ltb (length b) (1 + 5 * sizeSum P)
 
 -- the run over the problem P with the buffer b: 10, and otherwise P is worked
-unfoldable pub runOverBy : (spare : Bool) → Problem → List ℕ → RunResult
-runOverBy spare P b = elim (bufferShort P b) [ true ↦ runRefused Buffer b | false ↦ runDoneBy spare P b ]
+unfoldable pub runOver : Problem → List ℕ → RunResult
+runOver P b = elim (bufferShort P b) [ true ↦ runRefused Buffer b | false ↦ runDone P b ]
 
 -- the run of the sheet s with the buffer b
-unfoldable pub runJobBy : (spare : Bool) → List ℕ → List ℕ → RunResult
-runJobBy spare s b = withSheet s (λ r. runRefused (Sheet r) b) (λ P. runOverBy spare P b)
-
-abbrev pub runDone : Problem → List ℕ → RunResult
-runDone = runDoneBy slideSpares
-
-abbrev pub runOver : Problem → List ℕ → RunResult
-runOver = runOverBy slideSpares
-
-abbrev pub runJob : List ℕ → List ℕ → RunResult
-runJob = runJobBy slideSpares
+unfoldable pub runJob : List ℕ → List ℕ → RunResult
+runJob s b = withSheet s (λ r. runRefused (Sheet r) b) (λ P. runOver P b)

@@ -5,7 +5,7 @@ use mathlib.Core.Bool.{Bool, true, false}
 use mathlib.Core.List.{List, [], _∷_, _++_}
 use Prim.Native.Nat.{ℕ, _-_}
 use lib.ListN.{length, replicate}
-use Rattle.problem.specs.Problem.{Problem, State, full, snake, narrow}
+use Rattle.problem.specs.Problem.{Problem, State, full, snake}
 use Rattle.problem.specs.Reduce.{afterTrace}
 use Rattle.problem.specs.Manual.{start}
 use Rattle.problem.specs.Solutions.{solutionCount, solvable}
@@ -17,9 +17,9 @@ use Rattle.problem.specs.declared.End.the-variants.{Impossible, Solved, Rest}
 use Rattle.sheet.specs.Sheet.{layout}
 use Rattle.sheet.specs.Relation.{problemOf}
 use Rattle.jobs.specs.Numbers.{runNumber, callNumber, putBackNumber}
-use Rattle.jobs.specs.Run.{runJobBy, runJob}
+use Rattle.jobs.specs.Run.{runJob}
 use Rattle.jobs.specs.Hand.{handOf, callJob}
-use Rattle.jobs.specs.PutBack.{putBackJobBy, putBackJob}
+use Rattle.jobs.specs.PutBack.{putBackJob}
 use Rattle.jobs.specs.declared.ReduceOutcome.the-variants as reduced
 use Rattle.jobs.specs.declared.CallOutcome.the-variants as called
 use Rattle.jobs.specs.declared.Extended.the-variants as extended
@@ -37,8 +37,6 @@ masks a d = record { active = a; domains = d ++ replicate (32 - length d) 0 }
 pub data Claim : Type 0 where
   -- a run with a buffer of so many bytes: the trace, the end, the steps and the last state, with the old bytes after the trace
   Runs : (buffer : ℕ) (trace : List ℕ) (end : End) (steps : ℕ) (last : Masks) → Claim
-  -- the trace of a run with a buffer of so many bytes by the rulebook of before
-  RanBefore : (buffer : ℕ) (trace : List ℕ) → Claim
   -- a run with a buffer of so many bytes is refused, and the buffer is as it was
   NotRun : (buffer number : ℕ) → Claim
   -- whether the full sheet has a plan
@@ -55,9 +53,8 @@ pub data Claim : Type 0 where
   PutBack : (trace plan result : List ℕ) → Claim
   -- putting back that is refused, the result buffer being as it was
   NotPutBack : (trace plan : List ℕ) (number : ℕ) → Claim
-  -- the same by 17, which names this record, and this item and setting or 255 for both; and the same by the rulebook of before
+  -- the same by 17, which names this record, and this item and setting or 255 for both
   NotLawful : (trace plan : List ℕ) (k l c : ℕ) → Claim
-  NotLawfulBefore : (trace plan : List ℕ) (k l c : ℕ) → Claim
 
 abbrev pub from : Bool → Problem → State
 from true P = start P
@@ -70,7 +67,6 @@ Meets s (Runs b t e k m) =
       answer = record { outcome = reduced.Done e k (length t); state = m };
       buffer = t ++ lent (b - length t);
     }
-Meets s (RanBefore b t) = (runJobBy narrow s (lent b)) .buffer ≡ t ++ lent (b - length t)
 Meets s (NotRun b k) = (runNumber ((runJob s (lent b)) .answer .outcome) ≡ k) × ((runJob s (lent b)) .buffer ≡ lent b)
 Meets s (HasPlan b) = solvable (problemOf layout s) (full (problemOf layout s)) ≡ b
 Meets s (Plans t k) = solutionCount (problemOf layout s) (afterTrace (problemOf layout s) (full (problemOf layout s)) t) ≡ k
@@ -84,7 +80,6 @@ Meets s (NotPutBack t p k) = (putBackNumber ((putBackJob s t p (lent (length p))
 Meets s (NotLawful t p k l c) =
     (putBackNumber ((putBackJob s t p (lent (length p))) .answer) ≡ 17)
     × (putBackJob s t p (lent (length p)) ≡ record { answer = extended.Refused (refusal.Unlawful k l c); result = lent (length p) })
-Meets s (NotLawfulBefore t p k l c) = putBackJobBy narrow s t p (lent (length p)) ≡ record { answer = extended.Refused (refusal.Unlawful k l c); result = lent (length p) }
 
 abbrev pub AllMeet : List ℕ → List Claim → Type 0
 AllMeet s [] = Unit {0}
@@ -243,7 +238,6 @@ rows =
           ∷ PutBack (1 ∷ 3 ∷ 2 ∷ 0 ∷ 0 ∷ 3 ∷ 2 ∷ 1 ∷ 0 ∷ []) (255 ∷ 255 ∷ []) (0 ∷ 1 ∷ [])
           ∷ PutBack (1 ∷ 4 ∷ 5 ∷ 0 ∷ 0 ∷ 1 ∷ []) (1 ∷ 0 ∷ []) (1 ∷ 0 ∷ [])
           ∷ NotPutBack (1 ∷ 4 ∷ 5 ∷ 0 ∷ 0 ∷ 1 ∷ []) (1 ∷ 1 ∷ []) 19
-          ∷ NotLawfulBefore (1 ∷ 4 ∷ 5 ∷ 0 ∷ 0 ∷ 1 ∷ []) (1 ∷ 0 ∷ []) 0 255 255
           ∷ [];
     }
     -- C, and I and J, which are jobs on C
@@ -290,7 +284,6 @@ rows =
       shorter = shortK;
       claims =
           Runs 36 (1 ∷ 4 ∷ 5 ∷ 0 ∷ 2 ∷ 0 ∷ 3 ∷ 3 ∷ 1 ∷ 0 ∷ 3 ∷ 2 ∷ 0 ∷ 0 ∷ 3 ∷ 2 ∷ 2 ∷ 0 ∷ []) Solved 4 (masks 0 [])
-          ∷ RanBefore 36 (1 ∷ [])
           ∷ PutBack (1 ∷ 4 ∷ 5 ∷ 0 ∷ 2 ∷ 0 ∷ 3 ∷ 3 ∷ 1 ∷ 0 ∷ 3 ∷ 2 ∷ 0 ∷ 0 ∷ 3 ∷ 2 ∷ 2 ∷ 0 ∷ []) (255 ∷ 255 ∷ 255 ∷ []) (0 ∷ 0 ∷ 1 ∷ [])
           ∷ [];
     }
@@ -299,7 +292,6 @@ rows =
       shorter = shortL;
       claims =
           Runs 41 (1 ∷ 4 ∷ 5 ∷ 0 ∷ 1 ∷ 0 ∷ 4 ∷ 1 ∷ 1 ∷ 0 ∷ 0 ∷ []) Rest 2 (masks 7 (5 ∷ 6 ∷ 3 ∷ []))
-          ∷ RanBefore 41 (1 ∷ [])
           ∷ [];
     }
     ∷ record {

@@ -18,7 +18,7 @@ use Rattle.sheet.specs.Relation.{problemOf}
 use Rattle.sheet.specs.declared.SheetRefusal.{SheetRefusal}
 use Rattle.sheet.specs.declared.SheetRead.the-variants as read
 use Rattle.sheet.proofs.Accepted.{problem-bounded}
-use Rattle.jobs.specs.Run.{RunResult, runDoneBy, runJob}
+use Rattle.jobs.specs.Run.{RunResult, runDone, runJob}
 use Rattle.jobs.specs.PutBack.{PutBackResult, planFits, putBackOver, putBackJob}
 use Rattle.jobs.specs.declared.Extended.the-variants.{Done}
 use Rattle.jobs.specs.declared.ReduceOutcome.the-variants as reduced
@@ -65,7 +65,7 @@ module _ (s b p : List ℕ) where
     pub answer : (runJob s b) .answer ≡ record { outcome = reduced.Done e k w; state = picked .answer .state }
 
   pub pick-run : (y : Bool) (e : End) (k w : ℕ) → picked .answer .outcome ≡ outcomeOf y e k w → RunsAnswer e k w
-  unfolding pickDone runDoneBy leftBy
+  unfolding pickDone runDone leftBy
   pick-run y e k w o =
       let x = answers y e k w o in
       let A = x .0 in

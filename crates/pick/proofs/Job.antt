@@ -12,7 +12,7 @@ use Rattle.problem.specs.Masks.{stateOf, masksOf}
 use Rattle.problem.specs.declared.End.{End}
 use Rattle.problem.specs.declared.Masks.{Masks}
 use Rattle.problem.proofs.HeldTable.{held-few}
-use Rattle.jobs.specs.Run.{RunResult, runDoneBy, runDone}
+use Rattle.jobs.specs.Run.{RunResult, runDone}
 use Rattle.jobs.specs.PutBack.{putBackOver}
 use Rattle.jobs.specs.declared.Reduced.{Reduced}
 use Rattle.jobs.specs.declared.ReduceOutcome.{ReduceOutcome}
@@ -61,7 +61,7 @@ module _ (P : Problem) (b : List ℕ) (l : 1 + 5 * sizeSum P ≤ length b) (r : 
   not-refused Buffer e = let h = caused (Refused Buffer) e in omega arith
 
   pub state-left : r .state ≡ masksOf (leftBy P)
-  unfolding runDoneBy leftBy
+  unfolding runDone leftBy
   state-left = ap (λ (y : Reduced). y .state) is
 
   module _ (e : End) (k w : ℕ) (o : r .outcome ≡ Done e k w) (x : List ℕ) (f : x ≡ (runDone P b) .buffer) where
@@ -69,7 +69,7 @@ module _ (P : Problem) (b : List ℕ) (l : 1 + 5 * sizeSum P ≤ length b) (r : 
     written = caused (Done e k w) o .1 .1 .1
 
     pub trace-room : w ≤ length x
-    unfolding runDoneBy
+    unfolding runDone
     trace-room =
         let h = run-worked-over P b l .room in
         let n : length x ≡ length b = ap length f ∙ length-fronted (runTrace P) b h in
@@ -77,7 +77,7 @@ module _ (P : Problem) (b : List ℕ) (l : 1 + 5 * sizeSum P ≤ length b) (r : 
 
     -- the run's trace at its front
     pub trace-left : take w x ≡ runTrace P
-    unfolding runDoneBy
+    unfolding runDone
     trace-left = (λ i. take (written i) (f i)) ∙ take-append-seam (runTrace P) (drop (length (runTrace P)) b)
 
     pub trace-count : w ≡ length (take w x)
@@ -86,7 +86,7 @@ module _ (P : Problem) (b : List ℕ) (l : 1 + 5 * sizeSum P ≤ length b) (r : 
     -- the whole answer, with y for whether there is a first plan, and the plan's buffer q
     pub picked-done : (p : List ℕ) (y : Bool) (q : List ℕ) → y ≡ (firstLeft P) .ok → q ≡ planLeft P p
         → record { answer = record { outcome = outcomeOf y e k w; state = r .state }; trace = x; plan = q } ≡ pickDone P b p
-    unfolding pickDone runDoneBy leftBy
+    unfolding pickDone runDone leftBy
     picked-done p y q u z =
         let c = caused (Done e k w) o .1 in
         λ i. record { answer = record { outcome = outcomeOf (u i) (c .0 i) (c .1 .0 i) (c .1 .1 i); state = state-left i }; trace = f i; plan = z i }

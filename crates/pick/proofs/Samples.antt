@@ -11,11 +11,11 @@ use Rattle.sheet.specs.Sheet as sheet
 use Rattle.sheet.specs.Relation as relation
 use Rattle.jobs.specs.WithSheet.{withSheet}
 use Rattle.jobs.specs.Trace.{recordsBytes, traceBytes, recordAt}
-use Rattle.jobs.specs.PutBack.{checkFromBy, checkTraceBy, planFits, putBackOverBy}
+use Rattle.jobs.specs.PutBack.{checkFrom, checkTrace, planFits, putBackOver}
 use Rattle.first_plan.specs.First.{orElse, firstOf, firstFrom, firstPlan}
 use Rattle.pick.specs.Pick.{leftBy, firstLeft, planLeft, pickDone, pickOver, pickJob}
 use Rattle.pick.specs.Samples.{AllMeet, samples}
 
 pub sampled : AllMeet samples
-unfolding bounded.allBelow bounded.anyBelow bounded.lowest bounded.atLowest bounded.sumTo bounded.countBelow mask.maskOf table.tab problem.bothWays problem.full problem.stateFits problem.allActive problem.allLive problem.anyLive problem.lowestLive problem.allOther problem.allThird problem.noneEmpty problem.spoils problem.spoiler problem.unsupported problem.snakeServes problem.snake problem.triangleServes problem.triangle problem.neighbourhood problem.slideServes problem.snakeSubstitution problem.breaks problem.firstBreak problem.coverAsked problem.remove problem.eliminate problem.liveCount problem.sizeSum reduce.holdsBy reduce.lawfulBy reduce.brokenCover reduce.after reduce.afterTrace reduce.stepIf reduce.first reduce.nextUnsupported reduce.nextSnake reduce.nextTriangle reduce.nextNeighbourhood reduce.nextSnakeSubstitutionBy reduce.nextOfKindBy reduce.nextBy reduce.runFromBy reduce.runBy reduce.endOf extend.solves extend.put extend.repair extend.undo extend.undoTrace packed.stateOf packed.masksOf sheet.beyond sheet.allowsAll sheet.blockOf sheet.blockAt sheet.blocksFrom sheet.badSizes sheet.readSheet relation.rowsFrom relation.rowsOf relation.pairAllowed relation.sizeOf relation.listed relation.allowedOf relation.problemOf recordsBytes traceBytes recordAt withSheet checkFromBy checkTraceBy planFits putBackOverBy orElse firstOf firstFrom firstPlan leftBy firstLeft planLeft pickDone pickOver pickJob
+unfolding bounded.allBelow bounded.anyBelow bounded.lowest bounded.atLowest bounded.sumTo bounded.countBelow mask.maskOf table.tab problem.bothWays problem.full problem.stateFits problem.allActive problem.allLive problem.anyLive problem.lowestLive problem.allOther problem.allThird problem.noneEmpty problem.spoils problem.spoiler problem.unsupported problem.snakeServes problem.snake problem.triangleServes problem.triangle problem.neighbourhood problem.slideServes problem.snakeSubstitution problem.breaks problem.firstBreak problem.coverAsked problem.remove problem.eliminate problem.liveCount problem.sizeSum reduce.holdsBy reduce.lawfulBy reduce.brokenCover reduce.after reduce.afterTrace reduce.stepIf reduce.first reduce.nextUnsupported reduce.nextSnake reduce.nextTriangle reduce.nextNeighbourhood reduce.nextSnakeSubstitutionBy reduce.nextOfKindBy reduce.nextBy reduce.runFromBy reduce.runBy reduce.endOf extend.solves extend.put extend.repair extend.undo extend.undoTrace packed.stateOf packed.masksOf sheet.beyond sheet.allowsAll sheet.blockOf sheet.blockAt sheet.blocksFrom sheet.badSizes sheet.readSheet relation.rowsFrom relation.rowsOf relation.pairAllowed relation.sizeOf relation.listed relation.allowedOf relation.problemOf recordsBytes traceBytes recordAt withSheet checkFrom checkTrace planFits putBackOver orElse firstOf firstFrom firstPlan leftBy firstLeft planLeft pickDone pickOver pickJob
 sampled = ((refl, (refl, refl)), ((refl, (refl, refl)), ((refl, (refl, refl)), ((refl, (refl, refl)), ((refl, (refl, refl)), ((refl, (refl, refl)), ((refl, (refl, refl)), ((refl, (refl, refl)), tt))))))))

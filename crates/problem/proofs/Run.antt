@@ -11,7 +11,8 @@ use lib.ListN.{length}
 use Rattle.bounded.specs.Bounded.{anyBelow}
 use Rattle.bounded.proofs.Truth.{T-of, T-true, T-not}
 use Rattle.bounded.proofs.Bounded.{any-iff}
-use Rattle.problem.specs.Problem.{Problem, State, full, allActive, anyLive, noneEmpty, unsupported, snake, triangle, neighbourhood, snakeSubstitution, slideSpares, liveCount, sizeSum}
+use Rattle.problem.specs.Problem.{Problem, State, full, allActive, anyLive, noneEmpty, unsupported, snake, triangle, neighbourhood, snakeSubstitution, liveCount, sizeSum}
+use Rattle.problem.specs.Rulebook.{Rulebook, inForce}
 use Rattle.problem.specs.Reduce.{holdsBy, lawfulBy, lawful, after, lawfulTraceBy, lawfulTrace, afterTrace, stepIf, first, nextUnsupported, nextSnake, nextTriangle, nextNeighbourhood, nextSnakeSubstitutionBy, kindBound, nextOfKindBy, nextOfKind, nextBy, next, runFromBy, runFrom, runBy, run, endOf}
 use Rattle.problem.specs.declared.Record.{Record}
 use Rattle.problem.specs.declared.Record.the-variants.{Unsupported, Snake, Triangle, Neighbourhood, SnakeSubstitution}
@@ -112,10 +113,10 @@ module _ (P : Problem) (s : State) where
 
 -- ---- by either rulebook
 
-module _ (spare : Bool) (P : Problem) (s : State) where
+module _ (book : Rulebook) (P : Problem) (s : State) where
   -- the rule of a record holds
   abbrev Holds : Record → Type 0
-  Holds r = T (holdsBy spare P s r)
+  Holds r = T (holdsBy book P s r)
 
   -- ---- each kind: a step that is found holds; and the slide as kinds 1 to 4
 
@@ -135,20 +136,20 @@ module _ (spare : Bool) (P : Problem) (s : State) where
   unfolding nextNeighbourhood holdsBy
   neighbourhood-found = first-found Holds _ _ (λ i. first-found Holds _ _ (λ b. first-found Holds _ _ (λ a. stepIf-found Holds (neighbourhood P s i b a) (Neighbourhood i b a) (λ t. t))))
 
-  slide-found : (r : Record) → nextSnakeSubstitutionBy spare P s ≡ Step r → Holds r
+  slide-found : (r : Record) → nextSnakeSubstitutionBy book P s ≡ Step r → Holds r
   unfolding nextSnakeSubstitutionBy holdsBy
-  slide-found = first-found Holds _ _ (λ i. first-found Holds _ _ (λ b. first-found Holds _ _ (λ a. stepIf-found Holds (snakeSubstitution P s spare i b a) (SnakeSubstitution i b a) (λ t. t))))
+  slide-found = first-found Holds _ _ (λ i. first-found Holds _ _ (λ b. first-found Holds _ _ (λ a. stepIf-found Holds (snakeSubstitution P s (book .spares) i b a) (SnakeSubstitution i b a) (λ t. t))))
 
-  slide-complete : Fits P s → nextSnakeSubstitutionBy spare P s ≡ Nothing → (i b a : ℕ) → T (snakeSubstitution P s spare i b a) → ⊥
+  slide-complete : Fits P s → nextSnakeSubstitutionBy book P s ≡ Nothing → (i b a : ℕ) → T (snakeSubstitution P s (book .spares) i b a) → ⊥
   unfolding nextSnakeSubstitutionBy
   slide-complete F e i b a h =
-      let x = snakeSubstitution-iff F spare i b a .0 h in
-      stepIf-none (snakeSubstitution P s spare i b a) (SnakeSubstitution i b a)
+      let x = snakeSubstitution-iff F (book .spares) i b a .0 h in
+      stepIf-none (snakeSubstitution P s (book .spares) i b a) (SnakeSubstitution i b a)
       (first-each _ _ (first-each _ _ (first-each _ _ e i (F .active-lt i (F .live-active i b (x .0)))) b (F .live-lt i b (x .0))) a (F .live-lt i a (x .1 .0))) h
 
   -- ---- the kinds joined
 
-  kind-by-found : (k : ℕ) (r : Record) → nextOfKindBy spare P s k ≡ Step r → Holds r
+  kind-by-found : (k : ℕ) (r : Record) → nextOfKindBy book P s k ≡ Step r → Holds r
   unfolding nextOfKindBy
   kind-by-found zero r e = absurd (never e)
   kind-by-found (suc zero) r e = unsupported-found r e
@@ -158,33 +159,33 @@ module _ (spare : Bool) (P : Problem) (s : State) where
   kind-by-found (suc (suc (suc (suc (suc k))))) r e = slide-found r e
 
   -- what `next` is, by whether some active variable is without a value
-  pub next-by-open : noneEmpty P s ≡ true → nextBy spare P s ≡ first kindBound (nextOfKindBy spare P s)
+  pub next-by-open : noneEmpty P s ≡ true → nextBy book P s ≡ first kindBound (nextOfKindBy book P s)
   unfolding nextBy
   next-by-open e = rw (e, nextBy)
 
-  pub next-by-shut : noneEmpty P s ≡ false → nextBy spare P s ≡ Nothing
+  pub next-by-shut : noneEmpty P s ≡ false → nextBy book P s ≡ Nothing
   unfolding nextBy
   next-by-shut e = rw (e, nextBy)
 
-  pub next-by-lawful : (r : Record) → nextBy spare P s ≡ Step r → T (lawfulBy spare P s r)
+  pub next-by-lawful : (r : Record) → nextBy book P s ≡ Step r → T (lawfulBy book P s r)
   next-by-lawful r e = go (noneEmpty P s) refl
     where
-      go : (b : Bool) → noneEmpty P s ≡ b → T (lawfulBy spare P s r)
-      go true p = lawful-by-iff spare P s r .1 (T-of p, first-found Holds kindBound (nextOfKindBy spare P s) kind-by-found r (sym (next-by-open p) ∙ e))
+      go : (b : Bool) → noneEmpty P s ≡ b → T (lawfulBy book P s r)
+      go true p = lawful-by-iff book P s r .1 (T-of p, first-found Holds kindBound (nextOfKindBy book P s) kind-by-found r (sym (next-by-open p) ∙ e))
       go false p = absurd (never (sym (next-by-shut p) ∙ e))
 
   -- where no step is found, no record of any kind with any fields is lawful
-  pub next-by-complete : Fits P s → nextBy spare P s ≡ Nothing → (r : Record) → T (lawfulBy spare P s r) → ⊥
+  pub next-by-complete : Fits P s → nextBy book P s ≡ Nothing → (r : Record) → T (lawfulBy book P s r) → ⊥
   unfolding holdsBy nextOfKindBy
   next-by-complete F e r t = by-kind r (x .1)
     where
-      x : T (noneEmpty P s) × T (holdsBy spare P s r)
-      x = lawful-by-iff spare P s r .0 t
+      x : T (noneEmpty P s) × T (holdsBy book P s r)
+      x = lawful-by-iff book P s r .0 t
 
-      none : (k : ℕ) → k < kindBound → nextOfKindBy spare P s k ≡ Nothing
-      none = first-each kindBound (nextOfKindBy spare P s) (sym (next-by-open (T-true (noneEmpty P s) (x .0))) ∙ e)
+      none : (k : ℕ) → k < kindBound → nextOfKindBy book P s k ≡ Nothing
+      none = first-each kindBound (nextOfKindBy book P s) (sym (next-by-open (T-true (noneEmpty P s) (x .0))) ∙ e)
 
-      by-kind : (r : Record) → T (holdsBy spare P s r) → ⊥
+      by-kind : (r : Record) → T (holdsBy book P s r) → ⊥
       by-kind (Unsupported i b k) h = unsupported-complete P s F (none 1 (omega arith)) i b k h
       by-kind (Snake i v) h = snake-complete P s F (none 2 (omega arith)) i v h
       by-kind (Triangle i j) h = triangle-complete P s F (none 3 (omega arith)) i j h
@@ -195,16 +196,16 @@ module _ (spare : Bool) (P : Problem) (s : State) where
 
 module _ (P : Problem) (s : State) where
   pub next-open : noneEmpty P s ≡ true → next P s ≡ first kindBound (nextOfKind P s)
-  next-open = next-by-open slideSpares P s
+  next-open = next-by-open inForce P s
 
   pub next-shut : noneEmpty P s ≡ false → next P s ≡ Nothing
-  next-shut = next-by-shut slideSpares P s
+  next-shut = next-by-shut inForce P s
 
   pub next-lawful : (r : Record) → next P s ≡ Step r → T (lawful P s r)
-  next-lawful = next-by-lawful slideSpares P s
+  next-lawful = next-by-lawful inForce P s
 
   pub next-complete : Fits P s → next P s ≡ Nothing → (r : Record) → T (lawful P s r) → ⊥
-  next-complete = next-by-complete slideSpares P s
+  next-complete = next-by-complete inForce P s
 
 -- ---- the run
 
@@ -213,66 +214,77 @@ not-nil : (t u : List Record) (r : Record) → [] ≡ t ++ (r ∷ u) → ⊥
 not-nil [] u r e = let z : _≡_ {A = ℕ} 0 1 = cc in omega arith
 not-nil (x ∷ t) u r e = let z : _≡_ {A = ℕ} 0 1 = cc in omega arith
 
-module _ (spare : Bool) (P : Problem) where
-  pub run-by-step : (f : ℕ) (s : State) (r : Record) → nextBy spare P s ≡ Step r → runFromBy spare (suc f) P s ≡ r ∷ runFromBy spare f P (after P s r)
+module _ (book : Rulebook) (P : Problem) where
+  pub run-by-step : (f : ℕ) (s : State) (r : Record) → nextBy book P s ≡ Step r → runFromBy book (suc f) P s ≡ r ∷ runFromBy book f P (after P s r)
   unfolding runFromBy
   run-by-step f s r e = rw (e, runFromBy)
 
-  pub run-by-stop : (f : ℕ) (s : State) → nextBy spare P s ≡ Nothing → runFromBy spare f P s ≡ []
+  pub run-by-stop : (f : ℕ) (s : State) → nextBy book P s ≡ Nothing → runFromBy book f P s ≡ []
   unfolding runFromBy
   run-by-stop zero s e = refl
   run-by-stop (suc f) s e = rw (e, runFromBy)
 
-  run-by-ends : (f : ℕ) (s : State) → Fits P s → liveCount P s < f → nextBy spare P (afterTrace P s (runFromBy spare f P s)) ≡ Nothing
+  run-by-ends : (f : ℕ) (s : State) → Fits P s → liveCount P s < f → nextBy book P (afterTrace P s (runFromBy book f P s)) ≡ Nothing
   unfolding runFromBy afterTrace
   run-by-ends zero s F h = absurd (not-suc-le-zero h)
-  run-by-ends (suc f) s F h = go (nextBy spare P s) refl (λ q. run-by-ends f q)
+  run-by-ends (suc f) s F h = go (nextBy book P s) refl (λ q. run-by-ends f q)
     where
-      go : (x : Next) → nextBy spare P s ≡ x → ((q : State) → Fits P q → liveCount P q < f → nextBy spare P (afterTrace P q (runFromBy spare f P q)) ≡ Nothing) → nextBy spare P (afterTrace P s (runFromBy spare (suc f) P s)) ≡ Nothing
+      go : (x : Next) → nextBy book P s ≡ x → ((q : State) → Fits P q → liveCount P q < f → nextBy book P (afterTrace P q (runFromBy book f P q)) ≡ Nothing) → nextBy book P (afterTrace P s (runFromBy book (suc f) P s)) ≡ Nothing
       go Nothing e ih = rw (run-by-stop (suc f) s e) e
-      go (Step r) e ih = rw (run-by-step f s r e) (ih (after P s r) (after-fits P F r) (omega (arith, step-by-falls spare P F r (next-by-lawful spare P s r e))))
+      go (Step r) e ih = rw (run-by-step f s r e) (ih (after P s r) (after-fits P F r) (omega (arith, step-by-falls book P F r (next-by-lawful book P s r e))))
 
-  run-by-next-from : (f : ℕ) (s : State) (t : List Record) (r : Record) (u : List Record) → runFromBy spare f P s ≡ t ++ (r ∷ u) → nextBy spare P (afterTrace P s t) ≡ Step r
+  run-by-next-from : (f : ℕ) (s : State) (t : List Record) (r : Record) (u : List Record) → runFromBy book f P s ≡ t ++ (r ∷ u) → nextBy book P (afterTrace P s t) ≡ Step r
   unfolding runFromBy afterTrace
   run-by-next-from zero s t r u e = absurd (not-nil t u r e)
-  run-by-next-from (suc f) s t r u e = go (nextBy spare P s) refl (λ q. run-by-next-from f q) t e
+  run-by-next-from (suc f) s t r u e = go (nextBy book P s) refl (λ q. run-by-next-from f q) t e
     where
-      go : (x : Next) → nextBy spare P s ≡ x → ((q : State) (t : List Record) (r : Record) (u : List Record) → runFromBy spare f P q ≡ t ++ (r ∷ u) → nextBy spare P (afterTrace P q t) ≡ Step r)
-          → (t : List Record) → runFromBy spare (suc f) P s ≡ t ++ (r ∷ u) → nextBy spare P (afterTrace P s t) ≡ Step r
+      go : (x : Next) → nextBy book P s ≡ x → ((q : State) (t : List Record) (r : Record) (u : List Record) → runFromBy book f P q ≡ t ++ (r ∷ u) → nextBy book P (afterTrace P q t) ≡ Step r)
+          → (t : List Record) → runFromBy book (suc f) P s ≡ t ++ (r ∷ u) → nextBy book P (afterTrace P s t) ≡ Step r
       go Nothing p ih t e = absurd (not-nil t u r (sym (run-by-stop (suc f) s p) ∙ e))
       go (Step x) p ih [] e = let z = sym (run-by-step f s x p) ∙ e in let same : x ≡ r = cc in p ∙ ap Step same
       go (Step x) p ih (y ∷ t) e =
           let z = sym (run-by-step f s x p) ∙ e in
           let same : x ≡ y = cc in
-          let rest : runFromBy spare f P (after P s x) ≡ t ++ (r ∷ u) = cc in
-          subst (λ (w : Record). nextBy spare P (afterTrace P (after P s w) t) ≡ Step r) same (ih (after P s x) t r u rest)
+          let rest : runFromBy book f P (after P s x) ≡ t ++ (r ∷ u) = cc in
+          subst (λ (w : Record). nextBy book P (afterTrace P (after P s w) t) ≡ Step r) same (ih (after P s x) t r u rest)
 
   -- every record of the run is the next step of the state that it was taken in
-  pub run-by-next : (s : State) (before : List Record) (r : Record) (rest : List Record) → runBy spare P s ≡ before ++ (r ∷ rest) → nextBy spare P (afterTrace P s before) ≡ Step r
+  pub run-by-next : (s : State) (before : List Record) (r : Record) (rest : List Record) → runBy book P s ≡ before ++ (r ∷ rest) → nextBy book P (afterTrace P s before) ≡ Step r
   unfolding runBy
   run-by-next s = run-by-next-from (suc (liveCount P s)) s
 
   -- the run stops only where no record of any kind with any fields is lawful
-  pub run-by-complete : {s : State} → Fits P s → (r : Record) → T (lawfulBy spare P (afterTrace P s (runBy spare P s)) r) → ⊥
+  pub run-by-complete : {s : State} → Fits P s → (r : Record) → T (lawfulBy book P (afterTrace P s (runBy book P s)) r) → ⊥
   unfolding runBy
-  run-by-complete {s} F = next-by-complete spare P (afterTrace P s (runBy spare P s)) (trace-fits P F (runBy spare P s)) (run-by-ends (suc (liveCount P s)) s F (omega arith))
+  run-by-complete {s} F = next-by-complete book P (afterTrace P s (runBy book P s)) (trace-fits P F (runBy book P s)) (run-by-ends (suc (liveCount P s)) s F (omega arith))
 
--- ---- by the rulebook in force
+  -- ---- by the rulebook in force
+
+  pub run-by-enough : (f g : ℕ) (s : State) → Fits P s → liveCount P s < f → liveCount P s < g → runFromBy book f P s ≡ runFromBy book g P s
+  run-by-enough zero g s F h k = absurd (not-suc-le-zero h)
+  run-by-enough (suc f) zero s F h k = absurd (not-suc-le-zero k)
+  run-by-enough (suc f) (suc g) s F h k = go (nextBy book P s) refl (λ q. run-by-enough f g q)
+    where
+      go : (x : Next) → nextBy book P s ≡ x → ((q : State) → Fits P q → liveCount P q < f → liveCount P q < g → runFromBy book f P q ≡ runFromBy book g P q) → runFromBy book (suc f) P s ≡ runFromBy book (suc g) P s
+      go Nothing e ih = run-by-stop (suc f) s e ∙ sym (run-by-stop (suc g) s e)
+      go (Step r) e ih =
+          let l = step-by-falls book P F r (next-by-lawful book P s r e) in
+          run-by-step f s r e ∙ ap (λ (t : List Record). r ∷ t) (ih (after P s r) (after-fits P F r) (omega arith) (omega arith)) ∙ sym (run-by-step g s r e)
 
 module _ (P : Problem) where
   pub run-step : (f : ℕ) (s : State) (r : Record) → next P s ≡ Step r → runFrom (suc f) P s ≡ r ∷ runFrom f P (after P s r)
-  run-step = run-by-step slideSpares P
+  run-step = run-by-step inForce P
 
   pub run-stop : (f : ℕ) (s : State) → next P s ≡ Nothing → runFrom f P s ≡ []
-  run-stop = run-by-stop slideSpares P
+  run-stop = run-by-stop inForce P
 
   -- every record of the run is the next step of the state that it was taken in
   pub run-next : (s : State) (before : List Record) (r : Record) (rest : List Record) → run P s ≡ before ++ (r ∷ rest) → next P (afterTrace P s before) ≡ Step r
-  run-next = run-by-next slideSpares P
+  run-next = run-by-next inForce P
 
   -- the run stops only where no record of any kind with any fields is lawful
   pub run-complete : {s : State} → Fits P s → (r : Record) → T (lawful P (afterTrace P s (run P s)) r) → ⊥
-  run-complete = run-by-complete slideSpares P
+  run-complete = run-by-complete inForce P
 
   runFrom-lawful : (f : ℕ) (s : State) → T (lawfulTrace P s (runFrom f P s))
   unfolding runFromBy lawfulTraceBy
@@ -285,15 +297,7 @@ module _ (P : Problem) where
 
   -- any number of steps that is large enough gives the same run
   pub run-enough : (f g : ℕ) (s : State) → Fits P s → liveCount P s < f → liveCount P s < g → runFrom f P s ≡ runFrom g P s
-  run-enough zero g s F h k = absurd (not-suc-le-zero h)
-  run-enough (suc f) zero s F h k = absurd (not-suc-le-zero k)
-  run-enough (suc f) (suc g) s F h k = go (next P s) refl (λ q. run-enough f g q)
-    where
-      go : (x : Next) → next P s ≡ x → ((q : State) → Fits P q → liveCount P q < f → liveCount P q < g → runFrom f P q ≡ runFrom g P q) → runFrom (suc f) P s ≡ runFrom (suc g) P s
-      go Nothing e ih = run-stop (suc f) s e ∙ sym (run-stop (suc g) s e)
-      go (Step r) e ih =
-          let l = step-falls P F r (next-lawful P s r e) in
-          run-step f s r e ∙ ap (λ (t : List Record). r ∷ t) (ih (after P s r) (after-fits P F r) (omega arith) (omega arith)) ∙ sym (run-step g s r e)
+  run-enough = run-by-enough inForce P
 
   -- every record of the run is lawful
   pub run-lawful : (s : State) → T (lawfulTrace P s (run P s))

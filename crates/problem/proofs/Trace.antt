@@ -9,6 +9,7 @@ use lib.Dec.{T}
 use lib.ListN.{length}
 use Rattle.bounded.proofs.Truth.{and-iff}
 use Rattle.problem.specs.Problem.{Problem, State, full, noneEmpty, slideSpares, remove, eliminate, liveCount, sizeSum}
+use Rattle.problem.specs.Rulebook.{Rulebook, inForce}
 use Rattle.problem.specs.Reduce.{holdsBy, holds, lawfulBy, lawful, after, lawfulTraceBy, lawfulTrace, afterTrace}
 use Rattle.problem.specs.Extend.{undo, undoTrace}
 use Rattle.problem.specs.declared.Record.{Record}
@@ -59,29 +60,29 @@ module _ (P : Problem) where
 
 -- ---- by either rulebook
 
-module _ (spare : Bool) (P : Problem) where
+module _ (book : Rulebook) (P : Problem) where
   -- "Each step uses up at least one setting that was on", where no item in is without one
-  holds-by-falls : {s : State} → Fits P s → NoneEmpty P s → (r : Record) → T (holdsBy spare P s r) → liveCount P (after P s r) < liveCount P s
+  holds-by-falls : {s : State} → Fits P s → NoneEmpty P s → (r : Record) → T (holdsBy book P s r) → liveCount P (after P s r) < liveCount P s
   unfolding after holdsBy
   holds-by-falls F e (Unsupported i b k) t = remove-falls P F i b (unsupported-iff F i b k .0 t .0)
   holds-by-falls F e (Snake i v) t = eliminate-falls P F i v (snake-iff F i v .0 t .0)
   holds-by-falls F e (Triangle i j) t = let x = e i (triangle-iff F i j .0 t .0) in eliminate-falls P F i (x .0) (x .1)
   holds-by-falls F e (Neighbourhood i b a) t = remove-falls P F i b (neighbourhood-iff F i b a .0 t .0)
-  holds-by-falls F e (SnakeSubstitution i b a) t = remove-falls P F i b (snakeSubstitution-iff F spare i b a .0 t .0)
+  holds-by-falls F e (SnakeSubstitution i b a) t = remove-falls P F i b (snakeSubstitution-iff F (book .spares) i b a .0 t .0)
 
-  pub lawful-by-iff : (s : State) (r : Record) → T (lawfulBy spare P s r) ↔ (T (noneEmpty P s) × T (holdsBy spare P s r))
+  pub lawful-by-iff : (s : State) (r : Record) → T (lawfulBy book P s r) ↔ (T (noneEmpty P s) × T (holdsBy book P s r))
   unfolding lawfulBy
-  lawful-by-iff s r = and-iff (noneEmpty P s) (holdsBy spare P s r)
+  lawful-by-iff s r = and-iff (noneEmpty P s) (holdsBy book P s r)
 
-  pub step-by-falls : {s : State} → Fits P s → (r : Record) → T (lawfulBy spare P s r) → liveCount P (after P s r) < liveCount P s
+  pub step-by-falls : {s : State} → Fits P s → (r : Record) → T (lawfulBy book P s r) → liveCount P (after P s r) < liveCount P s
   step-by-falls {s} F r t = let x = lawful-by-iff s r .0 t in holds-by-falls F (noneEmpty-iff F .0 (x .0)) r (x .1)
 
   pub trace-by-iff : (s : State) (r : Record) (t : List Record)
-      → T (lawfulTraceBy spare P s (r ∷ t)) ↔ (T (lawfulBy spare P s r) × T (lawfulTraceBy spare P (after P s r) t))
+      → T (lawfulTraceBy book P s (r ∷ t)) ↔ (T (lawfulBy book P s r) × T (lawfulTraceBy book P (after P s r) t))
   unfolding lawfulTraceBy
-  trace-by-iff s r t = go (lawfulBy spare P s r)
+  trace-by-iff s r t = go (lawfulBy book P s r)
     where
-      go : (b : Bool) → T (elim b as (λ x. Bool) [ true ↦ lawfulTraceBy spare P (after P s r) t | false ↦ false ]) ↔ (T b × T (lawfulTraceBy spare P (after P s r) t))
+      go : (b : Bool) → T (elim b as (λ x. Bool) [ true ↦ lawfulTraceBy book P (after P s r) t | false ↦ false ]) ↔ (T b × T (lawfulTraceBy book P (after P s r) t))
       go true = (λ h. (tt, h), λ h. h .1)
       go false = (λ h. absurd h, λ h. h .0)
 
@@ -89,15 +90,15 @@ module _ (spare : Bool) (P : Problem) where
 
 module _ (P : Problem) where
   pub lawful-iff : (s : State) (r : Record) → T (lawful P s r) ↔ (T (noneEmpty P s) × T (holds P s r))
-  lawful-iff = lawful-by-iff slideSpares P
+  lawful-iff = lawful-by-iff inForce P
 
   pub step-falls : {s : State} → Fits P s → (r : Record) → T (lawful P s r) → liveCount P (after P s r) < liveCount P s
-  step-falls = step-by-falls slideSpares P
+  step-falls = step-by-falls inForce P
 
   -- ---- a trace
 
   pub trace-iff : (s : State) (r : Record) (t : List Record) → T (lawfulTrace P s (r ∷ t)) ↔ (T (lawful P s r) × T (lawfulTrace P (after P s r) t))
-  trace-iff = trace-by-iff slideSpares P
+  trace-iff = trace-by-iff inForce P
 
   pub trace-fits : {s : State} → Fits P s → (t : List Record) → Fits P (afterTrace P s t)
   unfolding afterTrace

@@ -1,4 +1,5 @@
 pub mod Problem
+pub mod Rulebook
 pub mod Reduce
 pub mod Manual
 pub mod Extend

@@ -184,15 +184,14 @@ module _ (P : Problem) (s : State) where
         live = λ j w. s .live j w && (not (eqb j i) && anyLive i (λ c. P .allowed j w i c));
       }
 
--- ---- the rulebook, by the slide's word
+-- ---- the slide's word: kind 5 spares i, as the paper has it (Cooper, "Strengthening neighbourhood substitution"), or keeps it among the items
+-- where e covers d, as the rule of before did
 
--- the rulebook in force: the slide spares i, as the paper (Cooper, "Strengthening neighbourhood substitution") has it
 abbrev pub slideSpares : Bool
 slideSpares = true
 
--- the rulebook of before, whose slide does not. No job has it; it is here to be compared with.
-abbrev pub narrow : Bool
-narrow = false
+abbrev pub slideKeeps : Bool
+slideKeeps = false
 
 -- how many settings are on, and how many the problem lists
 unfoldable pub liveCount : Problem → State → ℕ

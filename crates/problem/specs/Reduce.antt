@@ -1,10 +1,11 @@
--- docs/FORMAT.md, "The run": records, lawful records and traces, the next step in the required order, the run and its end. What reads the
--- slide rule takes the rulebook's word, `spare`, and a name that ends in By; the name without it is the same under the rulebook in force.
+-- docs/FORMAT.md, "The run": records, lawful records and traces, the next step in the required order, the run and its end. What reads
+-- the slide rule takes a rulebook, and a name that ends in By; the name without it is the same under the rulebook in force.
 use mathlib.Core.Bool.{Bool, true, false, _&&_}
 use mathlib.Core.List.{List, [], _∷_}
 use Prim.Native.Nat.{ℕ, zero, suc}
 use Rattle.bounded.specs.Bounded.{anyBelow}
-use Rattle.problem.specs.Problem.{Problem, State, noneEmpty, unsupported, snake, triangle, neighbourhood, snakeSubstitution, slideSpares, firstBreak, coverAsked, remove, eliminate, liveCount}
+use Rattle.problem.specs.Problem.{Problem, State, noneEmpty, unsupported, snake, triangle, neighbourhood, snakeSubstitution, firstBreak, coverAsked, remove, eliminate, liveCount}
+use Rattle.problem.specs.Rulebook.{Rulebook, inForce}
 use Rattle.problem.specs.declared.Record.{Record}
 use Rattle.problem.specs.declared.Record.the-variants.{Unsupported, Snake, Triangle, Neighbourhood, SnakeSubstitution}
 use Rattle.problem.specs.declared.Break.{Break}
@@ -25,22 +26,22 @@ kindOf (Neighbourhood i b a) = 4
 kindOf (SnakeSubstitution i b a) = 5
 
 -- the rule of the record's kind holds for its fields
-unfoldable pub holdsBy : (spare : Bool) → Problem → State → Record → Bool
-holdsBy spare P s (Unsupported i b k) = unsupported P s i b k
-holdsBy spare P s (Snake i v) = snake P s i v
-holdsBy spare P s (Triangle i j) = triangle P s i j
-holdsBy spare P s (Neighbourhood i b a) = neighbourhood P s i b a
-holdsBy spare P s (SnakeSubstitution i b a) = snakeSubstitution P s spare i b a
+unfoldable pub holdsBy : (book : Rulebook) → Problem → State → Record → Bool
+holdsBy book P s (Unsupported i b k) = unsupported P s i b k
+holdsBy book P s (Snake i v) = snake P s i v
+holdsBy book P s (Triangle i j) = triangle P s i j
+holdsBy book P s (Neighbourhood i b a) = neighbourhood P s i b a
+holdsBy book P s (SnakeSubstitution i b a) = snakeSubstitution P s (book .spares) i b a
 
 -- "No step is taken once some item in has no setting on."
-unfoldable pub lawfulBy : (spare : Bool) → Problem → State → Record → Bool
-lawfulBy spare P s r = noneEmpty P s && holdsBy spare P s r
+unfoldable pub lawfulBy : (book : Rulebook) → Problem → State → Record → Bool
+lawfulBy book P s r = noneEmpty P s && holdsBy book P s r
 
 abbrev pub holds : Problem → State → Record → Bool
-holds = holdsBy slideSpares
+holds = holdsBy inForce
 
 abbrev pub lawful : Problem → State → Record → Bool
-lawful = lawfulBy slideSpares
+lawful = lawfulBy inForce
 
 -- what is named of a record that is not lawful: where its cover breaks, for a record of kind 4 that asks nothing else in vain, and nothing
 -- for every other cause
@@ -62,12 +63,12 @@ after P s (SnakeSubstitution i b a) = remove P s i b
 -- ---- a trace
 
 -- each record is lawful in the state reached
-unfoldable pub lawfulTraceBy : (spare : Bool) → Problem → State → List Record → Bool
-lawfulTraceBy spare P s [] = true
-lawfulTraceBy spare P s (r ∷ t) = elim (lawfulBy spare P s r) [ true ↦ lawfulTraceBy spare P (after P s r) t | false ↦ false ]
+unfoldable pub lawfulTraceBy : (book : Rulebook) → Problem → State → List Record → Bool
+lawfulTraceBy book P s [] = true
+lawfulTraceBy book P s (r ∷ t) = elim (lawfulBy book P s r) [ true ↦ lawfulTraceBy book P (after P s r) t | false ↦ false ]
 
 abbrev pub lawfulTrace : Problem → State → List Record → Bool
-lawfulTrace = lawfulTraceBy slideSpares
+lawfulTrace = lawfulTraceBy inForce
 
 -- the state that a trace leads to
 unfoldable pub afterTrace : Problem → State → List Record → State
@@ -109,11 +110,11 @@ module _ (P : Problem) (s : State) where
   unfoldable pub nextNeighbourhood : Next
   nextNeighbourhood = first (P .n) (λ i. first (P .size i) (λ b. first (P .size i) (λ a. stepIf (neighbourhood P s i b a) (Neighbourhood i b a))))
 
-module _ (spare : Bool) (P : Problem) (s : State) where
+module _ (book : Rulebook) (P : Problem) (s : State) where
   -- the lowest slide
   unfoldable pub nextSnakeSubstitutionBy : Next
   nextSnakeSubstitutionBy =
-      first (P .n) (λ i. first (P .size i) (λ b. first (P .size i) (λ a. stepIf (snakeSubstitution P s spare i b a) (SnakeSubstitution i b a))))
+      first (P .n) (λ i. first (P .size i) (λ b. first (P .size i) (λ a. stepIf (snakeSubstitution P s (book .spares) i b a) (SnakeSubstitution i b a))))
 
   -- the kinds in their order
   unfoldable pub nextOfKindBy : ℕ → Next
@@ -128,30 +129,30 @@ module _ (spare : Bool) (P : Problem) (s : State) where
   nextBy = elim (noneEmpty P s) [ true ↦ first kindBound nextOfKindBy | false ↦ Nothing ]
 
 abbrev pub nextSnakeSubstitution : Problem → State → Next
-nextSnakeSubstitution = nextSnakeSubstitutionBy slideSpares
+nextSnakeSubstitution = nextSnakeSubstitutionBy inForce
 
 abbrev pub nextOfKind : Problem → State → ℕ → Next
-nextOfKind = nextOfKindBy slideSpares
+nextOfKind = nextOfKindBy inForce
 
 abbrev pub next : Problem → State → Next
-next = nextBy slideSpares
+next = nextBy inForce
 
 -- ---- the run
 
 -- the records of at most f steps
-unfoldable pub runFromBy : (spare : Bool) → ℕ → Problem → State → List Record
-runFromBy spare zero P s = []
-runFromBy spare (suc f) P s = elim (nextBy spare P s) [ Nothing ↦ [] | Step r ↦ r ∷ runFromBy spare f P (after P s r) ]
+unfoldable pub runFromBy : (book : Rulebook) → ℕ → Problem → State → List Record
+runFromBy book zero P s = []
+runFromBy book (suc f) P s = elim (nextBy book P s) [ Nothing ↦ [] | Step r ↦ r ∷ runFromBy book f P (after P s r) ]
 
 -- the run from a state to its end. Each step uses up a setting that was on, so that as many steps as settings are on are enough.
-unfoldable pub runBy : (spare : Bool) → Problem → State → List Record
-runBy spare P s = runFromBy spare (suc (liveCount P s)) P s
+unfoldable pub runBy : (book : Rulebook) → Problem → State → List Record
+runBy book P s = runFromBy book (suc (liveCount P s)) P s
 
 abbrev pub runFrom : ℕ → Problem → State → List Record
-runFrom = runFromBy slideSpares
+runFrom = runFromBy inForce
 
 abbrev pub run : Problem → State → List Record
-run = runBy slideSpares
+run = runBy inForce
 
 -- "The end is impossible (an item in has no setting on), solved (no item in) or rest (items in, no rule holds)."
 unfoldable pub endOf : Problem → State → End

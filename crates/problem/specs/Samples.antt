@@ -8,7 +8,8 @@ use lib.Dec.{eqb, leb}
 use lib.ListN.{getD, length}
 use Rattle.bounded.specs.Mask.{bit}
 use Rattle.bounded.specs.Table.{tab}
-use Rattle.problem.specs.Problem.{Problem, State, bothWays, both-ways-symmetric, full, spoiler, narrow}
+use Rattle.problem.specs.Problem.{Problem, State, bothWays, both-ways-symmetric, full, spoiler}
+use Rattle.problem.specs.Rulebook.{beforeFour}
 use Rattle.problem.specs.Reduce.{brokenCover, lawfulTrace, lawfulTraceBy, afterTrace, run, runBy, endOf}
 use Rattle.problem.specs.Manual.{start, call}
 use Rattle.problem.specs.Extend.{undoTrace}
@@ -111,9 +112,9 @@ liveAt P s = tab (P .n) (λ i. passing (P .size i) 0 (s .live i))
 
 abbrev pub Meets : Problem → Claim → Type 0
 Meets P (Runs t e) = (run P (full P) ≡ t) × (endOf P (afterTrace P (full P) t) ≡ e)
-Meets P (RanBefore t) = runBy narrow P (full P) ≡ t
+Meets P (RanBefore t) = runBy beforeFour P (full P) ≡ t
 Meets P (Follows t b) = lawfulTrace P (full P) t ≡ b
-Meets P (FollowedBefore t b) = lawfulTraceBy narrow P (full P) t ≡ b
+Meets P (FollowedBefore t b) = lawfulTraceBy beforeFour P (full P) t ≡ b
 Meets P (Tests i a j b l x) = spoiler P (full P) i a j b l ≡ x
 Meets P (Broken t r x) = brokenCover P (afterTrace P (full P) t) r ≡ x
 Meets P (Plans t k) = solutionCount P (afterTrace P (full P) t) ≡ k

@@ -24,7 +24,7 @@ use Rattle.problem.proofs.Count.{full-count}
 use Rattle.problem.proofs.Run.{next-lawful, run-step, run-stop, run-enough}
 use Rattle.problem.proofs.Bridge.{masks-back}
 use Rattle.jobs.specs.Trace.{recordBytes, recordsBytes, traceBytes, fronted}
-use Rattle.jobs.specs.Run.{runDoneBy, runDone}
+use Rattle.jobs.specs.Run.{runDone}
 use Rattle.jobs.specs.declared.ReduceOutcome.the-variants.{Done}
 use Rattle.jobs.proofs.Worked.{trace-length}
 use Rattle.trace.specs.Written.{written, Small}
@@ -183,11 +183,11 @@ module _ (t d : List ℕ) where
 
       -- d₀ was in the buffer before the trace's first byte
       pub done-buffer : (d₀ : List ℕ) → d ≡ set d₀ 0 1 → b ≡ (runDone (held t) d₀) .buffer
-      unfolding runDoneBy
+      unfolding runDone
       done-buffer d₀ q = W .bytes ∙ (λ i. fronted (traceBytes (sym all-done i)) (q i)) ∙ fronted-first (run (held t) (full (held t))) d₀
 
       pub done-answer : (d₀ : List ℕ) → record { outcome = Done (endOf (held t) (stateOf m)) steps at; state = m } ≡ (runDone (held t) d₀) .answer
-      unfolding runDoneBy
+      unfolding runDone
       done-answer d₀ = λ i. record { outcome = Done (done-end i) (done-count i) (done-place i); state = done-state i }
 
 -- fields below 32 fit a byte

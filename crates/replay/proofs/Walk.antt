@@ -14,7 +14,7 @@ use Rattle.problem.specs.Masks.{masksOf}
 use Rattle.problem.specs.declared.Masks.{Masks}
 use Rattle.sheet.specs.Bytes.{byteAt}
 use Rattle.jobs.specs.Trace.{recordAt}
-use Rattle.jobs.specs.PutBack.{Checked, Lawful as Records, Fault as Faulty, unlawfulRecord, withRecord, checkFromBy, checkFrom, checkTraceBy, checkTrace}
+use Rattle.jobs.specs.PutBack.{Checked, Lawful as Records, Fault as Faulty, unlawfulRecord, withRecord, checkFrom, checkTrace}
 use Rattle.jobs.specs.declared.RecordRead.{RecordRead}
 use Rattle.jobs.specs.declared.RecordRead.the-variants as record·
 use Rattle.jobs.specs.declared.ExtendRefusal.{ExtendRefusal}
@@ -58,11 +58,11 @@ module _ (P : Problem) (t : List ℕ) where
 
   module _ (s : State) (k p : ℕ) where
     pub checked-end : recordAt t p ≡ record·.End → checkedFrom P t s k p ≡ Records []
-    unfolding checkedFrom checkFromBy
+    unfolding checkedFrom checkFrom
     checked-end e = ap (judged P s k (λ r q. checkFrom (length t - p) P t (after P s r) (k + 1) q)) e
 
     pub checked-malformed : recordAt t p ≡ record·.Malformed → checkedFrom P t s k p ≡ Faulty Malformed
-    unfolding checkedFrom checkFromBy
+    unfolding checkedFrom checkFrom
     checked-malformed e = ap (judged P s k (λ r q. checkFrom (length t - p) P t (after P s r) (k + 1) q)) e
 
     -- the fault where a record that stands here is not lawful
@@ -70,7 +70,7 @@ module _ (P : Problem) (t : List ℕ) where
     unlawful r = unlawfulRecord k (brokenCover P s r)
 
     checked-read : (r : Record) (q : ℕ) → recordAt t p ≡ record·.Read r q → checkedFrom P t s k p ≡ ruled (lawful P s r) r (checkedFrom P t (after P s r) (k + 1) q) (unlawful r)
-    unfolding checkedFrom checkFromBy
+    unfolding checkedFrom checkFrom
     checked-read r q e =
         let n = next-after t p r q e in
         ap (judged P s k (λ r q. checkFrom (length t - p) P t (after P s r) (k + 1) q)) e
@@ -96,22 +96,22 @@ module _ (P : Problem) (t : List ℕ) where
   checked-trace s k p ts e = records-iff P t (suc (length t - p)) s k p (omega arith) (Records ts) .0 e .1
 
   pub no-front : length t ≡ 0 → checkTrace P t ≡ Faulty TraceFront
-  unfolding checkTraceBy
+  unfolding checkTrace
   no-front e = ap (λ (b : Bool). fronted P t (b && eqb (byteAt t 0) 1)) (le-ltb 0 (length t) (omega arith))
 
   pub wrong-front : (length t ≡ 0 → ⊥) → (byteAt t 0 ≡ 1 → ⊥) → checkTrace P t ≡ Faulty TraceFront
-  unfolding checkTraceBy
+  unfolding checkTrace
   wrong-front n e = λ i. fronted P t (lt-ltb 0 (length t) (omega arith) i && ne-eqb (byteAt t 0) 1 e i)
 
   pub right-front : (length t ≡ 0 → ⊥) → byteAt t 0 ≡ 1 → checkTrace P t ≡ checkedFrom P t (full P) 0 1
-  unfolding checkTraceBy checkedFrom
+  unfolding checkTrace checkedFrom
   right-front n e =
       (λ i. fronted P t (lt-ltb 0 (length t) (omega arith) i && eq-eqb (byteAt t 0) 1 e i))
       ∙ check-fuel P t (suc (length t)) (suc (length t - 1)) (full P) 0 1 (omega arith) (omega arith)
 
   -- a lawful trace has its front
   pub front-lawful : (ts : List Record) → checkTrace P t ≡ Records ts → checkedFrom P t (full P) 0 1 ≡ Records ts
-  unfolding checkTraceBy checkedFrom
+  unfolding checkTrace checkedFrom
   front-lawful ts e = go (ltb 0 (length t) && eqb (byteAt t 0) 1) e
     where
       go : (b : Bool) → fronted P t b ≡ Records ts → checkFrom (suc (length t - 1)) P t (full P) 0 1 ≡ Records ts

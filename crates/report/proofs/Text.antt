@@ -24,7 +24,7 @@ use Rattle.sheet.specs.declared.SheetRead.the-variants as read
 use Rattle.sheet.proofs.Accepted.{keeps, problem-bounded}
 use Rattle.jobs.specs.Numbers.{reduceNumber}
 use Rattle.jobs.specs.Trace.{traceBytes, fronted}
-use Rattle.jobs.specs.Run.{RunResult, runDoneBy, runDone, runJob}
+use Rattle.jobs.specs.Run.{RunResult, runDone, runJob}
 use Rattle.jobs.specs.Print.{field, sheetWord, endWord, stepLines, refusedLine, runLines, sheetLines}
 use Rattle.jobs.specs.declared.Reduced.{Reduced}
 use Rattle.jobs.specs.declared.ReduceRefusal.{ReduceRefusal}
@@ -95,7 +95,7 @@ module _ (s b : List ℕ) (long : 2561 ≤ length b) where
     done-keeps e k n o = ran-iff s b (Done e k n) .0 (ap (λ (y : Reduced). y .outcome) (sym a) ∙ o) .0
 
     pub refused-text : (r : ReduceRefusal) → x .outcome ≡ Refused r → refusedLine (reduceNumber r) ≡ sheetLines s
-    unfolding runDoneBy
+    unfolding runDone
     refused-text r o = go (readSheet layout s) refl
       where
         go : (y : SheetRead) → readSheet layout s ≡ y → refusedLine (reduceNumber r) ≡ sheetLines s
@@ -108,7 +108,7 @@ module _ (s b : List ℕ) (long : 2561 ≤ length b) where
             ap (λ (y : ReduceRefusal). refusedLine (reduceNumber y)) z ∙ sym (refused-lines s t h)
 
     pub done-ran : (e : End) (k n : ℕ) → x .outcome ≡ Done e k n → (w : List ℕ) → w ≡ (runJob s b) .buffer → Ran (problemOf layout s) w e k (x .state)
-    unfolding runDoneBy
+    unfolding runDone
     done-ran e k n o w h =
         let K = done-keeps e k n o in
         let P = problemOf layout s in

@@ -22,7 +22,7 @@ use Rattle.problem.proofs.Trace.{trace-iff, trace-fits}
 use Rattle.problem.proofs.Spoiler.{CoverAlone, BreaksAt, names-iff}
 use Rattle.sheet.specs.Bytes.{byteAt}
 use Rattle.jobs.specs.Trace.{recordBytes, recordsBytes, traceBytes, recordAt}
-use Rattle.jobs.specs.PutBack.{Checked, Lawful, Fault, unnamed, unlawfulRecord, withRecord, checkFrom, checkTraceBy, checkTrace}
+use Rattle.jobs.specs.PutBack.{Checked, Lawful, Fault, unnamed, unlawfulRecord, withRecord, checkFrom, checkTrace}
 use Rattle.jobs.specs.declared.RecordRead.{RecordRead}
 use Rattle.jobs.specs.declared.RecordRead.the-variants.{Read, End, Malformed}
 use Rattle.jobs.specs.declared.ExtendRefusal.{ExtendRefusal}
@@ -39,7 +39,7 @@ NoRecord d = (d ≢ []) × ((r : Record) (more : List ℕ) → d ≡ recordBytes
 
 module _ (t : List ℕ) (p : ℕ) where
   -- the bytes of a record are read as that record
-  read-here : (r : Record) (more : List ℕ) → drop p t ≡ recordBytes r ++ more → (recordAt t p ≡ Read r (p + length (recordBytes r))) × (drop (p + length (recordBytes r)) t ≡ more)
+  pub read-here : (r : Record) (more : List ℕ) → drop p t ≡ recordBytes r ++ more → (recordAt t p ≡ Read r (p + length (recordBytes r))) × (drop (p + length (recordBytes r)) t ≡ more)
   read-here r more e = (
     subst (λ (k : ℕ). recordAt t k ≡ Read r (k + length (recordBytes r))) long
         (subst (λ (w : List ℕ). recordAt w (length (take p t)) ≡ Read r (length (take p t) + length (recordBytes r))) parts (record-back (take p t) more r)),
@@ -276,8 +276,8 @@ module _ (P : Problem) (t : List ℕ) where
 
   -- where byte 0 is 1 the records follow
   begun : (d : List ℕ) → t ≡ 1 ∷ d → checkTrace P t ≡ checkFrom (suc (length t)) P t (full P) 0 1
-  unfolding checkTraceBy
-  begun d e = rw (front, checkTraceBy)
+  unfolding checkTrace
+  begun d e = rw (front, checkTrace)
     where
       front : (ltb 0 (length t) && eqb (byteAt t 0) 1) ≡ true
       front = subst (λ (w : List ℕ). (ltb 0 (length w) && eqb (byteAt w 0) 1) ≡ true) (sym e) (simp (lt-ltb 0 (length (1 ∷ d)) (omega arith)))
@@ -291,8 +291,8 @@ module _ (P : Problem) (t : List ℕ) where
       )
 
   wrong-front : (ltb 0 (length t) && eqb (byteAt t 0) 1) ≡ false → checkTrace P t ≡ Fault refusal.TraceFront
-  unfolding checkTraceBy
-  wrong-front e = rw (e, checkTraceBy)
+  unfolding checkTrace
+  wrong-front e = rw (e, checkTrace)
 
   -- the causes of the records, of the whole trace
   of-records : (d : List ℕ) → t ≡ 1 ∷ d → (c : Checked) → RecordsCause P (full P) 0 d c → TraceCause c

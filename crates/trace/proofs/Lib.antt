@@ -6,4 +6,3 @@ pub mod Causes
 pub mod Place
 pub mod Steps
 pub mod Moves
-pub mod Wider

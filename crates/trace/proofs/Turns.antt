@@ -16,7 +16,7 @@ use Rattle.problem.specs.Reduce.{lawful, brokenCover, after}
 use Rattle.problem.specs.declared.Record.{Record}
 use Rattle.sheet.specs.Bytes.{byteAt}
 use Rattle.jobs.specs.Trace.{recordBytes, lengthByte, isKind, recordOf, isWhole, recordAt}
-use Rattle.jobs.specs.PutBack.{Lawful, Fault, unlawfulRecord, withRecord, checkFromBy, checkFrom}
+use Rattle.jobs.specs.PutBack.{Lawful, Fault, unlawfulRecord, withRecord, checkFrom}
 use Rattle.jobs.specs.declared.RecordRead.the-variants.{Read, End, Malformed}
 use Rattle.jobs.specs.declared.ExtendRefusal.the-variants as refusal
 use Rattle.trace.proofs.Read.{whole-parts, at-end, at-broken, at-whole}
@@ -25,20 +25,20 @@ use Rattle.trace.proofs.Read.{whole-parts, at-end, at-broken, at-whole}
 
 module _ (P : Problem) (w : List ℕ) where
   pub turn-end : (f : ℕ) (s : State) (k p : ℕ) → recordAt w p ≡ End → checkFrom (suc f) P w s k p ≡ Lawful []
-  unfolding checkFromBy
-  turn-end f s k p e = rw (e, checkFromBy)
+  unfolding checkFrom
+  turn-end f s k p e = rw (e, checkFrom)
 
   pub turn-malformed : (f : ℕ) (s : State) (k p : ℕ) → recordAt w p ≡ Malformed → checkFrom (suc f) P w s k p ≡ Fault refusal.Malformed
-  unfolding checkFromBy
-  turn-malformed f s k p e = rw (e, checkFromBy)
+  unfolding checkFrom
+  turn-malformed f s k p e = rw (e, checkFrom)
 
   pub turn-lawful : (f : ℕ) (s : State) (k p : ℕ) (r : Record) (q : ℕ) → recordAt w p ≡ Read r q → lawful P s r ≡ true → checkFrom (suc f) P w s k p ≡ withRecord r (checkFrom f P w (after P s r) (k + 1) q)
-  unfolding checkFromBy
-  turn-lawful f s k p r q e l = rw (e, l, checkFromBy)
+  unfolding checkFrom
+  turn-lawful f s k p r q e l = rw (e, l, checkFrom)
 
   pub turn-unlawful : (f : ℕ) (s : State) (k p : ℕ) (r : Record) (q : ℕ) → recordAt w p ≡ Read r q → lawful P s r ≡ false → checkFrom (suc f) P w s k p ≡ Fault (unlawfulRecord k (brokenCover P s r))
-  unfolding checkFromBy
-  turn-unlawful f s k p r q e l = rw (e, l, checkFromBy)
+  unfolding checkFrom
+  turn-unlawful f s k p r q e l = rw (e, l, checkFrom)
 
 -- ---- the bytes that a record is read from
 

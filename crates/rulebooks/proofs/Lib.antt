@@ -1,0 +1,3 @@
+pub mod Force
+pub mod Wider
+pub mod Samples
