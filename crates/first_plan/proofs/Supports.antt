@@ -2,61 +2,45 @@
 use mathlib.Core.Path.{_≡_, refl, sym, ap, subst, _∙_}
 use mathlib.Core.Bool.{true}
 use mathlib.Core.List.{List}
-use mathlib.Core.Logic.{_⊎_, inl, inr, _≢_, ⊎-elim}
+use mathlib.Core.Logic.{_⊎_, inl, inr, _≢_}
 use Prim.Native.Nat.{ℕ, _^_, _<_}
 use native.Mathlib.Omega.{arith}
-use lib.Bits.{bitAnd, bitOr}
+use lib.Bits.{bitAnd}
 use lib.Dec.{T}
 use lib.ListN.{length, getD, set, length-set}
 use lib.Seq.{getD-set-same, getD-set-other}
 use Rattle.bounded.specs.Mask.{bit, without}
-use Rattle.bounded.proofs.Truth.{T-of, T-not, T-dec, and-iff, or-iff, eq-dec, lt-dec}
-use Rattle.bounded.proofs.Mask.{bit-and, bit-or, bit-none, bit-high, bit-without16}
-use Rattle.bounded.proofs.Members.{Left, without-part, without-gone}
+use Rattle.bounded.proofs.Truth.{T-of, and-iff, eq-dec}
+use Rattle.bounded.proofs.Bounded.{any-iff}
+use Rattle.bounded.proofs.Mask.{bit-and, bit-mask, member-lt}
+use Rattle.bounded.proofs.Members.{Left, without-part}
 use Rattle.problem.specs.Problem.{Problem, State}
-use Rattle.problem.specs.Held.{held, rowWord, RowTable}
+use Rattle.problem.specs.Held.{held}
 use Rattle.problem.specs.Masks.{stateOf, sets}
 use Rattle.problem.specs.declared.Masks.{Masks}
 use Rattle.problem.specs.Sentences.{Active, Live, Allowed, Solution}
 use Rattle.held.specs.Ready.{Ready}
-use Rattle.held.proofs.Laws.{row-says}
+use Rattle.support.specs.Words.{supportedBy, partnersOf}
 use Rattle.first_plan.specs.Steps.{Supported, Narrowed, Emptied}
 
 -- ---- a union of rows
 
--- of the values `was` of j, x has all that are allowed with a value of the domain of i that is not in `rest`
-pub record Gathered (P : Problem) (was domain i j x rest : ℕ) : Type 0 where
-  pub within : (c : ℕ) → T (bit x c) → T (bit was c)
-  pub has : (c a : ℕ) → T (bit was c) → T (bit domain a) → (T (bit rest a) → ⊥) → Allowed P i a j c → T (bit x c)
+-- what a union of rows leaves of a set has all with a support
+pub union-supports : {P : Problem} {was domain i j r : ℕ} → was < 2 ^ 16 → domain < 2 ^ 16 → r ≡ bitAnd was (partnersOf P domain i j) → Supported P was domain i j r
+unfolding partnersOf
+union-supports {P} {was} {domain} {i} {j} {r} lw ld e =
+    record {
+      within = λ c h. parts c (subst (λ (x : ℕ). T (bit x c)) e h) .0;
+      keeps = λ c a w on h.
+          subst (λ (x : ℕ). T (bit x c)) (sym e) (subst T (sym (bit-and was union c)) (and-iff (bit was c) (bit union c) .1
+          (w, subst T (sym (bit-mask 16 _ c (member-lt 16 was c lw w))) (any-iff 16 (supportedBy P domain i j c) .1 (a, member-lt 16 domain a ld on, and-iff (bit domain a) (P .allowed i a j c) .1 (on, h))))));
+    }
+  where
+    union : ℕ
+    union = partnersOf P domain i j
 
-pub gather-none : (P : Problem) (was domain i j : ℕ) → Gathered P was domain i j 0 domain
-gather-none P was domain i j = record { within = λ c h. absurd (T-not (bit-none c) h); has = λ c a w on off h. absurd (off on) }
-
-module _ {t : List ℕ} (R : RowTable t) (was domain i j x rest : ℕ) where
-  pub gather-more : (a : ℕ) → domain < 2 ^ 16 → a < 16 → Gathered (held t) was domain i j x rest → Gathered (held t) was domain i j (bitOr x (bitAnd was (rowWord (held t) i j a))) (without 16 rest a)
-  gather-more a l k G =
-      record {
-        within = λ c h. ⊎-elim (λ o. G .within c o) (λ o. and-iff (bit was c) (bit row c) .0 (subst T (bit-and was row c) o) .0) (or-iff (bit x c) _ .0 (subst T (bit-or x _ c) h));
-        has = λ c b w on off h. subst T (sym (bit-or x _ c)) (or-iff (bit x c) _ .1 (go c b w on off h (T-dec (bit rest b))));
-      }
-    where
-      row : ℕ
-      row = rowWord (held t) i j a
-
-      small : (b : ℕ) → T (bit domain b) → b < 16
-      small b on = elim (lt-dec b 16) [ inl h ↦ h | inr h ↦ absurd (T-not (bit-high 16 domain b l h) on) ]
-
-      go : (c b : ℕ) → T (bit was c) → T (bit domain b) → (T (bit (without 16 rest a) b) → ⊥) → Allowed (held t) i b j c → T (bit rest b) ⊎ (T (bit rest b) → ⊥) → T (bit x c) ⊎ T (bit (bitAnd was row) c)
-      go c b w on off h (inr n) = inl (G .has c b w on n h)
-      go c b w on off h (inl y) =
-          let e : b ≡ a = without-gone 16 bit-without16 rest a k b (small b on) y off in
-          inr (subst T (sym (bit-and was row c)) (and-iff (bit was c) (bit row c) .1 (w, subst T (sym (row-says R i j a c)) (subst (λ (z : ℕ). Allowed (held t) i z j c) e h))))
-
-pub gathered : {P : Problem} {was domain i j x rest : ℕ} → rest ≡ 0 → Gathered P was domain i j x rest → Supported P was domain i j x
-gathered e G = record { within = G .within; keeps = λ c a w on h. G .has c a w on (λ y. T-not (ap (λ (z : ℕ). bit z a) e ∙ bit-none a) y) h }
-
-pub all-stay : (P : Problem) (was domain i j : ℕ) → Supported P was domain i j was
-all-stay P was domain i j = record { within = λ c h. h; keeps = λ c a w on h. w }
+    parts : (c : ℕ) → T (bit (bitAnd was union) c) → T (bit was c) × T (bit union c)
+    parts c h = and-iff (bit was c) (bit union c) .0 (subst T (bit-and was union c) h)
 
 -- ---- a state
 

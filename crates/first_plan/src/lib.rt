@@ -7,19 +7,19 @@ ghost use Prim.Native.Nat.{_<_};
 ghost use lib.ListN.{length};
 ghost use Rattle.bounded.specs.Mask.{bit};
 ghost use Rattle.problem.specs.Problem.{remove as removed};
-ghost use Rattle.problem.specs.Held.{held, RowTable};
+ghost use Rattle.problem.specs.Held.{held};
 ghost use Rattle.problem.specs.Masks.{stateOf, masksOf, sets};
 ghost use Rattle.problem.specs.Sentences.{Live};
-ghost use Rattle.held.specs.Ready.{Ready, Values};
+ghost use Rattle.held.specs.Ready.{Ready};
 ghost use Rattle.first_plan.specs.First.{firstPlan};
-ghost use Rattle.first_plan.specs.Steps.{answer, choose as chosen, Next, Supported, Sweeps, Opens};
+ghost use Rattle.first_plan.specs.Steps.{answer, choose as chosen, Next, Sweeps, Opens};
 use bounded::lowest16;
 use bounded::lowest32;
-use bounded::without16;
 use bounded::without32;
 use held::neighbours;
 use held::row_among;
 use problem::Masks;
+use support::partners;
 
 // Whether there is a plan, and the plan.
 pub struct Found {
@@ -81,24 +81,6 @@ fn choose(t: &[u16], m: Masks, i: usize, v: usize) -> Choice
 
 // ---- values that no solution has
 
-// Of the values `was` of j, those with a support in the domain of i. It stops where all have one.
-fn supported(t: &[u16], was: u16, domain: u16, i: usize, j: usize) -> u16
-    requires { ⌜ RowTable (now t) × Values (now t) j was × Values (now t) i domain × (i < 32) × (j < 32) × (j ≢ i) ⌝ }
-    ensures { λ r. ⌜ Supported (held (now (t .entry))) was domain i j r ⌝ }
-{
-    let mut x: u16 = 0;
-    let mut rest = domain;
-    while rest != 0 {
-        let a = lowest16(rest);
-        rest = without16(rest, a);
-        x = x | row_among(t, was, i, j, a);
-        if x == was {
-            return was;
-        }
-    }
-    x
-}
-
 // At every active neighbour of i, the values without a support at i go off, until a domain is empty. The neighbours say only where looking
 // for supports is worth it, so nothing rests on them.
 fn spread(t: &[u16], active: u32, on: &mut [u16; 32], i: usize) -> Swept
@@ -118,7 +100,7 @@ fn spread(t: &[u16], active: u32, on: &mut [u16; 32], i: usize) -> Swept
         let j = lowest32(rest);
         rest = without32(rest, j);
         let was = on[j];
-        let left = supported(t, was, domain, i, j);
+        let left = partners(t, was, domain, i, j);
         on[j] = left;
         if left == 0 {
             return Swept {

@@ -10,7 +10,7 @@ use Rattle.bounded.proofs.Members.{Left, left-all, left-next, left-lowest, left
 use Rattle.problem.specs.Masks.{stateOf, sets}
 use Rattle.held.proofs.Laws.{domain-values}
 use Rattle.first_plan.specs.Steps.{Narrowed}
-use Rattle.first_plan.proofs.Supports.{narrowed-same, swept, swept-empty, swept-active, emptied}
+use Rattle.first_plan.proofs.Supports.{union-supports, narrowed-same, swept, swept-empty, swept-active, emptied}
 use Rattle.first_plan.proofs.spread.Statement.{statement}
 use Rattle.first_plan.proofs.spread.Tie as tie
 
@@ -35,8 +35,8 @@ mul-was c = let l = left-lowest 32 bit-without32 (c .before .before .before .loo
 element-copy-out-was : tie.Need-element-copy-out-was Inv-loop μ-loop
 element-copy-out-was c = let l = left-lowest 32 bit-without32 (c .before .before .before .loop .inv .0) (c .before .before .loop-test .taken) (c .before .lowest32 .ensures) .0 in search needs
 
-supported-requires : tie.Need-supported-requires Inv-loop μ-loop
-supported-requires c κs =
+partners-requires : tie.Need-partners-requires Inv-loop μ-loop
+partners-requires c κs =
     let p = c .before .before .before .before .before .before .before .before .before .before .pre in
     let a = c .before .before .before .before .before .before .before .before .before .before .args in
     let w = c .before .before .before .before .loop in
@@ -58,9 +58,9 @@ returns-2 c =
     let l = left-lowest 32 bit-without32 (w .inv .0) (c .before .before .before .before .before .loop-test .taken) (c .before .before .before .before .lowest32 .ensures) in
     let e = c .before .before .before .before .before .before .before .before .without32 .ensures in
     let near = c .before .before .before .before .before .before .before .before .before .neighbours .result in
-    let lt : c .before .supported .result < 2 ^ 16 = search needs in
+    let lt : c .before .partners .result < 2 ^ 16 = search needs in
     record {
-      narrowed = swept (a .on .now) (w .inv .1) _ _ _ (p .2) (left-other 32 bit-without32 (bitAnd near (a .active)) (a .i) (w .inv .0) e (p .1) (l .0) (l .1)) (l .0) lt (c .before .supported .ensures);
+      narrowed = swept (a .on .now) (w .inv .1) _ _ _ (p .2) (left-other 32 bit-without32 (bitAnd near (a .active)) (a .i) (w .inv .0) e (p .1) (l .0) (l .1)) (l .0) lt (union-supports (domain-values (w .inv .1 .ready) _ (l .0) .small) (domain-values (p .0) _ (p .1) .small) (c .before .partners .ensures));
       dead = λ _. swept-empty (a .on .now) (w .inv .1) (a .i) _ _ (swept-active near (a .active) (a .i) _ (w .inv .0) e (l .1)) (l .0) (c .if2 .taken);
     }
 
@@ -78,8 +78,8 @@ loop-again c =
     let l = left-lowest 32 bit-without32 (w .inv .0) (c .before .before .before .before .before .before .loop-test .taken) (c .before .before .before .before .before .lowest32 .ensures) in
     let e = c .before .before .before .before .before .before .before .before .before .without32 .ensures in
     let near = c .before .before .before .before .before .before .before .before .before .before .neighbours .result in
-    let lt : c .before .before .supported .result < 2 ^ 16 = search needs in
-    (rw (c .before .before .before .before .without322 .ensures) (left-next _ (w .inv .0)), swept (a .on .now) (w .inv .1) _ _ _ (p .2) (left-other 32 bit-without32 (bitAnd near (a .active)) (a .i) (w .inv .0) e (p .1) (l .0) (l .1)) (l .0) lt (c .before .before .supported .ensures))
+    let lt : c .before .before .partners .result < 2 ^ 16 = search needs in
+    (rw (c .before .before .before .before .without322 .ensures) (left-next _ (w .inv .0)), swept (a .on .now) (w .inv .1) _ _ _ (p .2) (left-other 32 bit-without32 (bitAnd near (a .active)) (a .i) (w .inv .0) e (p .1) (l .0) (l .1)) (l .0) lt (union-supports (domain-values (w .inv .1 .ready) _ (l .0) .small) (domain-values (p .0) _ (p .1) .small) (c .before .before .partners .ensures)))
 
 returns-3 : tie.Need-returns-3 Inv-loop μ-loop
 returns-3 c = record { narrowed = c .before .loop .inv .1; dead = λ e. absurd (clash {b = false} e refl) }
@@ -98,7 +98,7 @@ spread-spec =
     without32-requires-2
     mul-was
     element-copy-out-was
-    supported-requires
+    partners-requires
     mul-on
     element-write-on
     returns-2
