@@ -15,7 +15,8 @@ use Rattle.problem.specs.declared.Record.{Record}
 use Rattle.problem.proofs.Reflect.{full-fits}
 use Rattle.problem.proofs.Count.{sizes-most}
 use Rattle.problem.proofs.Trace.{trace-fits, trace-short}
-use Rattle.problem.proofs.Spoiler.{CoverAlone, BreaksAt, named-listed}
+use Rattle.problem.proofs.Spoiler.{named-listed}
+use Rattle.problem.specs.Causes.{CoverAlone, BreaksAt}
 use Rattle.sheet.specs.Sheet.{layout, variablesOf, Keeps}
 use Rattle.sheet.specs.Relation.{problemOf}
 use Rattle.sheet.proofs.Accepted.{problem-bounded}

@@ -15,7 +15,8 @@ use Rattle.problem.specs.declared.Call.{Call}
 use Rattle.problem.specs.declared.Call.the-variants as outcome
 use Rattle.problem.specs.Sentences.{Active, Fits, NoneEmpty}
 use Rattle.problem.proofs.Bridge.{fits-iff}
-use Rattle.problem.proofs.OneCall.{Misfits, Named, SomeEmpty, LowestSnake, CallCause, call-iff}
+use Rattle.problem.proofs.OneCall.{call-iff}
+use Rattle.problem.specs.Causes.{Misfits, Named, SomeEmpty, LowestSnake, CallCause}
 use Rattle.sheet.specs.Sheet.{layout, Keeps}
 use Rattle.sheet.specs.Relation.{problemOf}
 use Rattle.sheet.proofs.Refusals.{sheet-number}

@@ -16,7 +16,8 @@ use Rattle.problem.specs.declared.Break.the-variants.{At, Nowhere}
 use Rattle.problem.specs.declared.Next.the-variants.{Step, Nothing}
 use Rattle.problem.proofs.Reflect.{neighbourhood-iff, snakeSubstitution-iff}
 use Rattle.problem.specs.Sentences.{Allowed, Fits}
-use Rattle.problem.proofs.Spoiler.{BreakSays, break-iff}
+use Rattle.problem.proofs.Spoiler.{break-iff}
+use Rattle.problem.specs.Causes.{BreakSays}
 use Rattle.problem.proofs.Trace.{trace-fits}
 use Rattle.problem.proofs.Run.{never, first-found, first-where, stepIf-found, neighbourhood-complete, next-by-open, next-by-shut, run-by-next}
 

@@ -15,6 +15,7 @@ use Rattle.problem.specs.declared.Call.{Call}
 use Rattle.problem.specs.declared.Call.the-variants.{Eliminated, Misfit, NotActive, Emptied, NoSnake}
 use Rattle.problem.proofs.Reflect.{fits-test, allActive-or, anyLive-iff, lowestLive-is, noneEmpty-iff, snake-iff}
 use Rattle.problem.specs.Sentences.{Active, Live, Fits, NoneEmpty}
+use Rattle.problem.specs.Causes.{Misfits, Named, SomeEmpty, LowestSnake, CallCause}
 
 -- ---- the tests, in their order
 
@@ -39,61 +40,35 @@ module _ (P : Problem) (s : State) (i : ℕ) where
   unfolding call
   call-done e f g h = rw (e, f, g, h, call)
 
--- ---- the causes, in the words of the table
+-- ---- the causes
 
 module _ (P : Problem) (s : State) where
-  -- 11: "an item in is not below n, an item out has a setting on, or a setting on is not below its size"
-  abbrev pub Misfits : Type 0
-  Misfits =
-      ((i : ℕ) × Active s i × (P .n ≤ i))
-      ⊎ (((i : ℕ) × (a : ℕ) × Live s i a × (Active s i → ⊥)) ⊎ ((i : ℕ) × (a : ℕ) × Live s i a × (P .size i ≤ a)))
-
-  -- the named item is below n and in
-  abbrev pub Named : ℕ → Type 0
-  Named i = (i < P .n) × Active s i
-
-  -- 13: "some item in has no setting on"
-  abbrev pub SomeEmpty : Type 0
-  SomeEmpty = (l : ℕ) × Active s l × ((c : ℕ) → Live s l c → ⊥)
-
-  -- the lowest value for which the snake rule holds
-  abbrev pub LowestSnake : (i v : ℕ) → Type 0
-  LowestSnake i v = T (snake P s i v) × ((w : ℕ) → w < v → T (snake P s i w) → ⊥)
-
-  -- why a call of item i answers as it does: each cause where no earlier one speaks
-  abbrev pub CallCause : ℕ → Call → Type 0
-  CallCause i Misfit = Misfits
-  CallCause i NotActive = Fits P s × ((P .n ≤ i) ⊎ (Active s i → ⊥))
-  CallCause i Emptied = Fits P s × Named i × SomeEmpty
-  CallCause i NoSnake = Fits P s × Named i × NoneEmpty P s × ((v : ℕ) → T (snake P s i v) → ⊥)
-  CallCause i (Eliminated v) = Fits P s × Named i × NoneEmpty P s × LowestSnake i v
-
-  misfits-found : (T (stateFits P s) → ⊥) → Misfits
+  misfits-found : (T (stateFits P s) → ⊥) → Misfits P s
   unfolding stateFits
   misfits-found h = go (all-or maxVariables (λ i. imp (s .active i) (ltb i (P .n)))) (all-or maxVariables (λ i. allBelow maxValues (λ a. imp (s .live i a) (s .active i && ltb a (P .size i)))))
     where
       above : (m n : ℕ) → (T (ltb m n) → ⊥) → n ≤ m
       above m n f = elim (lt-dec m n) [ inl l ↦ absurd (f (ltb-iff m n .1 l)) | inr l ↦ l ]
 
-      at : (i a : ℕ) → Live s i a → (T (s .active i && ltb a (P .size i)) → ⊥) → T (s .active i) ⊎ (T (s .active i) → ⊥) → Misfits
+      at : (i a : ℕ) → Live s i a → (T (s .active i && ltb a (P .size i)) → ⊥) → T (s .active i) ⊎ (T (s .active i) → ⊥) → Misfits P s
       at i a o f (inl t) = inr (inr (i, a, o, above a (P .size i) (λ l. f (and-iff (s .active i) (ltb a (P .size i)) .1 (t, l)))))
       at i a o f (inr n) = inr (inl (i, a, o, n))
 
       within : (i : ℕ) → T (allBelow maxValues (λ a. imp (s .live i a) (s .active i && ltb a (P .size i)))) ⊎ ((a : ℕ) × (a < maxValues) × (T (imp (s .live i a) (s .active i && ltb a (P .size i))) → ⊥))
-          → (T (allBelow maxValues (λ a. imp (s .live i a) (s .active i && ltb a (P .size i)))) → ⊥) → Misfits
+          → (T (allBelow maxValues (λ a. imp (s .live i a) (s .active i && ltb a (P .size i)))) → ⊥) → Misfits P s
       within i (inl t) f = absurd (f t)
       within i (inr x) f = let y = imp-fails (s .live i (x .0)) (s .active i && ltb (x .0) (P .size i)) (x .2) in at i (x .0) (y .0) (y .1) (T-dec (s .active i))
 
       go : T (allBelow maxVariables (λ i. imp (s .active i) (ltb i (P .n)))) ⊎ ((i : ℕ) × (i < maxVariables) × (T (imp (s .active i) (ltb i (P .n))) → ⊥))
           → T (allBelow maxVariables (λ i. allBelow maxValues (λ a. imp (s .live i a) (s .active i && ltb a (P .size i)))))
           ⊎ ((i : ℕ) × (i < maxVariables) × (T (allBelow maxValues (λ a. imp (s .live i a) (s .active i && ltb a (P .size i)))) → ⊥))
-          → Misfits
+          → Misfits P s
       go (inr x) q = let y = imp-fails (s .active (x .0)) (ltb (x .0) (P .n)) (x .2) in inl (x .0, y .0, above (x .0) (P .n) (y .1))
       go (inl t) (inl u) = absurd (h (and-iff (allBelow maxVariables (λ i. imp (s .active i) (ltb i (P .n)))) (allBelow maxVariables (λ i. allBelow maxValues (λ a. imp (s .live i a) (s .active i && ltb a (P .size i))))) .1 (t, u)))
       go (inl t) (inr x) = within (x .0) (all-or maxValues (λ a. imp (s .live (x .0) a) (s .active (x .0) && ltb a (P .size (x .0))))) (x .2)
 
   -- a state with such a fault does not fit
-  misfits-not : Misfits → Fits P s → ⊥
+  misfits-not : Misfits P s → Fits P s → ⊥
   misfits-not (inl x) F = let l = F .active-lt (x .0) (x .1) in let m = x .2 in omega arith
   misfits-not (inr (inl x)) F = x .3 (F .live-active (x .0) (x .1) (x .2))
   misfits-not (inr (inr x)) F = let l = F .live-lt (x .0) (x .1) (x .2) in let m = x .3 in omega arith

@@ -20,18 +20,9 @@ use Rattle.problem.specs.declared.Break.{Break}
 use Rattle.problem.specs.declared.Break.the-variants.{At, Nowhere}
 use Rattle.problem.proofs.Reflect.{spoils-iff, unspoilt-none, unspoilt-iff, neighbourhood-iff, noneEmpty-iff}
 use Rattle.problem.specs.Sentences.{Active, Live, Fits, Spoils, Substitutes, NoneEmpty}
-
--- c is the lowest number of which p is true
-abbrev pub Lowest : (ℕ → Type 0) → ℕ → Type 0
-Lowest p c = p c × ((d : ℕ) → d < c → p d → ⊥)
+use Rattle.problem.specs.Causes.{Lowest, SpoilerSays, Breaks, BreakSays, CoverAsked, CoverAlone, BreaksAt, Names}
 
 -- ---- the test's answer
-
-module _ (P : Problem) (s : State) where
-  -- what each answer says: "the lowest setting at l that spoils it, or that there is none", which is where a covers b
-  abbrev pub SpoilerSays : (i a j b l : ℕ) → Cover → Type 0
-  SpoilerSays i a j b l (Spoilt c) = Lowest (Spoils P s i a j b l) c
-  SpoilerSays i a j b l Holds = Substitutes P s i a j b l
 
 module _ {P : Problem} {s : State} (F : Fits P s) where
   -- The cover test answers so for this and for nothing else.
@@ -86,16 +77,6 @@ module _ (P : Problem) (s : State) where
 
 -- ---- where a cover breaks
 
-module _ (P : Problem) (s : State) where
-  -- l is another item, and a does not cover b there; both are settings of i
-  abbrev pub Breaks : (i b a l : ℕ) → Type 0
-  Breaks i b a l = Active s l × (l ≢ i × (Substitutes P s i a i b l → ⊥))
-
-  -- "the lowest item where the cover breaks and the lowest setting that spoils it there"
-  abbrev pub BreakSays : (i b a : ℕ) → Break → Type 0
-  BreakSays i b a (At l c) = Lowest (Breaks i b a) l × Lowest (Spoils P s i a i b l) c
-  BreakSays i b a Nowhere = (l : ℕ) → Active s l → l ≢ i → Substitutes P s i a i b l
-
 module _ {P : Problem} {s : State} (F : Fits P s) where
   pub breaks-iff : (i b a l : ℕ) → T (breaks P s i b a l) ↔ Breaks P s i b a l
   unfolding breaks
@@ -134,32 +115,6 @@ module _ {P : Problem} {s : State} (F : Fits P s) where
       )
 
 -- ---- what is named of a record that is not lawful
-
-module _ (P : Problem) (s : State) where
-  -- "i in, a and b different and on, and no item in left without a setting"
-  abbrev pub CoverAsked : (i b a : ℕ) → Type 0
-  CoverAsked i b a = Active s i × (a ≢ b × (Live s i a × (Live s i b × NoneEmpty P s)))
-
-  -- the record is of kind 4, and only its cover can be at fault
-  abbrev pub CoverAlone : Record → Type 0
-  CoverAlone (Neighbourhood i b a) = CoverAsked i b a
-  CoverAlone (Unsupported i b k) = ⊥
-  CoverAlone (Snake i v) = ⊥
-  CoverAlone (Triangle i j) = ⊥
-  CoverAlone (SnakeSubstitution i b a) = ⊥
-
-  -- l is "the lowest item where the cover breaks" and c "the lowest setting that spoils it there"
-  abbrev pub BreaksAt : Record → (l c : ℕ) → Type 0
-  BreaksAt (Neighbourhood i b a) l c = Lowest (Breaks P s i b a) l × Lowest (Spoils P s i a i b l) c
-  BreaksAt (Unsupported i b k) l c = ⊥
-  BreaksAt (Snake i v) l c = ⊥
-  BreaksAt (Triangle i j) l c = ⊥
-  BreaksAt (SnakeSubstitution i b a) l c = ⊥
-
-  -- where the cover breaks, of a record of which only the cover can be at fault; and nothing of any other
-  abbrev pub Names : Record → Break → Type 0
-  Names r (At l c) = CoverAlone r × BreaksAt r l c
-  Names r Nowhere = CoverAlone r → ⊥
 
 -- where the test passes, and where it fails
 module _ (P : Problem) (s : State) (i b a : ℕ) where

@@ -6,6 +6,7 @@ pub mod Extend
 pub mod Sentences
 pub mod Order
 pub mod Published
+pub mod Causes
 pub mod Masks
 pub mod Solutions
 pub mod Places

@@ -19,7 +19,8 @@ use Rattle.problem.specs.declared.Break.the-variants.{At, Nowhere}
 use Rattle.problem.proofs.Reflect.{full-fits}
 use Rattle.problem.specs.Sentences.{Fits}
 use Rattle.problem.proofs.Trace.{trace-iff, trace-fits}
-use Rattle.problem.proofs.Spoiler.{CoverAlone, BreaksAt, names-iff}
+use Rattle.problem.proofs.Spoiler.{names-iff}
+use Rattle.problem.specs.Causes.{CoverAlone, BreaksAt}
 use Rattle.sheet.specs.Bytes.{byteAt}
 use Rattle.jobs.specs.Trace.{recordBytes, recordsBytes, traceBytes, recordAt}
 use Rattle.jobs.specs.PutBack.{Checked, Lawful, Fault, unnamed, unlawfulRecord, withRecord, checkFrom, checkTrace}
