@@ -14,7 +14,8 @@ use Rattle.bounded.proofs.Truth.{T-true, clash}
 use Rattle.problem.specs.Problem.{Problem}
 use Rattle.problem.specs.Held.{Bounded}
 use Rattle.sheet.specs.Sheet.{layout, versionOf, variablesOf, sizeAt, Keeps}
-use Rattle.sheet.proofs.Versions.{Taken, taken-test}
+use Rattle.sheet.proofs.Versions.{taken-test}
+use Rattle.sheet.specs.Causes.{KnownVersion}
 use Rattle.jobs.proofs.Opened.{variables-of}
 use Rattle.compose.specs.Compose.{rowBars, pairBars, hasBlock, blockCount, blockBytes, blocksBytes, sheetBytes}
 use Rattle.compose.proofs.Rows.{has-block}
@@ -83,7 +84,7 @@ module _ (z : ℕ) (some : 1 ≤ z) (few : z ≤ 16) where
       go false e ih = rw (blocks-miss layout v (barring z) k x e, count-miss (barring z) k x e) ih
 
   -- 8 bytes in front, 32 sizes and 496 blocks of z rows
-  reached : (v : ℕ) → Taken v → blockCount (barring z) 1024 0 ≡ 496 → SheetOf v z (8 + 32 + 496 * (2 + z * layout .width v z))
+  reached : (v : ℕ) → KnownVersion v → blockCount (barring z) 1024 0 ≡ 496 → SheetOf v z (8 + 32 + 496 * (2 + z * layout .width v z))
   unfolding sheetBytes
   reached v t c =
       let taken = taken-test v t in
@@ -103,10 +104,10 @@ module _ (z : ℕ) (some : 1 ≤ z) (few : z ≤ 16) where
 
 -- "The longest sheet is 8 + 32 + 496 × 34 = 16,904 bytes. That is so in either version": no sheet is longer (`longest-sheet`), and this one is
 -- as long
-pub longest-reached : (v : ℕ) → Taken v → SheetOf v 16 16904
+pub longest-reached : (v : ℕ) → KnownVersion v → SheetOf v 16 16904
 longest-reached v t = subst (SheetOf v 16) (width t) (reached 16 (omega arith) (omega arith) v t sixteen)
   where
-    width : Taken v → _≡_ {A = ℕ} (8 + 32 + 496 * (2 + 16 * layout .width v 16)) 16904
+    width : KnownVersion v → _≡_ {A = ℕ} (8 + 32 + 496 * (2 + 16 * layout .width v 16)) 16904
     width (inl e) = rw e
     width (inr e) = rw e
 

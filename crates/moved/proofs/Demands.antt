@@ -15,7 +15,8 @@ use Rattle.sheet.specs.Relation.{rowsOf, problemOf}
 use Rattle.sheet.specs.declared.Rows.{Rows}
 use Rattle.sheet.specs.declared.Rows.the-variants.{At, Unconstrained}
 use Rattle.sheet.proofs.Accepted.{facts, problem-bounded}
-use Rattle.sheet.proofs.Versions.{Taken, both-versions, width-wide}
+use Rattle.sheet.proofs.Versions.{both-versions, width-wide}
+use Rattle.sheet.specs.Causes.{KnownVersion}
 use Rattle.jobs.proofs.Opened.{variables-of}
 use Rattle.compose.specs.Compose.{pairBars, hasBlock, sheetBytes}
 use Rattle.compose.proofs.Rows.{has-block}
@@ -102,7 +103,7 @@ module _ (s : List ℕ) (K : Keeps layout s) where
             go (At r) e h l b z = let m = wide (x / 32) (x % 32) r e in omega arith
             go Unconstrained e h l b z = absurd (clash b (free-none layout s K (x / 32) (x % 32) h l e))
 
-        two : Taken (versionOf s) → {z : ℕ} → 8 < z → layout .width (otherVersion (versionOf s)) z ≡ layout .width (versionOf s) z
+        two : KnownVersion (versionOf s) → {z : ℕ} → 8 < z → layout .width (otherVersion (versionOf s)) z ≡ layout .width (versionOf s) z
         two (inl e) {z} h = rw e (width-wide z h)
         two (inr e) {z} h = rw e (sym (width-wide z h))
 

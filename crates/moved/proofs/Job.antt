@@ -12,7 +12,8 @@ use Rattle.sheet.specs.Sheet.{layout, versionOf, readSheet, Keeps}
 use Rattle.sheet.specs.Relation.{problemOf}
 use Rattle.sheet.specs.declared.SheetRefusal.{SheetRefusal}
 use Rattle.sheet.specs.declared.SheetRead.the-variants as read
-use Rattle.sheet.proofs.Versions.{Taken, both-versions}
+use Rattle.sheet.proofs.Versions.{both-versions}
+use Rattle.sheet.specs.Causes.{KnownVersion}
 use Rattle.jobs.proofs.Opened.{sheet-refused, sheet-kept}
 use Rattle.compose.specs.Compose.{sheetBytes, SheetResult, sheetOver}
 use Rattle.compose.specs.declared.Composed.{Composed}
@@ -24,11 +25,11 @@ use Rattle.moved.specs.declared.Moved.{Moved}
 use Rattle.moved.specs.declared.Moved.the-variants.{Written, Refused}
 
 -- the other version is taken
-pub other-taken : (v : ℕ) → Taken v → layout .takes (otherVersion v) ≡ true
+pub other-taken : (v : ℕ) → KnownVersion v → layout .takes (otherVersion v) ≡ true
 other-taken v t = ⊎-elim (λ (e : v ≡ 1). rw e) (λ (e : v ≡ 2). rw e) t
 
 -- and the other of the other is the version itself
-pub other-twice : (v : ℕ) → Taken v → otherVersion (otherVersion v) ≡ v
+pub other-twice : (v : ℕ) → KnownVersion v → otherVersion (otherVersion v) ≡ v
 other-twice v t = ⊎-elim (λ (e : v ≡ 1). rw e) (λ (e : v ≡ 2). rw e) t
 
 -- ---- over a problem

@@ -23,7 +23,8 @@ use Rattle.sheet.specs.declared.Block.the-variants.{Next, Fault}
 use Rattle.sheet.specs.declared.SheetRead.{SheetRead}
 use Rattle.sheet.specs.declared.SheetRead.the-variants.{Accepted, Refused}
 use Rattle.sheet.proofs.Refusals.{sheet-number}
-use Rattle.sheet.proofs.Versions.{Taken, Untaken, taken-or, taken-test, untaken-test}
+use Rattle.sheet.proofs.Versions.{taken-or, taken-test, untaken-test}
+use Rattle.sheet.specs.Causes.{KnownVersion, UnknownVersion, InOrder, OutOfOrder, RowsWhole, PairCause, BlockCause, Reached, Stated, Counted, SizesGood, FaultAt, ReadCause}
 use Rattle.sheet.proofs.Laws.{good-sizes, good-rows, none-beyond, all-full, full-rows, in-order, block-order, block-cut, block-beyond, block-bars-nothing, block-next, block-missing, block-there, blocks-fault, blocks-next, blocks-over, blocks-end, sheet-short, sheet-version, sheet-length, sheet-none, sheet-many, sheet-sizes-missing, sheet-sizes, sheet-blocks}
 
 not-false-true : (b : Bool) → (b ≡ false → ⊥) → b ≡ true
@@ -92,52 +93,22 @@ module _ (s : List ℕ) where
 
   -- ---- one block
 
-  -- "i < j < n", and after the block before: least is one more than 32 i + j of that block
-  abbrev pub InOrder : (least i j : ℕ) → Type 0
-  InOrder least i j = (i < j) × (j < variablesOf s) × (least ≤ 32 * i + j)
-
-  abbrev pub OutOfOrder : (least i j : ℕ) → Type 0
-  OutOfOrder least i j = (j ≤ i) ⊎ ((variablesOf s ≤ j) ⊎ (32 * i + j < least))
-
-  -- the rows of the block at p are whole
-  abbrev pub RowsWhole : (p i j : ℕ) → Type 0
-  RowsWhole p i j = p + 2 + rowBytes layout s i j ≤ length s
-
-  -- why the block of i and j at p, whose item bytes are there, is judged so
-  abbrev pub PairCause : (least p i j : ℕ) → Block → Type 0
-  PairCause least p i j (Fault PairOrder) = OutOfOrder least i j
-  PairCause least p i j (Fault RowsCut) = InOrder least i j × (length s < p + 2 + rowBytes layout s i j)
-  PairCause least p i j (Fault RowBeyond) = InOrder least i j × (RowsWhole p i j × ((a : ℕ) × (a < sizeAt s i) × (2 ^ sizeAt s j ≤ rowIn layout s j (p + 2) a)))
-  PairCause least p i j (Fault BarsNothing) = InOrder least i j × (RowsWhole p i j × ((a : ℕ) → a < sizeAt s i → rowIn layout s j (p + 2) a + 1 ≡ 2 ^ sizeAt s j))
-  PairCause least p i j (Next l q) =
-      InOrder least i j
-      × (RowsWhole p i j
-      × (((a : ℕ) → a < sizeAt s i → rowIn layout s j (p + 2) a < 2 ^ sizeAt s j)
-      × (((a : ℕ) × (a < sizeAt s i) × (rowIn layout s j (p + 2) a + 1 ≢ 2 ^ sizeAt s j)) × ((l ≡ 32 * i + j + 1) × (q ≡ p + 2 + rowBytes layout s i j)))))
-  PairCause least p i j (Fault TooShort) = ⊥
-  PairCause least p i j (Fault Version) = ⊥
-  PairCause least p i j (Fault Length) = ⊥
-  PairCause least p i j (Fault Variables) = ⊥
-  PairCause least p i j (Fault Sizes) = ⊥
-  PairCause least p i j (Fault PairMissing) = ⊥
-  PairCause least p i j (Fault LeftOver) = ⊥
-
   module _ (least p i j : ℕ) where
-    ordered : InOrder least i j → inOrder layout s least i j ≡ true
+    ordered : InOrder s least i j → inOrder layout s least i j ≡ true
     ordered x = λ t. (lt-ltb i j (x .0) t && lt-ltb j (variablesOf s) (x .1) t) && le-leb least (32 * i + j) (x .2) t
 
-    unordered : OutOfOrder least i j → inOrder layout s least i j ≡ false
+    unordered : OutOfOrder s least i j → inOrder layout s least i j ≡ false
     unordered x = T-false _ (λ t. let o = in-order layout s least i j (T-true _ t) in go x (o .0) (o .1 .0) (o .1 .1))
       where
-        go : OutOfOrder least i j → i < j → j < variablesOf s → least ≤ 32 * i + j → ⊥
+        go : OutOfOrder s least i j → i < j → j < variablesOf s → least ≤ 32 * i + j → ⊥
         go (inl l) a b c = omega arith
         go (inr (inl l)) a b c = omega arith
         go (inr (inr l)) a b c = omega arith
 
-    order-or : InOrder least i j ⊎ OutOfOrder least i j
+    order-or : InOrder s least i j ⊎ OutOfOrder s least i j
     order-or = go (lt-dec i j) (lt-dec j (variablesOf s)) (lt-dec (32 * i + j) least)
       where
-        go : (i < j) ⊎ (j ≤ i) → (j < variablesOf s) ⊎ (variablesOf s ≤ j) → (32 * i + j < least) ⊎ (least ≤ 32 * i + j) → InOrder least i j ⊎ OutOfOrder least i j
+        go : (i < j) ⊎ (j ≤ i) → (j < variablesOf s) ⊎ (variablesOf s ≤ j) → (32 * i + j < least) ⊎ (least ≤ 32 * i + j) → InOrder s least i j ⊎ OutOfOrder s least i j
         go (inr a) b c = inr (inl a)
         go (inl a) (inr b) c = inr (inr (inl b))
         go (inl a) (inl b) (inl c) = inr (inr (inr c))
@@ -146,7 +117,7 @@ module _ (s : List ℕ) where
     none-over : ((a : ℕ) → a < sizeAt s i → rowIn layout s j (p + 2) a < 2 ^ sizeAt s j) → beyond layout s (rowWidth layout s j) (sizeAt s j) (sizeAt s i) (p + 2) ≡ false
     none-over h = none-beyond layout s (rowWidth layout s j) (sizeAt s j) (sizeAt s i) (p + 2) h
 
-    pair-answers : (b : Block) → PairCause least p i j b → blockOf layout s least p i j ≡ b
+    pair-answers : (b : Block) → PairCause s least p i j b → blockOf layout s least p i j ≡ b
     pair-answers (Fault PairOrder) x = block-order layout s least p i j (unordered x)
     pair-answers (Fault RowsCut) (o, h) = block-cut layout s least p i j (ordered o) h
     pair-answers (Fault RowBeyond) (o, (w, x)) =
@@ -166,54 +137,45 @@ module _ (s : List ℕ) where
     pair-answers (Fault PairMissing) x = absurd x
     pair-answers (Fault LeftOver) x = absurd x
 
-    some-pair : (b : Block) × PairCause least p i j b
+    some-pair : (b : Block) × PairCause s least p i j b
     some-pair = by-order order-or
       where
         Some : Type 0
-        Some = (b : Block) × PairCause least p i j b
+        Some = (b : Block) × PairCause s least p i j b
 
-        by-bars : InOrder least i j → RowsWhole p i j → beyond layout s (rowWidth layout s j) (sizeAt s j) (sizeAt s i) (p + 2) ≡ false
+        by-bars : InOrder s least i j → RowsWhole s p i j → beyond layout s (rowWidth layout s j) (sizeAt s j) (sizeAt s i) (p + 2) ≡ false
             → (allowsAll layout s (rowWidth layout s j) (sizeAt s j) (sizeAt s i) (p + 2) ≡ true) ⊎ (allowsAll layout s (rowWidth layout s j) (sizeAt s j) (sizeAt s i) (p + 2) ≡ false) → Some
         by-bars o w l (inl e) = (Fault BarsNothing, (o, (w, full-rows layout s (rowWidth layout s j) (sizeAt s j) (sizeAt s i) (p + 2) e)))
         by-bars o w l (inr e) =
             (Next (32 * i + j + 1) (p + 2 + rowBytes layout s i j), (o, (w, (good-rows layout s (rowWidth layout s j) (sizeAt s j) (sizeAt s i) (p + 2) l, (bar-found (rowWidth layout s j) (sizeAt s j) (sizeAt s i) (p + 2) e, (refl, refl))))))
 
-        by-beyond : InOrder least i j → RowsWhole p i j
+        by-beyond : InOrder s least i j → RowsWhole s p i j
             → (beyond layout s (rowWidth layout s j) (sizeAt s j) (sizeAt s i) (p + 2) ≡ true) ⊎ (beyond layout s (rowWidth layout s j) (sizeAt s j) (sizeAt s i) (p + 2) ≡ false) → Some
         by-beyond o w (inl e) = (Fault RowBeyond, (o, (w, beyond-found (rowWidth layout s j) (sizeAt s j) (sizeAt s i) (p + 2) e)))
         by-beyond o w (inr e) = by-bars o w e (split _)
 
-        by-rows : InOrder least i j → (length s < p + 2 + rowBytes layout s i j) ⊎ RowsWhole p i j → Some
+        by-rows : InOrder s least i j → (length s < p + 2 + rowBytes layout s i j) ⊎ RowsWhole s p i j → Some
         by-rows o (inl h) = (Fault RowsCut, (o, h))
         by-rows o (inr w) = by-beyond o w (split _)
 
-        by-order : InOrder least i j ⊎ OutOfOrder least i j → Some
+        by-order : InOrder s least i j ⊎ OutOfOrder s least i j → Some
         by-order (inr x) = (Fault PairOrder, x)
         by-order (inl o) = by-rows o (lt-dec _ _)
 
-  -- why the block at p is judged so: its item bytes first
-  abbrev pub BlockCause : (least p : ℕ) → Block → Type 0
-  BlockCause least p b = ((b ≡ Fault PairMissing) × (length s < p + 2)) ⊎ ((p + 2 ≤ length s) × PairCause least p (byteAt s p) (byteAt s (p + 1)) b)
-
-  block-answers : (least p : ℕ) (b : Block) → BlockCause least p b → blockAt layout s least p ≡ b
+  block-answers : (least p : ℕ) (b : Block) → BlockCause s least p b → blockAt layout s least p ≡ b
   block-answers least p b (inl x) = block-missing layout s least p (x .1) ∙ sym (x .0)
   block-answers least p b (inr x) = block-there layout s least p (x .0) ∙ pair-answers least p (byteAt s p) (byteAt s (p + 1)) b (x .1)
 
-  some-block : (least p : ℕ) → (b : Block) × BlockCause least p b
+  some-block : (least p : ℕ) → (b : Block) × BlockCause s least p b
   some-block least p = go (lt-dec (length s) (p + 2))
     where
-      go : (length s < p + 2) ⊎ (p + 2 ≤ length s) → (b : Block) × BlockCause least p b
+      go : (length s < p + 2) ⊎ (p + 2 ≤ length s) → (b : Block) × BlockCause s least p b
       go (inl h) = (Fault PairMissing, inl (refl, h))
       go (inr h) = let x = some-pair least p (byteAt s p) (byteAt s (p + 1)) in (x .0, inr (h, x .1))
 
   -- ---- the blocks in turn
 
-  -- k good blocks lead to the place p, where the next has a place in the order from least on
-  abbrev pub Reached : (k least p : ℕ) → Type 0
-  Reached zero least p = (least ≡ 0) × (p ≡ 8 + variablesOf s)
-  Reached (suc k) least p = (l : ℕ) × (q : ℕ) × Reached k l q × BlockCause l q (Next least p)
-
-  along : (k least p : ℕ) → Reached k least p → k ≤ blocksOf s → blocksFrom layout s (blocksOf s) 0 (8 + variablesOf s) ≡ blocksFrom layout s (blocksOf s - k) least p
+  along : (k least p : ℕ) → Reached s k least p → k ≤ blocksOf s → blocksFrom layout s (blocksOf s) 0 (8 + variablesOf s) ≡ blocksFrom layout s (blocksOf s - k) least p
   along zero least p (e, f) h = let q : blocksOf s ≡ blocksOf s - 0 = omega arith in (λ t. blocksFrom layout s (q t) (sym e t) (sym f t))
   along (suc k) least p (l, q, r, c) h =
       let e : blocksOf s - k - 1 ≡ blocksOf s - suc k = omega arith in
@@ -222,64 +184,27 @@ module _ (s : List ℕ) where
 
   -- ---- the sheet
 
-  -- the rows of the front, passed
-  abbrev pub Stated : Type 0
-  Stated = (8 ≤ length s) × Taken (versionOf s) × (lengthOf s ≡ length s)
-
-  abbrev pub Counted : Type 0
-  Counted = Stated × ((1 ≤ variablesOf s) × (variablesOf s ≤ 32))
-
-  abbrev pub SizesGood : Type 0
-  SizesGood = Counted × ((8 + variablesOf s ≤ length s) × ((i : ℕ) → i < variablesOf s → (1 ≤ sizeAt s i) × (sizeAt s i ≤ 16)))
-
-  -- the first faulty block: k good ones stand before it
-  abbrev pub FaultAt : SheetRefusal → Type 0
-  FaultAt r = SizesGood × ((k : ℕ) × (least : ℕ) × (p : ℕ) × (k < blocksOf s) × Reached k least p × BlockCause least p (Fault r))
-
-  -- Why reading a sheet answers as it does.
-  abbrev pub ReadCause : SheetRead → Type 0
-  -- 1: "fewer than 8 bytes"
-  ReadCause (Refused TooShort) = length s < 8
-  -- 2: "byte 0 is neither 1 nor 2"
-  ReadCause (Refused Version) = (8 ≤ length s) × Untaken (versionOf s)
-  -- 3: "stated length is not the length lent"
-  ReadCause (Refused Length) = (8 ≤ length s) × Taken (versionOf s) × (lengthOf s ≢ length s)
-  -- 4: "n is 0 or above 32"
-  ReadCause (Refused Variables) = Stated × ((variablesOf s ≡ 0) ⊎ (32 < variablesOf s))
-  -- 5: "a size is missing, 0 or above 16"
-  ReadCause (Refused Sizes) = Counted × ((length s < 8 + variablesOf s) ⊎ ((i : ℕ) × (i < variablesOf s) × ((sizeAt s i ≡ 0) ⊎ (16 < sizeAt s i))))
-  -- 6, 7, 6, 8 and 9: each block in turn
-  ReadCause (Refused PairMissing) = FaultAt PairMissing
-  ReadCause (Refused PairOrder) = FaultAt PairOrder
-  ReadCause (Refused RowsCut) = FaultAt RowsCut
-  ReadCause (Refused RowBeyond) = FaultAt RowBeyond
-  ReadCause (Refused BarsNothing) = FaultAt BarsNothing
-  -- 6: "bytes left over" after the last block
-  ReadCause (Refused LeftOver) = SizesGood × ((least : ℕ) × (p : ℕ) × Reached (blocksOf s) least p × (p ≢ length s))
-  -- accepted: every block is good, and the sheet ends with the last
-  ReadCause (Accepted n m) = SizesGood × (((least : ℕ) × (p : ℕ) × Reached (blocksOf s) least p × (p ≡ length s)) × ((n ≡ variablesOf s) × (m ≡ blocksOf s)))
-
   -- a good size is not a bad one
   size-good : (i : ℕ) → (1 ≤ sizeAt s i) × (sizeAt s i ≤ 16) → (sizeAt s i ≡ 0) ⊎ (16 < sizeAt s i) → ⊥
   size-good i g (inl e) = let a = g .0 in omega arith
   size-good i g (inr l) = let b = g .1 in omega arith
 
-  versioned : Taken (versionOf s) → layout .takes (versionOf s) ≡ true
+  versioned : KnownVersion (versionOf s) → layout .takes (versionOf s) ≡ true
   versioned = taken-test (versionOf s)
 
-  opened : SizesGood → readSheet layout s ≡ blocksFrom layout s (blocksOf s) 0 (8 + variablesOf s)
+  opened : SizesGood s → readSheet layout s ≡ blocksFrom layout s (blocksOf s) 0 (8 + variablesOf s)
   opened (((h1, h2, h3), (one, few)), (room, sizes)) =
       sheet-blocks layout s h1 (versioned h2) h3 one few room
       (T-false _ (λ t. let x = size-found (variablesOf s) 8 (T-true _ t) in size-good (x .0) (sizes (x .0) (x .1)) (x .2)))
 
-  fault-answers : (r : SheetRefusal) → FaultAt r → readSheet layout s ≡ Refused r
+  fault-answers : (r : SheetRefusal) → FaultAt s r → readSheet layout s ≡ Refused r
   fault-answers r (Z, (k, least, p, l, R, c)) =
       opened Z ∙ along k least p R (omega arith) ∙ blocks-fault layout s (blocksOf s - k) least p (omega arith) r (block-answers least p (Fault r) c)
 
-  to-the-end : (least p : ℕ) → Reached (blocksOf s) least p → blocksFrom layout s (blocksOf s) 0 (8 + variablesOf s) ≡ blocksFrom layout s 0 least p
+  to-the-end : (least p : ℕ) → Reached s (blocksOf s) least p → blocksFrom layout s (blocksOf s) 0 (8 + variablesOf s) ≡ blocksFrom layout s 0 least p
   to-the-end least p R = let e : blocksOf s - blocksOf s ≡ 0 = omega arith in along (blocksOf s) least p R (omega arith) ∙ ap (λ (x : ℕ). blocksFrom layout s x least p) e
 
-  cause-answers : (x : SheetRead) → ReadCause x → readSheet layout s ≡ x
+  cause-answers : (x : SheetRead) → ReadCause s x → readSheet layout s ≡ x
   cause-answers (Refused TooShort) h = sheet-short layout s h
   cause-answers (Refused Version) (h1, d) = sheet-version layout s h1 (untaken-test (versionOf s) d)
   cause-answers (Refused Length) (h1, h2, d) = sheet-length layout s h1 (versioned h2) d
@@ -301,11 +226,11 @@ module _ (s : List ℕ) where
   cause-answers (Accepted n m) (Z, ((least, p, R, e), (en, em))) = opened Z ∙ to-the-end least p R ∙ blocks-end layout s least p e ∙ (λ t. Accepted (sym en t) (sym em t))
 
   -- a fault that no block has
-  no-such : (least p : ℕ) (r : SheetRefusal) → (Fault r ≡ Fault PairMissing → ⊥) → (PairCause least p (byteAt s p) (byteAt s (p + 1)) (Fault r) → ⊥) → BlockCause least p (Fault r) → ⊥
+  no-such : (least p : ℕ) (r : SheetRefusal) → (Fault r ≡ Fault PairMissing → ⊥) → (PairCause s least p (byteAt s p) (byteAt s (p + 1)) (Fault r) → ⊥) → BlockCause s least p (Fault r) → ⊥
   no-such least p r n c (inl x) = n (x .0)
   no-such least p r n c (inr x) = c (x .1)
 
-  block-fault : (r : SheetRefusal) → FaultAt r → (x : SheetRead) × ReadCause x
+  block-fault : (r : SheetRefusal) → FaultAt s r → (x : SheetRead) × ReadCause s x
   block-fault PairMissing x = (Refused PairMissing, x)
   block-fault PairOrder x = (Refused PairOrder, x)
   block-fault RowsCut x = (Refused RowsCut, x)
@@ -319,45 +244,45 @@ module _ (s : List ℕ) where
   block-fault LeftOver (Z, (k, least, p, l, R, c)) = absurd (no-such least p LeftOver (λ e. let z : _≡_ {A = ℕ} 0 1 = cc in omega arith) (λ x. x) c)
 
   -- the blocks in turn, m of them left after k good ones
-  walk : SizesGood → (m k least p : ℕ) → k + m ≡ blocksOf s → Reached k least p → (x : SheetRead) × ReadCause x
+  walk : SizesGood s → (m k least p : ℕ) → k + m ≡ blocksOf s → Reached s k least p → (x : SheetRead) × ReadCause s x
   walk Z zero k least p e R =
       let q : k ≡ blocksOf s = omega arith in
-      let E = subst (λ (x : ℕ). Reached x least p) q R in
+      let E = subst (λ (x : ℕ). Reached s x least p) q R in
       elim (eq-dec p (length s)) [ inl f ↦ (Accepted (variablesOf s) (blocksOf s), (Z, ((least, p, E, f), (refl, refl)))) | inr d ↦ (Refused LeftOver, (Z, (least, p, E, d))) ]
   walk Z (suc m) k least p e R = go (some-block least p .0) (some-block least p .1) (walk Z m (suc k))
     where
-      go : (b : Block) → BlockCause least p b → ((l q : ℕ) → suc k + m ≡ blocksOf s → Reached (suc k) l q → (x : SheetRead) × ReadCause x) → (x : SheetRead) × ReadCause x
+      go : (b : Block) → BlockCause s least p b → ((l q : ℕ) → suc k + m ≡ blocksOf s → Reached s (suc k) l q → (x : SheetRead) × ReadCause s x) → (x : SheetRead) × ReadCause s x
       go (Fault r) c ih = block-fault r (Z, (k, least, p, omega arith, R, c))
       go (Next l q) c ih = ih l q (omega arith) (least, p, R, c)
 
-  some-cause : (x : SheetRead) × ReadCause x
+  some-cause : (x : SheetRead) × ReadCause s x
   some-cause = by-eight (lt-dec (length s) 8)
     where
-      by-sizes : Counted → (length s < 8 + variablesOf s) ⊎ (8 + variablesOf s ≤ length s) → (badSizes layout s (variablesOf s) 8 ≡ true) ⊎ (badSizes layout s (variablesOf s) 8 ≡ false) → (x : SheetRead) × ReadCause x
+      by-sizes : Counted s → (length s < 8 + variablesOf s) ⊎ (8 + variablesOf s ≤ length s) → (badSizes layout s (variablesOf s) 8 ≡ true) ⊎ (badSizes layout s (variablesOf s) 8 ≡ false) → (x : SheetRead) × ReadCause s x
       by-sizes C (inl h) b = (Refused Sizes, (C, inl h))
       by-sizes C (inr h) (inl b) = (Refused Sizes, (C, inr (size-found (variablesOf s) 8 b)))
       by-sizes C (inr h) (inr b) = walk (C, (h, good-sizes layout s (variablesOf s) 8 b)) (blocksOf s) 0 0 (8 + variablesOf s) (omega arith) (refl, refl)
 
-      by-count : Stated → (variablesOf s ≡ 0) ⊎ (variablesOf s ≢ 0) → (32 < variablesOf s) ⊎ (variablesOf s ≤ 32) → (x : SheetRead) × ReadCause x
+      by-count : Stated s → (variablesOf s ≡ 0) ⊎ (variablesOf s ≢ 0) → (32 < variablesOf s) ⊎ (variablesOf s ≤ 32) → (x : SheetRead) × ReadCause s x
       by-count S (inl z) m = (Refused Variables, (S, inl z))
       by-count S (inr d) (inl m) = (Refused Variables, (S, inr m))
       by-count S (inr d) (inr m) = by-sizes (S, (omega arith, m)) (lt-dec _ _) (split _)
 
-      by-length : 8 ≤ length s → Taken (versionOf s) → (lengthOf s ≡ length s) ⊎ (lengthOf s ≢ length s) → (x : SheetRead) × ReadCause x
+      by-length : 8 ≤ length s → KnownVersion (versionOf s) → (lengthOf s ≡ length s) ⊎ (lengthOf s ≢ length s) → (x : SheetRead) × ReadCause s x
       by-length h v (inl e) = by-count (h, v, e) (eq-dec _ _) (lt-dec _ _)
       by-length h v (inr d) = (Refused Length, (h, v, d))
 
-      by-version : 8 ≤ length s → Taken (versionOf s) ⊎ Untaken (versionOf s) → (x : SheetRead) × ReadCause x
+      by-version : 8 ≤ length s → KnownVersion (versionOf s) ⊎ UnknownVersion (versionOf s) → (x : SheetRead) × ReadCause s x
       by-version h (inl v) = by-length h v (eq-dec _ _)
       by-version h (inr d) = (Refused Version, (h, d))
 
-      by-eight : (length s < 8) ⊎ (8 ≤ length s) → (x : SheetRead) × ReadCause x
+      by-eight : (length s < 8) ⊎ (8 ≤ length s) → (x : SheetRead) × ReadCause s x
       by-eight (inl h) = (Refused TooShort, h)
       by-eight (inr h) = by-version h (taken-or (versionOf s))
 
   -- Reading a sheet answers as it does for its cause and for no other.
-  pub read-iff : (x : SheetRead) → (readSheet layout s ≡ x) ↔ ReadCause x
-  read-iff = cause-iff (readSheet layout s) ReadCause cause-answers some-cause
+  pub read-iff : (x : SheetRead) → (readSheet layout s ≡ x) ↔ ReadCause s x
+  read-iff = cause-iff (readSheet layout s) (ReadCause s) cause-answers some-cause
 
   -- ---- the numbers
 
@@ -388,19 +313,19 @@ module _ (s : List ℕ) where
   number-back (Refused LeftOver) z h = absurd (h refl)
 
   -- each number but 6 has one cause
-  pub read-number : (r : SheetRefusal) → sheetNumber r ≢ 6 → (readingNumber (readSheet layout s) ≡ sheetNumber r) ↔ ReadCause (Refused r)
+  pub read-number : (r : SheetRefusal) → sheetNumber r ≢ 6 → (readingNumber (readSheet layout s) ≡ sheetNumber r) ↔ ReadCause s (Refused r)
   read-number r h =
-      number-iff (readSheet layout s) ReadCause read-iff readingNumber numbered (λ k. (k ≢ 0) × (k ≢ 6)) (λ x n. number-back x (n .0) (n .1)) (Refused r)
+      number-iff (readSheet layout s) (ReadCause s) read-iff readingNumber numbered (λ k. (k ≢ 0) × (k ≢ 6)) (λ x n. number-back x (n .0) (n .1)) (Refused r)
       (λ z. let l = sheet-number r in omega arith, h)
 
   -- 6 has three
-  pub read-6 : (readingNumber (readSheet layout s) ≡ 6) ↔ (ReadCause (Refused PairMissing) ⊎ (ReadCause (Refused RowsCut) ⊎ ReadCause (Refused LeftOver)))
+  pub read-6 : (readingNumber (readSheet layout s) ≡ 6) ↔ (ReadCause s (Refused PairMissing) ⊎ (ReadCause s (Refused RowsCut) ⊎ ReadCause s (Refused LeftOver)))
   read-6 = (λ e. go (readSheet layout s) refl e, back)
     where
       Causes : Type 0
-      Causes = ReadCause (Refused PairMissing) ⊎ (ReadCause (Refused RowsCut) ⊎ ReadCause (Refused LeftOver))
+      Causes = ReadCause s (Refused PairMissing) ⊎ (ReadCause s (Refused RowsCut) ⊎ ReadCause s (Refused LeftOver))
 
-      back : ReadCause (Refused PairMissing) ⊎ (ReadCause (Refused RowsCut) ⊎ ReadCause (Refused LeftOver)) → readingNumber (readSheet layout s) ≡ 6
+      back : ReadCause s (Refused PairMissing) ⊎ (ReadCause s (Refused RowsCut) ⊎ ReadCause s (Refused LeftOver)) → readingNumber (readSheet layout s) ≡ 6
       back (inl x) = ap readingNumber (read-iff (Refused PairMissing) .1 x)
       back (inr (inl x)) = ap readingNumber (read-iff (Refused RowsCut) .1 x)
       back (inr (inr x)) = ap readingNumber (read-iff (Refused LeftOver) .1 x)

@@ -9,40 +9,33 @@ use lib.ListN.{length}
 use borrow.Author.Tests.{ne-eqb, le-leb, lt-leb}
 use Rattle.bounded.proofs.Truth.{clash, eq-dec}
 use Rattle.sheet.specs.Sheet.{layout, versionOf, variablesOf, sizeAt, rowWidth, Keeps}
+use Rattle.sheet.specs.Causes.{KnownVersion, UnknownVersion}
 use Rattle.sheet.proofs.Accepted.{facts, longest-of}
 
--- "version, 1 or 2"
-abbrev pub Taken : ℕ → Type 0
-Taken v = (v ≡ 1) ⊎ (v ≡ 2)
-
--- "byte 0 is neither 1 nor 2"
-abbrev pub Untaken : ℕ → Type 0
-Untaken v = (v ≢ 1) × (v ≢ 2)
-
-pub taken-or : (v : ℕ) → Taken v ⊎ Untaken v
+pub taken-or : (v : ℕ) → KnownVersion v ⊎ UnknownVersion v
 taken-or v = go (eq-dec v 1) (eq-dec v 2)
   where
-    go : (v ≡ 1) ⊎ (v ≢ 1) → (v ≡ 2) ⊎ (v ≢ 2) → Taken v ⊎ Untaken v
+    go : (v ≡ 1) ⊎ (v ≢ 1) → (v ≡ 2) ⊎ (v ≢ 2) → KnownVersion v ⊎ UnknownVersion v
     go (inl e) y = inl (inl e)
     go (inr d) (inl e) = inl (inr e)
     go (inr d) (inr c) = inr (d, c)
 
-pub taken-test : (v : ℕ) → Taken v → layout .takes v ≡ true
+pub taken-test : (v : ℕ) → KnownVersion v → layout .takes v ≡ true
 taken-test v (inl e) = rw e
 taken-test v (inr e) = rw e
 
-pub untaken-test : (v : ℕ) → Untaken v → layout .takes v ≡ false
+pub untaken-test : (v : ℕ) → UnknownVersion v → layout .takes v ≡ false
 untaken-test v (d, c) = simp (ne-eqb v 1 d, ne-eqb v 2 c)
 
-pub test-taken : (v : ℕ) → layout .takes v ≡ true → Taken v
+pub test-taken : (v : ℕ) → layout .takes v ≡ true → KnownVersion v
 test-taken v e = go (taken-or v)
   where
-    go : Taken v ⊎ Untaken v → Taken v
+    go : KnownVersion v ⊎ UnknownVersion v → KnownVersion v
     go (inl t) = t
     go (inr u) = absurd (clash e (untaken-test v u))
 
 -- a sheet that keeps the layout is of one of the two versions
-pub both-versions : (s : List ℕ) → Keeps layout s → Taken (versionOf s)
+pub both-versions : (s : List ℕ) → Keeps layout s → KnownVersion (versionOf s)
 both-versions s y = test-taken (versionOf s) (facts layout s y .taken)
 
 -- "In version 1 every row has two bytes."

@@ -4,3 +4,4 @@ pub mod Relation
 pub mod Row
 pub mod Parts
 pub mod Refusals
+pub mod Causes
