@@ -17,6 +17,7 @@ pub mod Same
 pub mod Places
 pub mod HeldTable
 pub mod Filling
+pub mod Replaced
 pub mod Solvable
 pub mod Samples
 pub mod BothWays

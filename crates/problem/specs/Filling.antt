@@ -6,6 +6,7 @@ use Prim.Native.Nat.{ℕ, _<_}
 use lib.Dec.{T}
 use lib.ListN.{length, getD}
 use Rattle.bounded.specs.Mask.{bit}
+use Rattle.problem.specs.Problem.{Problem}
 use Rattle.problem.specs.Held.{rowAllows, farFrom}
 
 -- what a table says of the pair i < j, both ways round: value a of i is allowed with value b of j where f holds of a and b
@@ -21,3 +22,15 @@ pub record Entered (t : List ℕ) (i j : ℕ) (rows : List ℕ) (u : List ℕ) :
   pub front : (q : ℕ) → q < 1056 → getD u q 0 ≡ getD t q 0
   pub here : Shows u i j (λ a b. bit (getD rows a 0) b)
   pub else : (k l : ℕ) (f : ℕ → ℕ → Bool) → k < l → l < 32 → ((k ≡ i) × (l ≡ j) → ⊥) → Shows t k l f → Shows u k l f
+  -- and of the values that the others have: what each row of theirs says is as it was, and no bit comes in that says two have no block
+  pub kept : (k l : ℕ) → k < l → l < 32 → ((k ≡ i) × (l ≡ j) → ⊥) → (a b : ℕ) → a < 16 → b < 16
+      → (rowAllows u k a l b ≡ rowAllows t k a l b) × (rowAllows u l b k a ≡ rowAllows t l b k a)
+  pub less : (k l : ℕ) → k < 32 → l < 32 → farFrom u k l ≡ true → farFrom t k l ≡ true
+
+-- Q is P with the block of i < j replaced by the rows x: the same variables and sizes, of i and j what the rows say, and of every other two
+-- variables what P says
+pub record Replaced (P Q : Problem) (i j : ℕ) (x : List ℕ) : Type 0 where
+  pub variables : Q .n ≡ P .n
+  pub sizes : (k : ℕ) → Q .size k ≡ P .size k
+  pub here : (a b : ℕ) → a < P .size i → b < P .size j → Q .allowed i a j b ≡ bit (getD x a 0) b
+  pub else : (k l : ℕ) → k < l → l < P .n → ((k ≡ i) × (l ≡ j) → ⊥) → (a b : ℕ) → a < P .size k → b < P .size l → Q .allowed k a l b ≡ P .allowed k a l b

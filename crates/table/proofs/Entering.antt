@@ -15,7 +15,7 @@ use Rattle.bounded.proofs.Mask.{bit-mask, bit-without16}
 use Rattle.bounded.proofs.Members.{without-part}
 use Rattle.bounded.proofs.Table.{getD-tab}
 use Rattle.problem.specs.Places.{placeOf}
-use Rattle.problem.specs.Held.{tableLength, placeAt, farAt, rowsAt, rowAllows, farFrom, Located}
+use Rattle.problem.specs.Held.{tableLength, farAt, rowsAt, rowAllows, farFrom}
 use Rattle.problem.specs.Filling.{Shows, Entered}
 use Rattle.problem.proofs.Places.{place-symmetric, place-apart}
 use Rattle.table.specs.Parts.{turnedRow, turnedRows, cleared, Wrote}
@@ -141,14 +141,19 @@ module _ (t t₁ t₂ rows turned : List ℕ) (i j : ℕ) (long : length t ≡ t
       near q (inr (omega arith))
       ∙ outside q (⊎-elim (λ (m : placeOf k l < placeOf i j). inl (omega arith)) (λ (m : placeOf i j < placeOf k l). inr (omega arith)) (apart i j k l li lj lk ll d))
 
-  others : (k l : ℕ) (f : ℕ → ℕ → Bool) → k < l → l < 32 → ((k ≡ i) × (l ≡ j) → ⊥) → Shows t k l f → Shows u k l f
+  -- what they say is as it was
+  rows-kept : (k l : ℕ) → k < l → l < 32 → ((k ≡ i) × (l ≡ j) → ⊥) → (a b : ℕ) → a < 16 → b < 16 → (rowAllows u k a l b ≡ rowAllows t k a l b) × (rowAllows u l b k a ≡ rowAllows t l b k a)
   unfolding rowAllows
-  others k l f lk ll d s =
+  rows-kept k l lk ll d a b la lb =
       let p = rows-lower k l lk in
       let q = rows-higher k l lk in
+      (ap (λ (x : ℕ). bit x b) (kept k l lk ll d (rowsAt k l + a) (omega arith) (omega arith)), ap (λ (x : ℕ). bit x a) (kept k l lk ll d (rowsAt l k + b) (omega arith) (omega arith)))
+
+  others : (k l : ℕ) (f : ℕ → ℕ → Bool) → k < l → l < 32 → ((k ≡ i) × (l ≡ j) → ⊥) → Shows t k l f → Shows u k l f
+  others k l f lk ll d s =
       record {
-        own = λ a b la lb. ap (λ (x : ℕ). bit x b) (kept k l lk ll d (rowsAt k l + a) (omega arith) (omega arith)) ∙ s .own a b la lb;
-        turned = λ a b la lb. ap (λ (x : ℕ). bit x a) (kept k l lk ll d (rowsAt l k + b) (omega arith) (omega arith)) ∙ s .turned a b la lb;
+        own = λ a b la lb. rows-kept k l lk ll d a b la lb .0 ∙ s .own a b la lb;
+        turned = λ a b la lb. rows-kept k l lk ll d a b la lb .1 ∙ s .turned a b la lb;
         far = λ h. s .far (less k l (omega arith) ll h);
         turned-far = λ h. s .turned-far (less l k ll (omega arith) h);
       }
@@ -160,6 +165,8 @@ module _ (t t₁ t₂ rows turned : List ℕ) (i j : ℕ) (long : length t ≡ t
         front = λ q l. near q (inl l) ∙ outside q (inl (omega arith));
         here = record { own = here-own; turned = here-turned; far = λ h a b la lb. absurd (here-far h); turned-far = λ h a b la lb. absurd (here-turned-far h) };
         else = others;
+        kept = rows-kept;
+        less = less;
       }
 
 -- the same from what the parts of the code ensure
@@ -169,7 +176,3 @@ pub entered-by : (t t₁ t₂ t₃ u rows turned : List ℕ) (i j p q : ℕ) →
 entered-by t t₁ t₂ t₃ u rows turned i j p q long li lj e ep own eq other e₃ eu =
     subst (Entered t i j rows) (sym (eu ∙ ap (λ (x : List ℕ). cleared x j i) e₃))
     (entered t t₁ t₂ rows turned i j long li lj (subst (λ (n : ℕ). Wrote 16 t t₁ n (λ a. getD rows a 0)) ep own) (subst (λ (n : ℕ). Wrote 16 t₁ t₂ n (λ a. getD turned a 0)) eq other) e)
-
--- the list of places is still there
-pub entered-located : {t rows u : List ℕ} {i j : ℕ} → Located t → Entered t i j rows u → Located u
-entered-located l e = record { long = e .long ∙ l .long; places = λ k m lk lm. e .front (placeAt k m) (omega arith) ∙ l .places k m lk lm }
