@@ -16,6 +16,19 @@ use bounded::has16;
 use bounded::has32;
 use problem::Masks;
 
+// ---- the layout of a table
+
+// Where the words start that say who has no block with whom: behind 32 sizes and 1,024 places. A word a variable for those below 16, and
+// another for those from 16 on.
+pub const FAR_START: usize = 1056;
+const FAR_SECOND: usize = FAR_START + 32;
+
+// Where the rows start: behind these.
+const ROWS_START: usize = FAR_SECOND + 32;
+
+// The entries of a table: 32 rows for each of 496 places.
+pub const TABLE_LENGTH: usize = ROWS_START + 32 * 496;
+
 // ---- sizes
 
 // How many values variable i has.
@@ -67,9 +80,9 @@ pub fn rows_at(t: &[u16], i: usize, j: usize) -> usize
 {
     let place = t[32 + (32 * i + j)] as usize;
     if i < j {
-        1120 + 32 * place
+        ROWS_START + 32 * place
     } else {
-        1120 + (32 * place + 16)
+        ROWS_START + (32 * place + 16)
     }
 }
 
@@ -123,7 +136,7 @@ pub fn neighbours(t: &[u16], i: usize) -> u32
     requires { ⌜ RowTable (now t) × (i < 32) ⌝ }
     ensures { λ r. ⌜ Near (now (t .entry)) i r ⌝ }
 {
-    !joined(t[1056 + i], t[1088 + i])
+    !joined(t[FAR_START + i], t[FAR_SECOND + i])
 }
 
 // ---- a state

@@ -7,7 +7,7 @@ use lib.Dec.{T}
 use lib.ListN.{length, getD}
 use Rattle.bounded.specs.Mask.{bit}
 use Rattle.problem.specs.Problem.{Problem}
-use Rattle.problem.specs.Held.{rowAllows, farFrom}
+use Rattle.problem.specs.Held.{farStart, rowAllows, farFrom}
 
 -- what a table says of the pair i < j, both ways round: value a of i is allowed with value b of j where f holds of a and b
 pub record Shows (t : List ℕ) (i j : ℕ) (f : ℕ → ℕ → Bool) : Type 0 where
@@ -19,7 +19,7 @@ pub record Shows (t : List ℕ) (i j : ℕ) (f : ℕ → ℕ → Bool) : Type 0 
 -- the block of i < j, of 16 rows, is entered: the pair is as the rows say, both ways round, and all else is as it was
 pub record Entered (t : List ℕ) (i j : ℕ) (rows : List ℕ) (u : List ℕ) : Type 0 where
   pub long : length u ≡ length t
-  pub front : (q : ℕ) → q < 1056 → getD u q 0 ≡ getD t q 0
+  pub front : (q : ℕ) → q < farStart → getD u q 0 ≡ getD t q 0
   pub here : Shows u i j (λ a b. bit (getD rows a 0) b)
   pub else : (k l : ℕ) (f : ℕ → ℕ → Bool) → k < l → l < 32 → ((k ≡ i) × (l ≡ j) → ⊥) → Shows t k l f → Shows u k l f
   -- and of the values that the others have: what each row of theirs says is as it was, and no bit comes in that says two have no block

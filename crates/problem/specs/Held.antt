@@ -24,9 +24,17 @@ rowWord P i j a = maskOf maxValues (P .allowed i a j)
 
 -- ---- where things stand in a table
 
--- the entries of a table
+-- where its parts start: after 32 sizes and 1,024 places the words that say who has no block with whom, and after two of these a variable
+-- the rows
+abbrev pub farStart : ℕ
+farStart = 1056
+
+abbrev pub rowsStart : ℕ
+rowsStart = farStart + 64
+
+-- the entries of a table: there are 496 places
 abbrev pub tableLength : ℕ
-tableLength = 16992
+tableLength = rowsStart + 32 * 496
 
 -- the entry of the list of places for i and j
 abbrev pub placeAt : (i j : ℕ) → ℕ
@@ -34,11 +42,11 @@ placeAt i j = 32 + (32 * i + j)
 
 -- the entry of i that says whether j has a block with it: one for the variables below 16, one for those from 16 on
 abbrev pub farAt : (i j : ℕ) → ℕ
-farAt i j = 1056 + (32 * (j / 16) + i)
+farAt i j = farStart + (32 * (j / 16) + i)
 
 -- the first of the 16 rows of i towards j
 abbrev pub rowsAt : (i j : ℕ) → ℕ
-rowsAt i j = 1120 + (32 * placeOf i j + cond (ltb i j) 0 16)
+rowsAt i j = rowsStart + (32 * placeOf i j + cond (ltb i j) 0 16)
 
 -- ---- the problem of a table
 

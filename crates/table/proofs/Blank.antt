@@ -7,14 +7,14 @@ use native.Mathlib.Omega.{arith}
 use lib.ListN.{getD, replicate, length-replicate, getD-replicate}
 use Rattle.bounded.specs.Mask.{bit}
 use Rattle.bounded.proofs.Mask.{full-bit}
-use Rattle.problem.specs.Held.{tableLength, rowsAt, rowAllows}
+use Rattle.problem.specs.Held.{farStart, tableLength, rowsAt, rowAllows}
 use Rattle.problem.specs.Filling.{Shows}
 use Rattle.table.specs.Parts.{Blank}
 use Rattle.problem.proofs.Places.{place-small}
 use Rattle.table.proofs.Entering.{rows-lower, rows-higher}
 
 -- only the entries behind the list of places count: the law holds before and after the list is put in
-pub blank-shows : (t : List ℕ) → ((q : ℕ) → 1056 ≤ q → q < tableLength → getD t q 0 ≡ 65535) → (i j : ℕ) → i < j → j < 32 → Shows t i j (λ a b. true)
+pub blank-shows : (t : List ℕ) → ((q : ℕ) → farStart ≤ q → q < tableLength → getD t q 0 ≡ 65535) → (i j : ℕ) → i < j → j < 32 → Shows t i j (λ a b. true)
 unfolding rowAllows
 blank-shows t ones i j li lj =
     let p = rows-lower i j li in

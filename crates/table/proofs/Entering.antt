@@ -15,17 +15,17 @@ use Rattle.bounded.proofs.Mask.{bit-mask, bit-without16}
 use Rattle.bounded.proofs.Members.{without-part}
 use Rattle.bounded.proofs.Table.{getD-tab}
 use Rattle.problem.specs.Places.{placeOf}
-use Rattle.problem.specs.Held.{tableLength, farAt, rowsAt, rowAllows, farFrom}
+use Rattle.problem.specs.Held.{farStart, rowsStart, tableLength, farAt, rowsAt, rowAllows, farFrom}
 use Rattle.problem.specs.Filling.{Shows, Entered}
 use Rattle.problem.proofs.Places.{place-symmetric, place-apart}
 use Rattle.table.specs.Parts.{turnedRow, turnedRows, cleared, Wrote}
 
 -- ---- where the rows of a pair stand
 
-pub rows-lower : (i j : ℕ) → i < j → rowsAt i j ≡ 1120 + 32 * placeOf i j
+pub rows-lower : (i j : ℕ) → i < j → rowsAt i j ≡ rowsStart + 32 * placeOf i j
 rows-lower i j l = let e : _≡_ {A = ℕ} (cond (ltb i j) 0 16) 0 = rw (lt-ltb i j l) in omega arith
 
-pub rows-higher : (i j : ℕ) → i < j → rowsAt j i ≡ 1136 + 32 * placeOf i j
+pub rows-higher : (i j : ℕ) → i < j → rowsAt j i ≡ rowsStart + 16 + 32 * placeOf i j
 rows-higher i j l =
     let e : _≡_ {A = ℕ} (cond (ltb j i) 0 16) 16 = rw (le-ltb j i (omega arith)) in
     let s = place-symmetric j i in
@@ -91,21 +91,21 @@ module _ (t t₁ t₂ rows turned : List ℕ) (i j : ℕ) (long : length t ≡ t
   long₃ = cleared-long t₂ i j long₂ (omega arith) lj ∙ long₂
 
   -- what is no far entry
-  near : (q : ℕ) → (q < 1056) ⊎ (1120 ≤ q) → getD u q 0 ≡ getD t₂ q 0
+  near : (q : ℕ) → (q < farStart) ⊎ (rowsStart ≤ q) → getD u q 0 ≡ getD t₂ q 0
   near q s =
       cleared-other (cleared t₂ i j) j i long₃ lj (omega arith) q (no j i lj (omega arith) s)
       ∙ cleared-other t₂ i j long₂ (omega arith) lj q (no i j (omega arith) lj s)
     where
-      no : (k l : ℕ) → k < 32 → l < 32 → (q < 1056) ⊎ (1120 ≤ q) → q ≢ farAt k l
+      no : (k l : ℕ) → k < 32 → l < 32 → (q < farStart) ⊎ (rowsStart ≤ q) → q ≢ farAt k l
       no k l lk ll (inl h) z = omega arith
       no k l lk ll (inr h) z = omega arith
 
   -- what is no row of the pair
-  outside : (q : ℕ) → (q < 1120 + 32 * placeOf i j) ⊎ (1152 + 32 * placeOf i j ≤ q) → getD t₂ q 0 ≡ getD t q 0
+  outside : (q : ℕ) → (q < rowsStart + 32 * placeOf i j) ⊎ (rowsStart + 32 + 32 * placeOf i j ≤ q) → getD t₂ q 0 ≡ getD t q 0
   outside q s =
       let a = rows-lower i j li in
       let b = rows-higher i j li in
-      ⊎-elim (λ (h : q < 1120 + 32 * placeOf i j). other .below q (omega arith) ∙ own .below q (omega arith)) (λ (h : 1152 + 32 * placeOf i j ≤ q). other .above q (omega arith) ∙ own .above q (omega arith)) s
+      ⊎-elim (λ (h : q < rowsStart + 32 * placeOf i j). other .below q (omega arith) ∙ own .below q (omega arith)) (λ (h : rowsStart + 32 + 32 * placeOf i j ≤ q). other .above q (omega arith) ∙ own .above q (omega arith)) s
 
   here-own : (a b : ℕ) → a < 16 → b < 16 → rowAllows u i a j b ≡ bit (getD rows a 0) b
   unfolding rowAllows
@@ -136,7 +136,7 @@ module _ (t t₁ t₂ rows turned : List ℕ) (i j : ℕ) (long : length t ≡ t
   here-turned-far h = clash h (cleared-here (cleared t₂ i j) j i long₃ lj (omega arith))
 
   -- the rows of another pair are as they were
-  kept : (k l : ℕ) → k < l → l < 32 → ((k ≡ i) × (l ≡ j) → ⊥) → (q : ℕ) → 1120 + 32 * placeOf k l ≤ q → q < 1152 + 32 * placeOf k l → getD u q 0 ≡ getD t q 0
+  kept : (k l : ℕ) → k < l → l < 32 → ((k ≡ i) × (l ≡ j) → ⊥) → (q : ℕ) → rowsStart + 32 * placeOf k l ≤ q → q < rowsStart + 32 + 32 * placeOf k l → getD u q 0 ≡ getD t q 0
   kept k l lk ll d q lo hi =
       near q (inr (omega arith))
       ∙ outside q (⊎-elim (λ (m : placeOf k l < placeOf i j). inl (omega arith)) (λ (m : placeOf i j < placeOf k l). inr (omega arith)) (apart i j k l li lj lk ll d))

@@ -5,7 +5,7 @@ use Prim.Native.Nat.{ℕ, _+_, _%_, _≤_, _<_}
 use lib.ListN.{length, getD, set}
 use Rattle.bounded.specs.Mask.{bit, maskOf, without}
 use Rattle.bounded.specs.Table.{tab}
-use Rattle.problem.specs.Held.{tableLength, farAt, Located}
+use Rattle.problem.specs.Held.{farStart, tableLength, farAt, Located}
 
 -- a block of 16 rows turned: turned row b has a where row a has b
 unfoldable pub turnedRow : List ℕ → ℕ → ℕ
@@ -29,7 +29,7 @@ pub record Wrote (n : ℕ) (t u : List ℕ) (p : ℕ) (f : ℕ → ℕ) : Type 0
 pub record HasPlaces (t u : List ℕ) : Type 0 where
   pub located : Located u
   pub sizes : (k : ℕ) → k < 32 → getD u k 0 ≡ getD t k 0
-  pub rest : (k : ℕ) → 1056 ≤ k → getD u k 0 ≡ getD t k 0
+  pub rest : (k : ℕ) → farStart ≤ k → getD u k 0 ≡ getD t k 0
 
 -- a table before it is filled: every bit of every entry is set
 pub record Blank (t : List ℕ) : Type 0 where

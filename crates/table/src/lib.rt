@@ -7,9 +7,11 @@ ghost use Rattle.bounded.specs.Mask.{bit};
 ghost use Rattle.problem.specs.Places.{PlaceList};
 ghost use Rattle.problem.specs.Held.{tableLength, Located};
 ghost use Rattle.problem.specs.Filling.{Entered};
-ghost use Rattle.table.specs.Parts.{turnedRow, turnedRows, cleared, Wrote, HasPlaces};
+ghost use Rattle.table.specs.Parts.{turnedRow, turnedRows, cleared, Wrote, HasPlaces, Blank};
 use bounded::where16;
 use bounded::without16;
+use held::FAR_START;
+use held::TABLE_LENGTH;
 use held::rows_at;
 
 // ---- a block turned
@@ -50,6 +52,13 @@ fn turn(rows: &[u16; 16], turned: &mut [u16; 16])
 
 // ---- parts of the table
 
+// A table before it is filled: every bit of every entry is set, so that nothing is barred and nothing has a block.
+pub fn blank_table() -> [u16; TABLE_LENGTH]
+    ensures { λ r. ⌜ Blank r ⌝ }
+{
+    [65535u16; TABLE_LENGTH]
+}
+
 // Stores 16 rows from `at` on.
 fn put_rows(t: &mut [u16], at: usize, rows: &[u16; 16])
     requires { ⌜ at + 16 ≤ length (now t) ⌝ }
@@ -67,7 +76,7 @@ fn clear_far(t: &mut [u16], i: usize, j: usize)
     requires { ⌜ (length (now t) ≡ tableLength) × (i < 32) × (j < 32) ⌝ }
     ensures { λ _. ⌜ now (t .exit) ≡ cleared (now (t .entry)) i j ⌝ }
 {
-    let at = 1056 + (32 * (j / 16) + i);
+    let at = FAR_START + (32 * (j / 16) + i);
     t[at] = without16(t[at], j % 16);
 }
 

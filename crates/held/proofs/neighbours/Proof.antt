@@ -9,29 +9,29 @@ use lib.ListN.{getD}
 use Rattle.bounded.specs.Mask.{bit}
 use Rattle.bounded.proofs.Truth.{lt-dec}
 use Rattle.bounded.proofs.Mask.{bit-not, bit-first, bit-second}
-use Rattle.problem.specs.Held.{farAt, farFrom}
+use Rattle.problem.specs.Held.{farStart, farAt, farFrom}
 use borrow.Author.Needs.{needs}
 use Rattle.held.specs.Ready.{Near}
 use Rattle.held.proofs.neighbours.Statement.{statement}
 use Rattle.held.proofs.neighbours.Tie as tie
 
 -- the two words of i, side by side
-far-bits : (t : List ℕ) (i j : ℕ) → j < 32 → getD t (1056 + i) 0 < 2 ^ 16 → bit (getD t (1056 + i) 0 + 65536 * getD t (1088 + i) 0) j ≡ farFrom t i j
+far-bits : (t : List ℕ) (i j : ℕ) → j < 32 → getD t (farStart + i) 0 < 2 ^ 16 → bit (getD t (farStart + i) 0 + 65536 * getD t (farStart + 32 + i) 0) j ≡ farFrom t i j
 unfolding farFrom
 far-bits t i j l small =
     ⊎-elim
     (λ (m : j < 16).
-    let p : 1056 + i ≡ farAt i j = omega arith in
+    let p : farStart + i ≡ farAt i j = omega arith in
     let q : j ≡ j % 16 = omega arith in
-    bit-first 16 (getD t (1056 + i) 0) (getD t (1088 + i) 0) j m ∙ ap (λ (k : ℕ). bit (getD t k 0) j) p ∙ ap (bit (getD t (farAt i j) 0)) q)
+    bit-first 16 (getD t (farStart + i) 0) (getD t (farStart + 32 + i) 0) j m ∙ ap (λ (k : ℕ). bit (getD t k 0) j) p ∙ ap (bit (getD t (farAt i j) 0)) q)
     (λ (m : 16 ≤ j).
-    let p : 1088 + i ≡ farAt i j = omega arith in
+    let p : farStart + 32 + i ≡ farAt i j = omega arith in
     let q : j - 16 ≡ j % 16 = omega arith in
-    bit-second 16 (getD t (1056 + i) 0) (getD t (1088 + i) 0) j small m ∙ ap (λ (k : ℕ). bit (getD t k 0) (j - 16)) p ∙ ap (bit (getD t (farAt i j) 0)) q)
+    bit-second 16 (getD t (farStart + i) 0) (getD t (farStart + 32 + i) 0) j small m ∙ ap (λ (k : ℕ). bit (getD t k 0) (j - 16)) p ∙ ap (bit (getD t (farAt i j) 0)) q)
     (lt-dec j 16)
 
 -- the set of all 32 without them
-near-of : (t : List ℕ) (i x : ℕ) → x ≡ getD t (1056 + i) 0 + 65536 * getD t (1088 + i) 0 → getD t (1056 + i) 0 < 2 ^ 16 → getD t (1088 + i) 0 < 2 ^ 16 → Near t i (4294967295 - x)
+near-of : (t : List ℕ) (i x : ℕ) → x ≡ getD t (farStart + i) 0 + 65536 * getD t (farStart + 32 + i) 0 → getD t (farStart + i) 0 < 2 ^ 16 → getD t (farStart + 32 + i) 0 < 2 ^ 16 → Near t i (4294967295 - x)
 near-of t i x e low high =
     record {
       small = omega arith;
@@ -63,7 +63,7 @@ returns : tie.Need-returns
 returns c =
     let a = c .before .before .before .before .args in
     let small = c .before .before .before .shared-slice-known .given in
-    near-of (a .t .now) (a .i) (c .joined .result) (c .joined .ensures .0) (c .joined .ensures .1) (small (1088 + a .i) .fits)
+    near-of (a .t .now) (a .i) (c .joined .result) (c .joined .ensures .0) (c .joined .ensures .1) (small (farStart + 32 + a .i) .fits)
 
 pub neighbours-spec : {M : Type 1} → statement M
 neighbours-spec =
