@@ -3,26 +3,24 @@ use mathlib.Core.Path.{_≡_, refl, sym, ap, _∙_, subst}
 use mathlib.Core.Bool.{Bool, true, false, not, cond, _&&_, and-false}
 use mathlib.Core.List.{List}
 use mathlib.Core.Logic.{_⊎_, inl, inr, ⊎-elim, _≢_}
-use Prim.Native.Nat.{ℕ, _+_, _-_, _*_, _/_, _%_, _^_, _≤_, _<_}
+use Prim.Native.Nat.{ℕ, _-_, _*_, _^_, _≤_, _<_}
 use native.Mathlib.Omega.{arith}
 use lib.Dec.{T, eqb, ltb}
 use lib.ListN.{getD}
-use borrow.Author.Tests.{lt-ltb, le-ltb, ltb-true}
+use borrow.Author.Tests.{lt-ltb, le-ltb}
 use Rattle.bounded.specs.Mask.{bit, without}
-use Rattle.bounded.proofs.Truth.{T-ext, T-not, eqb-iff, lt-dec, split, both}
+use Rattle.bounded.proofs.Truth.{T-ext, T-not, eqb-iff, lt-dec}
 use Rattle.bounded.proofs.Mask.{full-bit, bit-without16}
 use Rattle.bounded.proofs.Table.{getD-tab}
 use Rattle.problem.specs.Problem.{bothWays}
 use Rattle.problem.specs.Held.{Bounded, Filled}
-use Rattle.problem.specs.Filling.{Shows, Entered}
 use Rattle.problem.proofs.BothWays.{both-up, both-down, both-same}
-use Rattle.problem.proofs.Filling.{filled-pairs}
 use Rattle.graph.specs.Colouring.{channelsAt, isChannel, mayStand, colouring}
 use Rattle.graph.specs.Scan.{isMarked}
-use Rattle.table.specs.Parts.{Wrote, HasPlaces, Blank}
-use Rattle.table.proofs.Entering.{entered-located}
-use Rattle.table.proofs.Blank.{blank-shows}
-use Rattle.colour.specs.Parts.{markedProblem, Ranged, sizeWord, edgeRows, isEdge, PlaceEntered, pairSays, EnteredTo}
+use Rattle.table.specs.Parts.{Wrote, HasPlaces}
+use Rattle.table.specs.Filling.{pairSays, EnteredTo}
+use Rattle.table.proofs.Filling.{entered-filled}
+use Rattle.colour.specs.Parts.{markedProblem, Ranged, sizeWord, edgeRows}
 
 -- ---- what a colouring problem allows
 
@@ -123,85 +121,6 @@ module _ (v k : ℕ) (joined : ℕ → ℕ → Bool) where
         (p .0, rw (size-in i (p .0)) (p .1), q .0, rw (size-in j (q .0)) (q .1), allowed-apart i a j b t);
   }
 
--- ---- a table filled in turn
-
--- the sizes and the list of places stand, and no block
-pub none-entered : (near rows t t₁ t₂ : List ℕ) (n : ℕ) (f : ℕ → ℕ) → Blank t → Wrote 32 t t₁ 0 f → HasPlaces t₁ t₂ → EnteredTo near n 0 rows t₂ t₂
-none-entered near rows t t₁ t₂ n f blank w h =
-    record {
-      located = h .located;
-      sizes = λ q l. refl;
-      below = λ i j p q l. absurd (omega arith);
-      above = λ i j p q l.
-          blank-shows t₂ (λ k lo hi. h .rest k lo ∙ w .above k (omega arith) ∙ blank .each k hi) i j p q;
-    }
-
--- the place of an edge is that of two vertices in order, which are marked
-pub edge-facts : (near : List ℕ) (n x : ℕ) → isEdge near n x ≡ true → (x / 32 < x % 32) × (x % 32 < n) × (isMarked near (x / 32) (x % 32) ≡ true)
-unfolding isEdge
-edge-facts near n x q =
-    let y = both (ltb (x / 32) (x % 32)) _ q in
-    let z = both (ltb (x % 32) n) _ (y .1) in
-    (ltb-true _ _ (y .0), ltb-true _ _ (z .0), z .1)
-
--- one place more
-module _ (near rows t u w : List ℕ) (n x : ℕ) (few : n ≤ 32) (E : EnteredTo near n x rows t u) (p : PlaceEntered near n x rows u w) where
-  -- the place is that of one pair
-  there : (i j : ℕ) → j < n → 32 * i + j ≡ x → (x / 32 ≡ i) × (x % 32 ≡ j)
-  there i j l e = (omega arith, omega arith)
-
-  -- what is shown where the place is an edge's, and where it is not
-  module _ (q : isEdge near n x ≡ true) where
-    entered : Entered u (x / 32) (x % 32) rows w
-    entered = p .edge q
-
-    edge-here : Shows w (x / 32) (x % 32) (pairSays near rows (x / 32) (x % 32))
-    edge-here = subst (λ (m : Bool). Shows w (x / 32) (x % 32) (λ a b. cond m (bit (getD rows a 0) b) true)) (sym (edge-facts near n x q .2)) (entered .here)
-
-    edge-else : (i j : ℕ) (f : ℕ → ℕ → Bool) → i < j → j < 32 → (32 * i + j ≡ x → ⊥) → Shows u i j f → Shows w i j f
-    edge-else i j f l m d s = entered .else i j f l m (λ h. let a = h .0 in let b = h .1 in d (omega arith)) s
-
-    edge-next : EnteredTo near n (x + 1) rows t w
-    edge-next =
-        record {
-          located = entered-located (E .located) entered;
-          sizes = λ k l. entered .front k (omega arith) ∙ E .sizes k l;
-          below = λ i j l m b. here i j l m b;
-          above = λ i j l m b. edge-else i j _ l m (λ e. absurd (omega arith)) (E .above i j l m (omega arith));
-        }
-      where
-        here : (i j : ℕ) → i < j → j < n → 32 * i + j < x + 1 → Shows w i j (pairSays near rows i j)
-        here i j l m b =
-            ⊎-elim
-            (λ (h : 32 * i + j < x). edge-else i j _ l (omega arith) (λ e. absurd (omega arith)) (E .below i j l m h))
-            (λ (h : x ≤ 32 * i + j). let e = there i j m (omega arith) in subst (λ (k : ℕ). Shows w i k (pairSays near rows i k)) (e .1) (subst (λ (k : ℕ). Shows w k (x % 32) (pairSays near rows k (x % 32))) (e .0) edge-here))
-            (lt-dec (32 * i + j) x)
-
-  module _ (q : isEdge near n x ≡ false) where
-    unmarked : x / 32 < x % 32 → x % 32 < n → isMarked near (x / 32) (x % 32) ≡ false
-    unfolding isEdge
-    unmarked l m = rw (lt-ltb (x / 32) (x % 32) l, lt-ltb (x % 32) n m) at q
-
-    none-next : EnteredTo near n (x + 1) rows t w
-    none-next =
-        subst (EnteredTo near n (x + 1) rows t) (sym (p .none q))
-        (record { located = E .located; sizes = E .sizes; below = λ i j l m b. here i j l m b; above = λ i j l m b. E .above i j l m (omega arith) })
-      where
-        free : (i j : ℕ) → i < j → j < n → x / 32 ≡ i → x % 32 ≡ j → isMarked near i j ≡ false
-        free i j l m ei ej = rw (ei, ej) at (unmarked (rw (ei, ej) l) (rw ej m))
-
-        here : (i j : ℕ) → i < j → j < n → 32 * i + j < x + 1 → Shows u i j (pairSays near rows i j)
-        here i j l m b =
-            ⊎-elim
-            (λ (h : 32 * i + j < x). E .below i j l m h)
-            (λ (h : x ≤ 32 * i + j).
-            let e = there i j m (omega arith) in
-            subst (λ (g : Bool). Shows u i j (λ a b. cond g (bit (getD rows a 0) b) true)) (sym (free i j l m (e .0) (e .1))) (E .above i j l (omega arith) h))
-            (lt-dec (32 * i + j) x)
-
-  pub place-next : EnteredTo near n (x + 1) rows t w
-  place-next = ⊎-elim (λ q. edge-next q) (λ q. none-next q) (split (isEdge near n x))
-
 -- ---- the table filled
 
 -- the rows of an edge, and the absence of a block, say what the problem allows
@@ -217,19 +136,18 @@ module _ (near : List ℕ) (n k : ℕ) (R : Ranged near n k) (some : 1 ≤ k) wh
   pub marked-bounded : Bounded (markedProblem near n k)
   marked-bounded = colouring-bounded n k (isMarked near) (R .vertices) some (R .channels)
 
-  says : (i j a b : ℕ) → i < j → j < n → a < k → b < k → pairSays near (edgeRows k) i j a b ≡ (markedProblem near n k) .allowed i a j b
-  says i j a b l m la lb =
+  says : (i j : ℕ) → i < j → j < n → (a b : ℕ) → a < (markedProblem near n k) .size i → b < (markedProblem near n k) .size j
+      → pairSays (isMarked near) (λ i j. edgeRows k) i j a b ≡ (markedProblem near n k) .allowed i a j b
+  says i j l m a b sa sb =
+      let la : a < k = rw (size-in n k (isMarked near) i (omega arith)) at sa in
+      let lb : b < k = rw (size-in n k (isMarked near) j m) at sb in
       let e : joinedPair (isMarked near) i j ≡ isMarked near i j = rw (lt-ltb i j l) in
       edge-says (isMarked near i j) k a b (R .channels) la lb
       ∙ sym (allows n k (isMarked near) i a j b (omega arith) la m lb (λ e. absurd (omega arith)) ∙ ap (λ (g : Bool). not (g && eqb b a)) e)
 
-  pub marked-filled : (t t₁ t₂ rows u : List ℕ) → Wrote 32 t t₁ 0 (sizeWord n k) → HasPlaces t₁ t₂ → rows ≡ edgeRows k → EnteredTo near n (32 * n) rows t₂ u → Filled (markedProblem near n k) u
+  pub marked-filled : (t t₁ t₂ rows u : List ℕ) → Wrote 32 t t₁ 0 (sizeWord n k) → HasPlaces t₁ t₂ → rows ≡ edgeRows k
+      → EnteredTo (isMarked near) (λ i j. rows) n (32 * n) t₂ u → Filled (markedProblem near n k) u
   unfolding colouring
   marked-filled t t₁ t₂ rows u w h e E =
-      filled-pairs marked-bounded (E .located)
-      (λ i l. let z : 0 + i ≡ i = omega arith in E .sizes i l ∙ h .sizes i l ∙ rw z at (w .there i l) ∙ sym (colouring-size n k (isMarked near) i))
-      (λ i j l m. record {
-        says = pairSays near (edgeRows k) i j;
-        shows = subst (λ (r : List ℕ). Shows u i j (pairSays near r i j)) e (E .below i j l m (omega arith));
-        right = λ a b la lb. says i j a b l m (rw (size-in n k (isMarked near) i (omega arith)) at la) (rw (size-in n k (isMarked near) j m) at lb);
-      })
+      entered-filled (isMarked near) (λ i j. edgeRows k) t t₁ t₂ u (sizeWord n k) marked-bounded w (λ i l. sym (colouring-size n k (isMarked near) i)) h
+      (subst (λ (r : List ℕ). EnteredTo (isMarked near) (λ i j. r) n (32 * n) t₂ u) e E) says

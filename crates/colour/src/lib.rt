@@ -3,9 +3,11 @@ ghost use mathlib.Core.Path.{_≡_};
 ghost use Prim.Native.Nat.{_*_, _<_, _≤_};
 ghost use lib.ListN.{length};
 ghost use Rattle.problem.specs.Held.{tableLength, Located, Filled};
+ghost use Rattle.graph.specs.Scan.{isMarked};
 ghost use Rattle.table.specs.Parts.{Wrote, Blank};
+ghost use Rattle.table.specs.Filling.{hasBlock, PlaceEntered, EnteredTo};
 ghost use Rattle.colour.specs.Colour.{colourNumber, outOfRange, colourJob};
-ghost use Rattle.colour.specs.Parts.{markedProblem, Ranged, sizeWord, edgeRows, isEdge, PlaceEntered, EnteredTo, writeJob, graphJob};
+ghost use Rattle.colour.specs.Parts.{markedProblem, Ranged, sizeWord, edgeRows, writeJob, graphJob};
 use compose::Composed;
 use graph::GraphRead;
 
@@ -77,7 +79,7 @@ fn edge_rows(k: usize) -> [u16; 16]
 // Whether place x = 32 i + j of the marks is that of an edge between two vertices i < j below n.
 fn is_edge(near: &[u8], n: usize, x: usize) -> bool
     requires { ⌜ (length (now near) ≡ 1024) × (x < 1024) ⌝ }
-    ensures { λ r. ⌜ r ≡ isEdge (now (near .entry)) n x ⌝ }
+    ensures { λ r. ⌜ r ≡ hasBlock (isMarked (now (near .entry))) n x ⌝ }
 {
     (x / 32 < x % 32) & ((x % 32 < n) & (near[x] == 1))
 }
@@ -85,7 +87,7 @@ fn is_edge(near: &[u8], n: usize, x: usize) -> bool
 // Enters the block of the edge at place x, if there is one.
 fn enter_place(near: &[u8], n: usize, x: usize, rows: &[u16; 16], t: &mut [u16])
     requires { ⌜ (length (now near) ≡ 1024) × (x < 1024) × Located (now t) ⌝ }
-    ensures { λ _. ⌜ PlaceEntered (now (near .entry)) n x (now (rows .entry)) (now (t .entry)) (now (t .exit)) ⌝ }
+    ensures { λ _. ⌜ PlaceEntered (isMarked (now (near .entry))) (λ i j. now (rows .entry)) n x (now (t .entry)) (now (t .exit)) ⌝ }
 {
     if !is_edge(near, n, x) {
         return;
@@ -95,8 +97,8 @@ fn enter_place(near: &[u8], n: usize, x: usize, rows: &[u16; 16], t: &mut [u16])
 
 // Enters the block of each edge. A pair without an edge has none.
 fn enter_edges(near: &[u8], n: usize, rows: &[u16; 16], t: &mut [u16])
-    requires { ⌜ (length (now near) ≡ 1024) × (n ≤ 32) × EnteredTo (now near) n 0 (now rows) (now t) (now t) ⌝ }
-    ensures { λ _. ⌜ EnteredTo (now (near .entry)) n (32 * n) (now (rows .entry)) (now (t .entry)) (now (t .exit)) ⌝ }
+    requires { ⌜ (length (now near) ≡ 1024) × (n ≤ 32) × EnteredTo (isMarked (now near)) (λ i j. now rows) n 0 (now t) (now t) ⌝ }
+    ensures { λ _. ⌜ EnteredTo (isMarked (now (near .entry))) (λ i j. now (rows .entry)) n (32 * n) (now (t .entry)) (now (t .exit)) ⌝ }
 {
     let mut x: usize = 0;
     while x < 32 * n {
@@ -124,7 +126,7 @@ fn write(near: &[u8], n: usize, k: usize, sheet: &mut [u8]) -> Coloured
     ensures answer { λ r. ⌜ r ≡ (writeJob (markedProblem (now (near .entry)) n k) (now (sheet .entry))) .answer ⌝ }
     ensures buffer { λ _. ⌜ now (sheet .exit) ≡ (writeJob (markedProblem (now (near .entry)) n k) (now (sheet .entry))) .buffer ⌝ }
 {
-    let mut t = [65535u16; 16992];
+    let mut t = table::blank_table();
     fill_table(near, n, k, &mut t);
     match compose::write_sheet(&t, 1, sheet) {
         Composed::TooShort => Coloured::Refused(ColourRefusal::Buffer),

@@ -21,6 +21,7 @@ use problem::Masks;
 // Where the words start that say who has no block with whom: behind 32 sizes and 1,024 places. A word a variable for those below 16, and
 // another for those from 16 on.
 pub const FAR_START: usize = 1056;
+
 const FAR_SECOND: usize = FAR_START + 32;
 
 // Where the rows start: behind these.

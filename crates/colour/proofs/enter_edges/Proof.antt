@@ -3,13 +3,14 @@ use mathlib.Core.Path.{_≡_, sym, _∙_}
 use Prim.Native.Nat.{_*_, _-_, _≤_}
 use native.Mathlib.Omega.{arith}
 use borrow.Author.Needs.{needs}
-use Rattle.colour.specs.Parts.{EnteredTo}
-use Rattle.colour.proofs.Filling.{place-next}
+use Rattle.graph.specs.Scan.{isMarked}
+use Rattle.table.specs.Filling.{EnteredTo}
+use Rattle.table.proofs.Filling.{place-next}
 use Rattle.colour.proofs.enter_edges.Statement.{statement}
 use Rattle.colour.proofs.enter_edges.Tie as tie
 
 abbrev Inv-loop : tie.InvT-loop
-Inv-loop near n rows t₀ x₀ t x = (x ≤ 32 * n) × EnteredTo near n x rows t₀ t
+Inv-loop near n rows t₀ x₀ t x = (x ≤ 32 * n) × EnteredTo (isMarked near) (λ i j. rows) n x t₀ t
 
 abbrev μ-loop : tie.MeasureT-loop
 μ-loop near n rows t₀ x₀ t x = 32 * n - x

@@ -1,7 +1,8 @@
 -- `colour::fill_table`: the sizes, the list of places, then the edges. Assumes nothing.
 use mathlib.Core.Path.{_∙_}
 use borrow.Author.Needs.{needs}
-use Rattle.colour.proofs.Filling.{none-entered, marked-filled}
+use Rattle.table.proofs.Filling.{none-entered}
+use Rattle.colour.proofs.Filling.{marked-filled}
 use Rattle.colour.proofs.fill_table.Statement.{statement}
 use Rattle.colour.proofs.fill_table.Tie as tie
 
