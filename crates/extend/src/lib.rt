@@ -173,7 +173,7 @@ pub fn put_back_over(t: &[u16], trace: &[u8], plan: &[u8], out: &mut [u8]) -> Ex
 pub fn put_back(s: &[u8], trace: &[u8], plan: &[u8], out: &mut [u8]) -> Extended
     ensures { λ r. ⌜ (r ≡ (putBackJob (now (s .entry)) (now (trace .entry)) (now (plan .entry)) (now (out .entry))) .answer) × (now (out .exit) ≡ (putBackJob (now (s .entry)) (now (trace .entry)) (now (plan .entry)) (now (out .entry))) .result) ⌝ }
 {
-    let mut t = [65535u16; 16992];
+    let mut t = table::blank_table();
     match read_sheet::read_table(s, &mut t) {
         SheetRead::Refused(r) => Extended::Refused(ExtendRefusal::Sheet(r)),
         SheetRead::Accepted {

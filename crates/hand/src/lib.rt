@@ -160,7 +160,7 @@ pub fn call_over(t: &[u16], st: ManualState, i: u64) -> CallAnswer
 pub fn hand_call(s: &[u8], st: ManualState, i: u64) -> CallAnswer
     ensures { λ r. ⌜ r ≡ callJob (now (s .entry)) st i ⌝ }
 {
-    let mut t = [65535u16; 16992];
+    let mut t = table::blank_table();
     match read_sheet::read_table(s, &mut t) {
         SheetRead::Refused(r) => refused_call(ManualRefusal::Sheet(r), st),
         SheetRead::Accepted {

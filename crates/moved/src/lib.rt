@@ -53,7 +53,7 @@ pub fn move_sheet(sheet: &[u8], target: &mut [u8]) -> Moved
     ensures answer { λ r. ⌜ r ≡ (moveJob (now (sheet .entry)) (now (target .entry))) .answer ⌝ }
     ensures target { λ _. ⌜ now (target .exit) ≡ (moveJob (now (sheet .entry)) (now (target .entry))) .target ⌝ }
 {
-    let mut t = [65535u16; 16992];
+    let mut t = table::blank_table();
     match read_sheet::read_table(sheet, &mut t) {
         SheetRead::Refused(r) => Moved::Refused(MoveRefusal::Sheet(r)),
         SheetRead::Accepted {

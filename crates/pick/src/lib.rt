@@ -145,7 +145,7 @@ pub fn pick(s: &[u8], trace: &mut [u8], plan: &mut [u8]) -> Picked
     ensures trace { λ _. ⌜ now (trace .exit) ≡ (pickJob (now (s .entry)) (now (trace .entry)) (now (plan .entry))) .trace ⌝ }
     ensures plan { λ _. ⌜ now (plan .exit) ≡ (pickJob (now (s .entry)) (now (trace .entry)) (now (plan .entry))) .plan ⌝ }
 {
-    let mut t = [65535u16; 16992];
+    let mut t = table::blank_table();
     match read_sheet::read_table(s, &mut t) {
         SheetRead::Refused(r) => refused(PickRefusal::Sheet(r)),
         SheetRead::Accepted {

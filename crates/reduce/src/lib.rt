@@ -116,7 +116,7 @@ pub fn run_over(t: &[u16], b: &mut [u8]) -> Reduced
 pub fn reduce(s: &[u8], b: &mut [u8]) -> Reduced
     ensures { λ r. ⌜ (r ≡ (runJob (now (s .entry)) (now (b .entry))) .answer) × (now (b .exit) ≡ (runJob (now (s .entry)) (now (b .entry))) .buffer) ⌝ }
 {
-    let mut t = [65535u16; 16992];
+    let mut t = table::blank_table();
     match read_sheet::read_table(s, &mut t) {
         SheetRead::Refused(r) => refused(ReduceRefusal::Sheet(r)),
         SheetRead::Accepted {

@@ -111,7 +111,7 @@ fn refused_start(r: SheetRefusal) -> StartAnswer
 pub fn start(s: &[u8]) -> StartAnswer
     ensures { λ r. ⌜ r ≡ startJob (now (s .entry)) ⌝ }
 {
-    let mut t = [65535u16; 16992];
+    let mut t = table::blank_table();
     match read_sheet::read_table(s, &mut t) {
         SheetRead::Refused(r) => refused_start(r),
         SheetRead::Accepted {

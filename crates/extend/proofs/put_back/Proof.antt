@@ -3,16 +3,18 @@ use mathlib.Core.Path.{sym, ap, _∙_}
 use Rattle.problem.specs.Problem.{Problem}
 use Rattle.jobs.specs.PutBack.{PutBackResult, putBackOver}
 use Rattle.jobs.proofs.Opened.{sheet-table, put-back-sheet-refused, put-back-kept}
-use Rattle.table.proofs.Blank.{blank-local}
 use borrow.Author.Needs.{needs}
 use Rattle.extend.proofs.put_back.Statement.{statement}
 use Rattle.extend.proofs.put_back.Tie as tie
+
+blank-table-requires : tie.Need-blank-table-requires
+blank-table-requires c κs = search needs
 
 slice-aggregate-read-table : tie.Need-slice-aggregate-read-table
 slice-aggregate-read-table c = search needs
 
 read-table-requires : tie.Need-read-table-requires
-read-table-requires c κs = blank-local
+read-table-requires c κs = c .before .blank-table .ensures
 
 enum-known-r : tie.Need-enum-known-r
 enum-known-r c = search needs
@@ -28,7 +30,7 @@ put-back-over-requires c κs = let r = c .before .before .before .before .before
 
 returns : tie.Need-returns
 returns c =
-    let a = c .before .before .before .before .before .before .before .before .before .before .args in
+    let a = c .before .before .before .before .before .before .before .before .before .before .before .args in
     let g = sym (put-back-sheet-refused (a .s .now) (a .trace .now) (a .plan .now) (a .out .now) _ (sym (c .before .before .before .before .read-table .ensures .0) ∙ c .before .r .given .1)) in
     (ap (λ (r : PutBackResult). r .answer) g, ap (λ (r : PutBackResult). r .result) g)
 
@@ -37,7 +39,7 @@ same-length c = search needs
 
 returns-2 : tie.Need-returns-2
 returns-2 c =
-    let a = c .before .before .before .before .before .before .before .before .before .before .before .before .before .before .args in
+    let a = c .before .before .before .before .before .before .before .before .before .before .before .before .before .before .before .args in
     let r = c .before .before .before .before .before .before .before .before .read-table .ensures in
     let x = sheet-table _ _ _ _ (sym (r .0) ∙ c .before .before .before .before .before .enum-told .given .1) (r .1) in
     let g = ap (λ (P : Problem). putBackOver P (a .trace .now) (a .plan .now) (a .out .now)) (x .2) ∙ sym (put-back-kept (a .s .now) (a .trace .now) (a .plan .now) (a .out .now) (x .0)) in
@@ -48,6 +50,7 @@ pub put-back-spec : {M : Type 1} → statement M
 put-back-spec =
     tie.close
     (tie.spec
+    blank-table-requires
     slice-aggregate-read-table
     read-table-requires
     enum-known-r

@@ -3,16 +3,18 @@ use mathlib.Core.Path.{sym, ap, _∙_}
 use Rattle.problem.specs.Problem.{Problem}
 use Rattle.jobs.specs.Hand.{callOver}
 use Rattle.jobs.proofs.Opened.{sheet-table, call-refused, call-kept}
-use Rattle.table.proofs.Blank.{blank-local}
 use borrow.Author.Needs.{needs}
 use Rattle.hand.proofs.hand_call.Statement.{statement}
 use Rattle.hand.proofs.hand_call.Tie as tie
+
+blank-table-requires : tie.Need-blank-table-requires
+blank-table-requires c κs = search needs
 
 slice-aggregate-read-table : tie.Need-slice-aggregate-read-table
 slice-aggregate-read-table c = search needs
 
 read-table-requires : tie.Need-read-table-requires
-read-table-requires c κs = blank-local
+read-table-requires c κs = c .before .blank-table .ensures
 
 enum-known-r : tie.Need-enum-known-r
 enum-known-r c = search needs
@@ -34,7 +36,7 @@ returns c = c .refused-call .ensures ∙ sym (call-refused _ _ _ _ (sym (c .befo
 
 returns-2 : tie.Need-returns-2
 returns-2 c =
-    let a = c .before .before .before .before .before .before .before .before .args in
+    let a = c .before .before .before .before .before .before .before .before .before .args in
     let r = c .before .before .before .before .before .read-table .ensures in
     let x = sheet-table _ _ _ _ (sym (r .0) ∙ c .before .before .enum-told .given .1) (r .1) in
     c .call-over .ensures ∙ ap (λ (P : Problem). callOver P (a .st) (a .i)) (x .2) ∙ sym (call-kept _ (a .st) (a .i) (x .0))
@@ -43,6 +45,7 @@ pub hand-call-spec : {M : Type 1} → statement M
 hand-call-spec =
     tie.close
     (tie.spec
+    blank-table-requires
     slice-aggregate-read-table
     read-table-requires
     enum-known-r

@@ -4,18 +4,20 @@ use native.Mathlib.Omega.{arith}
 use Rattle.sheet.specs.Sheet.{layout}
 use Rattle.sheet.proofs.Accepted.{facts}
 use Rattle.jobs.proofs.Opened.{sheet-table}
-use Rattle.table.proofs.Blank.{blank-local}
 use Rattle.moved.specs.Move.{MoveResult, otherVersion, moveOver}
 use Rattle.moved.proofs.Job.{moved-taken, move-sheet-refused, move-kept}
 use borrow.Author.Needs.{needs}
 use Rattle.moved.proofs.move_sheet.Statement.{statement}
 use Rattle.moved.proofs.move_sheet.Tie as tie
 
+blank-table-requires : tie.Need-blank-table-requires
+blank-table-requires c κs = search needs
+
 slice-aggregate-read-table : tie.Need-slice-aggregate-read-table
 slice-aggregate-read-table c = search needs
 
 read-table-requires : tie.Need-read-table-requires
-read-table-requires c κs = blank-local
+read-table-requires c κs = c .before .blank-table .ensures
 
 enum-known-r : tie.Need-enum-known-r
 enum-known-r c = search needs
@@ -40,7 +42,7 @@ move-over-requires c κs =
 
 returns : tie.Need-returns
 returns c =
-    let a = c .before .before .before .before .before .before .before .before .args in
+    let a = c .before .before .before .before .before .before .before .before .before .args in
     let q = move-sheet-refused (a .sheet .now) (a .target .now) _ (sym (c .before .before .before .before .read-table .ensures .0) ∙ c .before .r .given .1) in
     (ap (λ (x : MoveResult). x .answer) (sym q), ap (λ (x : MoveResult). x .target) (sym q))
 
@@ -49,7 +51,7 @@ same-length c = search needs
 
 returns-2 : tie.Need-returns-2
 returns-2 c =
-    let a = c .before .before .before .before .before .before .before .before .before .before .before .before .before .before .args in
+    let a = c .before .before .before .before .before .before .before .before .before .before .before .before .before .before .before .args in
     let r = c .before .before .before .before .before .before .before .before .before .before .read-table .ensures in
     let x = sheet-table _ _ _ _ (sym (r .0) ∙ c .before .before .before .before .before .before .before .enum-told .given .1) (r .1) in
     let v = c .before .before .before .before .other-version .ensures ∙ ap otherVersion (c .before .before .before .before .before .byte .ensures .is) in
@@ -61,6 +63,7 @@ pub move-sheet-spec : {M : Type 1} → statement M
 move-sheet-spec =
     tie.close
     (tie.spec
+    blank-table-requires
     slice-aggregate-read-table
     read-table-requires
     enum-known-r

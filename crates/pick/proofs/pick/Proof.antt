@@ -2,18 +2,20 @@
 use mathlib.Core.Path.{sym, ap, _∙_}
 use Rattle.problem.specs.Problem.{Problem}
 use Rattle.jobs.proofs.Opened.{sheet-table}
-use Rattle.table.proofs.Blank.{blank-local}
 use Rattle.pick.specs.Pick.{PickResult, pickOver}
 use Rattle.pick.proofs.Causes.{pick-sheet-refused, pick-kept}
 use borrow.Author.Needs.{needs}
 use Rattle.pick.proofs.pick.Statement.{statement}
 use Rattle.pick.proofs.pick.Tie as tie
 
+blank-table-requires : tie.Need-blank-table-requires
+blank-table-requires c κs = search needs
+
 slice-aggregate-read-table : tie.Need-slice-aggregate-read-table
 slice-aggregate-read-table c = search needs
 
 read-table-requires : tie.Need-read-table-requires
-read-table-requires c κs = blank-local
+read-table-requires c κs = c .before .blank-table .ensures
 
 enum-known-r : tie.Need-enum-known-r
 enum-known-r c = search needs
@@ -32,7 +34,7 @@ pick-over-requires c κs = let r = c .before .before .before .before .before .be
 
 returns : tie.Need-returns
 returns c =
-    let a = c .before .before .before .before .before .before .before .before .before .before .args in
+    let a = c .before .before .before .before .before .before .before .before .before .before .before .args in
     let q = sym (pick-sheet-refused (a .s .now) (a .trace .now) (a .plan .now) _ (sym (c .before .before .before .before .before .read-table .ensures .0) ∙ c .before .before .r .given .1)) in
     (c .refused .ensures ∙ ap (λ (x : PickResult). x .answer) q, (ap (λ (x : PickResult). x .trace) q, ap (λ (x : PickResult). x .plan) q))
 
@@ -44,7 +46,7 @@ same-length-2 c = search needs
 
 returns-2 : tie.Need-returns-2
 returns-2 c =
-    let a = c .before .before .before .before .before .before .before .before .before .before .before .before .before .before .before .before .args in
+    let a = c .before .before .before .before .before .before .before .before .before .before .before .before .before .before .before .before .before .args in
     let r = c .before .before .before .before .before .before .before .before .before .before .before .read-table .ensures in
     let x = sheet-table _ _ _ _ (sym (r .0) ∙ c .before .before .before .before .before .before .before .before .enum-told .given .1) (r .1) in
     let q = ap (λ (P : Problem). pickOver P (a .trace .now) (a .plan .now)) (x .2) ∙ sym (pick-kept (a .s .now) (a .trace .now) (a .plan .now) (x .0)) in
@@ -55,6 +57,7 @@ pub pick-spec : {M : Type 1} → statement M
 pick-spec =
     tie.close
     (tie.spec
+    blank-table-requires
     slice-aggregate-read-table
     read-table-requires
     enum-known-r

@@ -3,16 +3,18 @@ use mathlib.Core.Path.{sym, ap, _∙_}
 use Rattle.problem.specs.Problem.{Problem}
 use Rattle.jobs.specs.Run.{RunResult, runOver}
 use Rattle.jobs.proofs.Opened.{sheet-table, run-sheet-refused, run-kept}
-use Rattle.table.proofs.Blank.{blank-local}
 use borrow.Author.Needs.{needs}
 use Rattle.reduce.proofs.reduce.Statement.{statement}
 use Rattle.reduce.proofs.reduce.Tie as tie
+
+blank-table-requires : tie.Need-blank-table-requires
+blank-table-requires c κs = search needs
 
 slice-aggregate-read-table : tie.Need-slice-aggregate-read-table
 slice-aggregate-read-table c = search needs
 
 read-table-requires : tie.Need-read-table-requires
-read-table-requires c κs = blank-local
+read-table-requires c κs = c .before .blank-table .ensures
 
 enum-known-r : tie.Need-enum-known-r
 enum-known-r c = search needs
@@ -31,7 +33,7 @@ run-over-requires c κs = let r = c .before .before .before .before .before .rea
 
 returns : tie.Need-returns
 returns c =
-    let a = c .before .before .before .before .before .before .before .before .before .args in
+    let a = c .before .before .before .before .before .before .before .before .before .before .args in
     let q = run-sheet-refused (a .s .now) (a .b .now) _ (sym (c .before .before .before .before .before .read-table .ensures .0) ∙ c .before .before .r .given .1) in
     (c .refused .ensures ∙ ap (λ (x : RunResult). x .answer) (sym q), ap (λ (x : RunResult). x .buffer) (sym q))
 
@@ -40,7 +42,7 @@ same-length c = search needs
 
 returns-2 : tie.Need-returns-2
 returns-2 c =
-    let a = c .before .before .before .before .before .before .before .before .before .before .before .before .args in
+    let a = c .before .before .before .before .before .before .before .before .before .before .before .before .before .args in
     let r = c .before .before .before .before .before .before .before .before .read-table .ensures in
     let x = sheet-table _ _ _ _ (sym (r .0) ∙ c .before .before .before .before .before .enum-told .given .1) (r .1) in
     let q = ap (λ (P : Problem). runOver P (a .b .now)) (x .2) ∙ sym (run-kept (a .s .now) (a .b .now) (x .0)) in
@@ -51,6 +53,7 @@ pub reduce-spec : {M : Type 1} → statement M
 reduce-spec =
     tie.close
     (tie.spec
+    blank-table-requires
     slice-aggregate-read-table
     read-table-requires
     enum-known-r

@@ -2,16 +2,18 @@
 use mathlib.Core.Path.{sym, ap, _∙_}
 use Rattle.jobs.specs.Hand.{startOver}
 use Rattle.jobs.proofs.Opened.{sheet-table, start-refused, start-kept}
-use Rattle.table.proofs.Blank.{blank-local}
 use borrow.Author.Needs.{needs}
 use Rattle.start.proofs.start.Statement.{statement}
 use Rattle.start.proofs.start.Tie as tie
+
+blank-table-requires : tie.Need-blank-table-requires
+blank-table-requires c κs = search needs
 
 slice-aggregate-read-table : tie.Need-slice-aggregate-read-table
 slice-aggregate-read-table c = search needs
 
 read-table-requires : tie.Need-read-table-requires
-read-table-requires c κs = blank-local
+read-table-requires c κs = c .before .blank-table .ensures
 
 enum-known-r : tie.Need-enum-known-r
 enum-known-r c = search needs
@@ -41,6 +43,7 @@ pub start-spec : {M : Type 1} → statement M
 start-spec =
     tie.close
     (tie.spec
+    blank-table-requires
     slice-aggregate-read-table
     read-table-requires
     enum-known-r
