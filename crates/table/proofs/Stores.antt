@@ -1,5 +1,5 @@
 -- Loops that store entries in a part of a table. Assumes nothing.
-use mathlib.Core.Path.{_≡_, refl, sym, _∙_, subst}
+use mathlib.Core.Path.{_≡_, refl, sym, ap, _∙_, subst}
 use mathlib.Core.List.{List}
 use mathlib.Core.Logic.{⊎-elim}
 use Prim.Native.Nat.{ℕ, _+_, _*_, _<_}
@@ -9,8 +9,9 @@ use native.Mathlib.Omega.{arith}
 use lib.ListN.{length, getD, set, length-set}
 use lib.Seq.{getD-set-same, getD-set-other}
 use Rattle.bounded.proofs.Truth.{at-or-below}
-use Rattle.problem.specs.Places.{PlaceList}
+use Rattle.problem.specs.Places.{placeList}
 use Rattle.problem.specs.Held.{tableLength}
+use Rattle.places.proofs.Right.{places-right}
 use Rattle.table.specs.Parts.{Wrote, HasPlaces}
 
 pub wrote-none : (t : List ℕ) (p : ℕ) (f : ℕ → ℕ) → Wrote 0 t t p f
@@ -31,10 +32,10 @@ wrote-more n t u p f x l e w =
     }
 
 -- all 1,024 entries of the list of places
-pub wrote-places : (t u q : List ℕ) → length t ≡ tableLength → PlaceList q → Wrote 1024 t u 32 (λ k. getD q k 0) → HasPlaces t u
-wrote-places t u q e l w =
+pub wrote-places : (t u q : List ℕ) → length t ≡ tableLength → q ≡ placeList → Wrote 1024 t u 32 (λ k. getD q k 0) → HasPlaces t u
+wrote-places t u q e p w =
     record {
-      located = record { long = w .long ∙ e; places = λ i j li lj. w .there (32 * i + j) (omega arith) ∙ l .entry i j li lj };
+      located = record { long = w .long ∙ e; places = λ i j li lj. w .there (32 * i + j) (omega arith) ∙ ap (λ (x : List ℕ). getD x (32 * i + j) 0) p ∙ places-right .entry i j li lj };
       sizes = λ k m. w .below k m;
       rest = λ k m. w .above k m;
     }

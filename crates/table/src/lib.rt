@@ -4,7 +4,7 @@ ghost use mathlib.Core.Bool.{cond};
 ghost use Prim.Native.Nat.{_+_, _^_, _≤_, _<_};
 ghost use lib.ListN.{length, getD};
 ghost use Rattle.bounded.specs.Mask.{bit};
-ghost use Rattle.problem.specs.Places.{PlaceList};
+ghost use Rattle.problem.specs.Places.{placeList};
 ghost use Rattle.problem.specs.Held.{tableLength, Located};
 ghost use Rattle.problem.specs.Filling.{Entered};
 ghost use Rattle.table.specs.Parts.{turnedRow, turnedRows, cleared, Wrote, HasPlaces, Blank};
@@ -82,7 +82,7 @@ fn clear_far(t: &mut [u16], i: usize, j: usize)
 
 // Stores the list of places behind the sizes.
 fn copy_places(t: &mut [u16], q: &[u16; 1024])
-    requires { ⌜ (length (now t) ≡ tableLength) × PlaceList (now q) ⌝ }
+    requires { ⌜ (length (now t) ≡ tableLength) × (now q ≡ placeList) ⌝ }
     ensures { λ _. ⌜ HasPlaces (now (t .entry)) (now (t .exit)) ⌝ }
 {
     let mut k: usize = 0;
