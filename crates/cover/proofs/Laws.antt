@@ -25,10 +25,11 @@ use Rattle.problem.specs.declared.Break.{Break}
 use Rattle.problem.specs.declared.Break.the-variants.{Nowhere}
 use Rattle.problem.proofs.Reflect.{allOther-iff, spoils-iff, unspoilt-iff}
 use Rattle.problem.specs.Sentences.{Fits, Substitutes}
-use Rattle.problem.proofs.Spoiler.{breaks-iff}
+use Rattle.problem.proofs.Spoiler.{spoiler-iff, breaks-iff}
 use Rattle.problem.proofs.HeldTable.{row-lt, row-met}
 use Rattle.held.specs.Ready.{Ready, Value, Near}
 use Rattle.cover.specs.Words.{spoilerIn, firstBreakIn, coversIn, serversIn, servedIn, allServedIn, others, thirds}
+use Rattle.cover.specs.Broken.{BrokenIn}
 use Rattle.held.proofs.Laws.{row-says, near-free, part-values, live-value, domain-values, active-32, word-iff, word-lt}
 
 -- ---- the first break in a set
@@ -51,9 +52,13 @@ pub break-member : (P : Problem) (s : State) (rest i a j b l : ℕ) → T (not (
 break-member P s rest i a j b l h =
     imp-fails (bit rest l) (unspoilt (spoiler P s i a j b l)) (λ u. not-iff (unspoilt (spoilerIn P s rest i a j b l)) .0 h (subst T (sym (unspoilt-in P s rest i a j b l)) u)) .0
 
-holds-is : (x : Cover) → T (unspoilt x) → x ≡ Holds
-holds-is (Spoilt c) t = absurd t
-holds-is Holds t = refl
+-- the test's answer, read as yes or no
+holds-iff : (x : Cover) → T (unspoilt x) ↔ (x ≡ Holds)
+holds-iff x = (is x, λ e. subst (λ (y : Cover). T (unspoilt y)) (sym e) tt)
+  where
+    is : (x : Cover) → T (unspoilt x) → x ≡ Holds
+    is (Spoilt c) t = absurd t
+    is Holds t = refl
 
 -- the break that an answer tells of is one where the answer is spoilt
 unbroken-at : (l : ℕ) (x : Cover) → unbroken (breakAt l x) ≡ unspoilt x
@@ -87,6 +92,24 @@ pub servers-lt : (P : Problem) (s : State) (rest good i j w : ℕ) → serversIn
 unfolding serversIn
 servers-lt P s rest good i j w = mask-lt 16 (λ u. bit good u && coversIn P s rest i u j w)
 
+module _ (P : Problem) (s : State) (rest i : ℕ) where
+  covers-holds : (a j b : ℕ) → T (coversIn P s rest i a j b) ↔ ((l : ℕ) → l < 32 → T (bit rest l) → spoiler P s i a j b l ≡ Holds)
+  covers-holds a j b = rw (covers-all P s rest i a j b) (simp (all-iff, imp-iff, holds-iff) Iff·rfl)
+
+  -- Lane u is 1 exactly where u was asked and the cover test answers `Holds` at each variable of the set.
+  pub lane-iff : (good j w u : ℕ) → T (bit (serversIn P s rest good i j w) u) ↔ ((u < 16) × T (bit good u) × ((l : ℕ) → l < 32 → T (bit rest l) → spoiler P s i u j w l ≡ Holds))
+  unfolding serversIn
+  lane-iff good j w u = (
+    λ h. let k = member-lt 16 _ u (servers-lt P s rest good i j w) h in
+        let y = and-iff (bit good u) (coversIn P s rest i u j w) .0 (subst T (bit-mask 16 f u k) h) in
+        (k, y .0, covers-holds u j w .0 (y .1)),
+    λ y. subst T (sym (bit-mask 16 f u (y .0))) (and-iff (bit good u) (coversIn P s rest i u j w) .1 (y .1, covers-holds u j w .1 (y .2))),
+  )
+    where
+      f : ℕ → Bool
+      f u = bit good u && coversIn P s rest i u j w
+
+-- the same as sentences, of a state that fits
 module _ {P : Problem} {s : State} (F : Fits P s) where
   pub coversIn-iff : (rest i a j b : ℕ) → T (coversIn P s rest i a j b) ↔ ((l : ℕ) → l < 32 → T (bit rest l) → Substitutes P s i a j b l)
   coversIn-iff rest i a j b = rw (covers-all P s rest i a j b) (simp (all-iff, imp-iff, unspoilt-iff F) Iff·rfl)
@@ -96,16 +119,14 @@ module _ {P : Problem} {s : State} (F : Fits P s) where
   servedIn-iff rest good i j w = simp (any-iff, and-iff, coversIn-iff) Iff·rfl
 
   pub serversIn-iff : (rest good i j w u : ℕ) → T (bit (serversIn P s rest good i j w) u) ↔ ((u < 16) × T (bit good u) × ((l : ℕ) → l < 32 → T (bit rest l) → Substitutes P s i u j w l))
-  unfolding serversIn
   serversIn-iff rest good i j w u = (
-    λ h. let k = member-lt 16 _ u (servers-lt P s rest good i j w) h in
-        let y = and-iff (bit good u) (coversIn P s rest i u j w) .0 (subst T (bit-mask 16 f u k) h) in
-        (k, y .0, coversIn-iff rest i u j w .0 (y .1)),
-    λ y. subst T (sym (bit-mask 16 f u (y .0))) (and-iff (bit good u) (coversIn P s rest i u j w) .1 (y .1, coversIn-iff rest i u j w .1 (y .2))),
+    λ h. let y = lane-iff P s rest i good j w u .0 h in (y .0, y .1, λ l k o. spoiler-iff F i u j w l Holds .0 (y .2 l k o)),
+    λ y. lane-iff P s rest i good j w u .1 (y .0, y .1, λ l k o. spoiler-iff F i u j w l Holds .1 (y .2 l k o)),
   )
-    where
-      f : ℕ → Bool
-      f u = bit good u && coversIn P s rest i u j w
+
+  -- where the others break
+  pub broken-at : {rest good left broken i j w : ℕ} → BrokenIn P s rest good left broken i j w → (u : ℕ) → T (bit good u) → (T (bit left u) → ⊥) → (l : ℕ) × (l < 32) × T (bit broken l) × T (bit rest l) × (Substitutes P s i u j w l → ⊥)
+  broken-at B u on off = let y = B .at u on off in (y .0, y .1, y .2, y .3, λ h. y .4 (spoiler-iff F _ u _ _ (y .0) Holds .1 h))
 
   -- some left: one of the set covers
   pub servers-some : (rest good i j w : ℕ) → serversIn P s rest good i j w ≢ 0 → (u : ℕ) × (u < 16) × (T (bit good u) × ((l : ℕ) → l < 32 → T (bit rest l) → Substitutes P s i u j w l))
@@ -252,7 +273,7 @@ module _ {t : List ℕ} {m : Masks} (R : Ready t m) where
   near-covers i a j b x v near l k d e c o al = near-free (R .table) i a l x v near k d e c (R .fits .live-lt l c o)
 
   near-spoiler : (i a j b x : ℕ) → Value t i a → Near t i x → (l : ℕ) → l < 32 → l ≢ i → bit x l ≡ false → spoiler (held t) (stateOf m) i a j b l ≡ Holds
-  near-spoiler i a j b x v near l k d e = holds-is _ (unspoilt-iff (R .fits) i a j b l .1 (near-covers i a j b x v near l k d e))
+  near-spoiler i a j b x v near l k d e = spoiler-iff (R .fits) i a j b l Holds .1 (near-covers i a j b x v near l k d e)
 
   -- so the first break among the neighbours of i is the first break
   module _ (rest i a j b x : ℕ) (v : Value t i a) (near : Near t i x) (out : bit rest i ≡ false) where

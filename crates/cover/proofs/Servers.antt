@@ -21,13 +21,15 @@ use Rattle.problem.specs.Problem.{Problem, State}
 use Rattle.problem.specs.Held.{rowWord, rowsAt, held, RowTable}
 use Rattle.problem.specs.Masks.{stateOf}
 use Rattle.problem.specs.declared.Masks.{Masks}
+use Rattle.problem.specs.declared.Cover.the-variants.{Holds}
 use Rattle.problem.specs.Sentences.{Fits, Substitutes}
+use Rattle.problem.proofs.Spoiler.{spoiler-iff}
 use Rattle.problem.proofs.HeldTable.{row-met, held-value}
 use Rattle.held.specs.Ready.{Ready, Values, Near, Among}
 use Rattle.held.proofs.Laws.{row-says, part-values, live-value, word-iff, word-lt}
 use Rattle.cover.specs.Words.{allowedWith, serversIn, servedIn, allServedIn}
 use Rattle.cover.specs.Broken.{BrokenIn, UnservedIn}
-use Rattle.cover.proofs.Laws.{apart, near-covers, servers-lt, servers-some, serversIn-iff, servedIn-iff}
+use Rattle.cover.proofs.Laws.{apart, near-covers, servers-lt, servers-some, serversIn-iff, servedIn-iff, broken-at}
 
 -- ---- the values allowed with a whole set
 
@@ -131,7 +133,7 @@ module _ {t : List ℕ} {m : Masks} (R : Ready t m) where
           shown = record {
             small = more-lt (not (eqb next some)) (S .shown .small);
             at = λ u on off. elim (T-dec (bit some u)) [
-              | inl z ↦ (l, k, more-has u z off, here, λ h. off (next-iff (S .values) u .1 (z, h)))
+              | inl z ↦ (l, k, more-has u z off, here, λ h. off (next-iff (S .values) u .1 (z, spoiler-iff (R .fits) i u j w l Holds .0 h)))
               | inr z ↦ let y = S .shown .at u on z in (y .0, y .1, more-keeps (not (eqb next some)) (y .0) (y .2), y .3, y .4)
             ];
           };
@@ -143,7 +145,7 @@ module _ {t : List ℕ} {m : Masks} (R : Ready t m) where
       mask-ext 16 some (serversIn P s rest good i j w) (S .values .small) (servers-lt P s rest good i j w)
       (λ u k. T-ext (
         λ h. serversIn-iff (R .fits) rest good i j w u .1 (k, S .part u h, λ l q on. S .covers u h l q on (none u h l)),
-        λ h. let y = serversIn-iff (R .fits) rest good i j w u .0 h in elim (T-dec (bit some u)) [ inl z ↦ z | inr z ↦ absurd (let b = S .shown .at u (y .1) z in b .4 (y .2 (b .0) (b .1) (b .3))) ],
+        λ h. let y = serversIn-iff (R .fits) rest good i j w u .0 h in elim (T-dec (bit some u)) [ inl z ↦ z | inr z ↦ absurd (let b = broken-at (R .fits) (S .shown) u (y .1) z in b .4 (y .2 (b .0) (b .1) (b .3))) ],
       ))
     where
       none : (u : ℕ) → T (bit some u) → (l : ℕ) → T (bit left l) → ⊥

@@ -1,9 +1,9 @@
 -- Rows of a table and sets of a state that fits it, as words. Assumes nothing.
 use mathlib.Core.Path.{_≡_, sym, ap, _∙_, subst}
-use mathlib.Core.Bool.{Bool, true, false, not}
+use mathlib.Core.Bool.{Bool, true, false, not, _&&_}
 use mathlib.Core.Logic.{inl, inr, _≢_, _↔_}
 use mathlib.Core.List.{List}
-use Prim.Native.Nat.{ℕ, _^_, _≤_, _<_}
+use Prim.Native.Nat.{ℕ, _+_, _^_, _≤_, _<_}
 use native.Mathlib.Omega.{arith}
 use native.Mathlib.Nat.{lt-of-le-of-lt}
 use lib.Dec.{T, eqb, ltb}
@@ -16,12 +16,12 @@ use Rattle.bounded.proofs.Truth.{T-ext, T-of, T-dec, T-false, and-iff, imp-iff,
 use Rattle.bounded.proofs.Bounded.{all-iff, any-iff}
 use Rattle.bounded.proofs.Mask.{bit-and, bit-mask, bit-mask-all, mask-lt, zero-bits}
 use Rattle.problem.specs.Problem.{Problem, State, allActive, allLive, anyLive}
-use Rattle.problem.specs.Held.{rowWord, heldSize, heldVariables, held, RowTable}
+use Rattle.problem.specs.Held.{rowWord, rowsAt, heldSize, heldVariables, held, RowTable}
 use Rattle.problem.specs.Masks.{stateOf}
 use Rattle.problem.specs.declared.Masks.{Masks}
 use Rattle.problem.proofs.Reflect.{allActive-iff, allLive-iff, anyLive-iff}
 use Rattle.problem.specs.Sentences.{Active, Live, Allowed, Fits}
-use Rattle.problem.proofs.HeldTable.{row-word, row-only, held-bounded, held-few, held-narrow, heldValue-iff, far-free}
+use Rattle.problem.proofs.HeldTable.{row-word, row-only, row-tells, row-met, held-bounded, held-few, held-narrow, held-value, heldValue-iff, far-free}
 use Rattle.held.specs.Ready.{Ready, Value, Values, Near, Among}
 
 module _ {P : Problem} {s : State} (F : Fits P s) where
@@ -35,6 +35,16 @@ module _ {P : Problem} {s : State} (F : Fits P s) where
 -- a row of a filled table, bit by bit
 pub row-says : {t : List ℕ} → RowTable t → (i j a c : ℕ) → bit (rowWord (held t) i j a) c ≡ (held t) .allowed i a j c
 row-says R = row-word (held-bounded R)
+
+-- The word of the table that the cover test reads, as it stands there: at each setting c of j its bit is set exactly where c is allowed. Of
+-- bits beyond the size of j nothing is said; met with a set of values of j, as each reader of the word has it, they count for nothing.
+pub row-read : {t : List ℕ} → RowTable t → (i a j : ℕ) → Value t i a → j ≢ i
+    → ((c : ℕ) → c < (held t) .size j → bit (getD t (rowsAt i j + a) 0) c ≡ (held t) .allowed i a j c)
+    × ((x : ℕ) → Values t j x → (c : ℕ) → bit (bitAnd x (getD t (rowsAt i j + a) 0)) c ≡ (bit x c && (held t) .allowed i a j c))
+row-read R i a j v d = (
+  λ c k. row-tells R i a j (v .listed) (λ e. d (sym e)) c (held-value R j c k),
+  λ x vs c. ap (λ (y : ℕ). bit y c) (row-met R i a j (v .listed) (λ e. d (sym e)) x (vs .small) (vs .within)) ∙ bit-and x _ c ∙ ap (λ (b : Bool). bit x c && b) (row-says R i j a c),
+)
 
 -- the values that j has, as a set
 pub all-values : {t : List ℕ} → RowTable t → (j : ℕ) → Values t j (maskOf 16 (λ c. ltb c ((held t) .size j)))

@@ -36,7 +36,7 @@ use Rattle.held.proofs.Laws.{active-32, live-value}
 use Rattle.held.proofs.Bounds.{no-value}
 use Rattle.cover.specs.Words.{serversIn, others}
 use Rattle.cover.specs.Broken.{BrokenIn}
-use Rattle.cover.proofs.Laws.{serversIn-iff, servers-lt, others-iff}
+use Rattle.cover.proofs.Laws.{serversIn-iff, servers-lt, broken-at, others-iff}
 use Rattle.neighbourhood.specs.Parts.{neighbourhoodValue, neighbourhoodVariable}
 
 -- whether the search finds a step at b
@@ -134,7 +134,7 @@ module _ {t : List ℕ} {m : Masks} (R : Ready t m) where
       covers-rests {some} {broken} B e =
           neighbourhood-rests i b (λ a o d.
           let v = live-value R i a o .value in
-          let y = B .at a (good-iff a v .1 (o, d)) (λ h. member-some some a h e) in
+          let y = broken-at (R .fits) B a (good-iff a v .1 (o, d)) (λ h. member-some some a h e) in
           (y .0, others-iff (m .active) i (y .0) l (y .1) .0 (y .3) .1, λ c. y .2, y .4))
 
       -- and the loop goes on

@@ -33,7 +33,7 @@ use Rattle.problem.specs.Reduce.{stepIf, first, nextSnake}
 use Rattle.problem.specs.declared.Record.the-variants.{Snake}
 use Rattle.problem.specs.declared.Next.the-variants.{Step, Nothing}
 use Rattle.held.proofs.Laws.{near-free, live-value, active-32, word-iff, bit-value}
-use Rattle.cover.proofs.Laws.{serversIn-iff, servers-lt, allServedIn-iff, thirds-iff, others-iff, other-apart}
+use Rattle.cover.proofs.Laws.{serversIn-iff, servers-lt, allServedIn-iff, broken-at, thirds-iff, others-iff, other-apart}
 use Rattle.problem.proofs.Search.{stepIf-on, first-off, first-at, wide-two, outside}
 use Rattle.held.proofs.Bounds.{no-value}
 
@@ -99,7 +99,7 @@ module _ {t : List ℕ} {m : Masks} (R : Ready t m) (i v j : ℕ) (p : i < 32) (
             λ n. let f = U .fails n in
             snake-rests i v j (f .w) d (f .asked) (f .own) (λ al. f .other (word-iff R i v j (f .w) .1 (f .asked, al)))
             (λ u o g.
-            let b = f .broken .at u (word-iff R i v j u .1 (o, g)) (T-not (bit-none u)) in
+            let b = broken-at (R .fits) (f .broken) u (word-iff R i v j u .1 (o, g)) (T-not (bit-none u)) in
             let z = thirds-iff (m .active) i j (b .0) p q (b .1) .0 (b .3) in
             (b .0, (z .0 .1, z .1), λ c. b .2, b .4));
       }

@@ -35,7 +35,7 @@ use Rattle.held.specs.Ready.{Ready, Values, Near, Among}
 use Rattle.held.proofs.Laws.{near-free, live-value, active-32, word-iff, domain-among}
 use Rattle.cover.specs.Words.{serversIn, others, thirds}
 use Rattle.cover.specs.Broken.{BrokenIn}
-use Rattle.cover.proofs.Laws.{serversIn-iff, servers-lt, others-iff, thirds-iff}
+use Rattle.cover.proofs.Laws.{serversIn-iff, servers-lt, broken-at, others-iff, thirds-iff}
 use Rattle.support.specs.Words.{supportedBy, partnersOf}
 use Rattle.snake_substitution.proofs.Laws.{variable-off, variable-none}
 use Rattle.snake_substitution.proofs.Words.{without-still}
@@ -183,7 +183,7 @@ module _ {t : List ℕ} {m : Masks} (R : Ready t m) where
             by u o al (inl z) w = absurd (off (kept-iff a .1 (inl (set-iff a .1 (alive, subst (λ (u : ℕ). Allowed P i a k u) z al)))))
             by u o al (inr z) (inl w) = absurd (off (kept-iff a .1 (inr (reach-iff a .1 (alive, (u, w, turn P i a k u al))))))
             by u o al (inr z) (inr w) =
-                let y = B .at u (subst (λ (z : ℕ). T (bit z u)) (sym other) (without-still (getD (m .domains) k 0) d u (live-value R k d on .value) (live-value R k u o .value) o z)) w in
+                let y = broken-at (R .fits) B u (subst (λ (z : ℕ). T (bit z u)) (sym other) (without-still (getD (m .domains) k 0) d u (live-value R k d on .value) (live-value R k u o .value) o z)) w in
                 let v = third (y .0) (y .1) .0 (y .3) in
                 (y .0, (v .0 .1, v .1), λ c. with-keeps broken k (y .0) (y .2), y .4)
 

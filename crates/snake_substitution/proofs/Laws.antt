@@ -29,7 +29,7 @@ use Rattle.problem.specs.Reduce.{stepIf, first, nextSnakeSubstitutionBy, nextSn
 use Rattle.problem.specs.declared.Record.the-variants as record·
 use Rattle.problem.specs.declared.Next.the-variants.{Step, Nothing}
 use Rattle.held.proofs.Laws.{near-free, live-value, active-32, word-iff}
-use Rattle.cover.proofs.Laws.{allServedIn-iff, thirds-iff, other-apart}
+use Rattle.cover.proofs.Laws.{broken-at, allServedIn-iff, thirds-iff, other-apart}
 use Rattle.problem.proofs.Run.{first-each, stepIf-none}
 use Rattle.problem.proofs.Search.{stepIf-on, stepIf-off, first-off, first-at, wide-three, outside}
 use Rattle.held.proofs.Bounds.{no-value}
@@ -47,7 +47,7 @@ unserved-test {P} {s} {rest} {good} {bad} {j} {r} F u =
     no : Fault P s rest good bad j r → T (allServedIn P s rest good bad j) → ⊥
     no f h =
         let x = allServedIn-iff F rest good bad j .0 h (f .w) (f .small) (f .asked, f .other) in
-        let y = f .broken .at (x .0) (x .2 .0) (T-not (bit-none (x .0))) in
+        let y = broken-at F (f .broken) (x .0) (x .2 .0) (T-not (bit-none (x .0))) in
         y .4 (x .2 .1 (y .0) (y .1) (y .3))
 
 module _ {t : List ℕ} {m : Masks} (R : Ready t m) where

@@ -33,7 +33,7 @@ use Rattle.held.proofs.Laws.{active-32, live-value, word-iff}
 use Rattle.held.proofs.Bounds.{no-variable, not-active}
 use Rattle.cover.specs.Words.{serversIn, thirds}
 use Rattle.cover.specs.Broken.{BrokenIn}
-use Rattle.cover.proofs.Laws.{serversIn-iff, servers-lt, thirds-iff}
+use Rattle.cover.proofs.Laws.{serversIn-iff, servers-lt, broken-at, thirds-iff}
 use Rattle.triangle.specs.Parts.{Folded, triangleVariable}
 
 -- ---- the folds that are pending
@@ -133,7 +133,7 @@ module _ {t : List ℕ} {m : Masks} (R : Ready t m) where
           most = omega arith;
           holds = λ f. absurd (omega arith);
           fails = λ d. triangle-rests i j v o (inr (refl, refl)) (λ u on a.
-              let y = B .at u (word-iff R j v i u .1 (on, turn P i u j v a)) (λ h. member-some some u h e) in
+              let y = broken-at (R .fits) B u (word-iff R j v i u .1 (on, turn P i u j v a)) (λ h. member-some some u h e) in
               let z = thirds-iff (m .active) i j (y .0) p q (y .1) .0 (y .3) in
               (y .0, (z .0 .1, z .1), λ c. inl (y .2), y .4));
         }
