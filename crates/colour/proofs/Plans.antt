@@ -1,13 +1,14 @@
 -- The plans of the sheet that is written are the proper colourings of the file's graph; its blocks are the edges. Assumes nothing.
 use mathlib.Core.Path.{_≡_, refl, sym, ap, _∙_, subst}
 use mathlib.Core.Bool.{Bool, true, false, not, _&&_, _||_, or-true}
-use mathlib.Core.List.{List, [], _∷_, _++_}
+use mathlib.Core.List.{List, [], _∷_, _++_, append-assoc}
 use mathlib.Core.Logic.{_⊎_, inl, inr, ⊎-elim, _≢_, _↔_, Iff·rfl}
 use Prim.Native.Nat.{ℕ, suc, _+_, _-_, _≤_, _<_}
 use native.Mathlib.Omega.{arith}
 use lib.Dec.{T, eqb, ltb}
 use lib.ListN.{length, take, getD}
-use borrow.Author.Tests.{lt-ltb, le-ltb, eq-eqb, ne-eqb, ltb-false}
+use borrow.Author.Tests.{lt-ltb, le-ltb, eq-eqb, ne-eqb, eqb-true, ltb-false, not-false}
+use Rattle.bounded.specs.Bounded.{oneIf}
 use Rattle.bounded.specs.Mask.{bit}
 use Rattle.bounded.proofs.Truth.{T-true, T-of, T-not, T-ext, and-iff, or-iff, eqb-iff, ltb-iff, lt-dec, split, both, neither, clash}
 use Rattle.problem.specs.Problem.{Problem, full}
@@ -18,7 +19,7 @@ use Rattle.problem.specs.Sentences.{Solution}
 use Rattle.sheet.specs.Sheet.{layout, versionOf, Keeps}
 use Rattle.sheet.specs.Relation.{rowsOf, rowIn, problemOf}
 use Rattle.sheet.specs.declared.Rows.the-variants.{At}
-use Rattle.graph.specs.Graph.{anyLine, fileLines, lineAt, badFile, badLines, isBad, isSize, edgeFirst, fileLimit, isOutside, strays, countLines, isEdge}
+use Rattle.graph.specs.Graph.{anyLine, fileLines, lineAt, badFile, badLines, isBad, isSize, edgeFirst, fileLimit, isOutside, strays, countLines, isEdge, isLoop, statedVertices, statedEdges}
 use Rattle.graph.specs.Colouring.{joins, adjacent, colouring}
 use Rattle.graph.specs.declared.Line.{Line}
 use Rattle.graph.specs.declared.Line.the-variants.{Comment, Size, Edge, Bad}
@@ -27,7 +28,8 @@ use Rattle.graph.proofs.Turned.{BadFile, bad-file-iff, there}
 use Rattle.compose.specs.Compose.{sheetBytes}
 use Rattle.compose.proofs.Written.{written-keeps, written-problem, written-short}
 use Rattle.compose.proofs.Blocks.{layout-roomy, row-allows, block-bars}
-use Rattle.colour.specs.Colour.{colouredNumber, verticesOf, graphProblem, graphSheet, colourJob}
+use Rattle.colour.specs.Colour.{colouredNumber, verticesOf, hasLoop, miscounted, outOfRange, graphProblem, graphSheet, refuseIf, colourDone, colourJob}
+use Rattle.colour.specs.declared.ColourRefusal.the-variants.{File, Loop, Count, Range, Buffer}
 use Rattle.colour.specs.declared.Coloured.the-variants.{Written}
 use Rattle.colour.proofs.Filling.{joinedPair, allows, colouring-size, colouring-vertices, colouring-bounded}
 use Rattle.colour.proofs.Job.{InRange}
@@ -332,10 +334,10 @@ pub record Again (a c : ℕ) (x y : List Line) : Type 0 where
   -- and the `e` lines are one more
   pub counted : countLines isEdge (x ++ (Edge a c ∷ y)) ≡ suc (countLines isEdge (x ++ y))
 
-again-count : (a c : ℕ) (x y : List Line) → countLines isEdge (x ++ (Edge a c ∷ y)) ≡ suc (countLines isEdge (x ++ y))
+count-insert : (t : Line → Bool) (l : Line) (x y : List Line) → countLines t (x ++ (l ∷ y)) ≡ oneIf (t l) + countLines t (x ++ y)
 unfolding countLines
-again-count a c [] y = omega arith
-again-count a c (l ∷ x) y = let ih = again-count a c x y in omega arith
+count-insert t l [] y = refl
+count-insert t l (z ∷ x) y = let ih = count-insert t l x y in omega arith
 
 or-swap : (a b c : Bool) → (a || (b || c)) ≡ (b || (a || c))
 or-swap true b c = sym (or-true b)
@@ -350,22 +352,157 @@ or-told : (a b : Bool) → (T a → T b) → (a || b) ≡ b
 or-told true b h = sym (T-true b (h tt))
 or-told false b h = refl
 
+-- the ends of an edge exchanged join the same items
+joins-turn : (i j a c : ℕ) → T (joins i j (Edge a c)) → T (joins i j (Edge c a))
+joins-turn i j a c h = joins-iff i j (Edge c a) .1 (turn (joins-iff i j (Edge a c) .0 h))
+  where
+    turn : (Edge a c ≡ Edge (i + 1) (j + 1)) ⊎ (Edge a c ≡ Edge (j + 1) (i + 1)) → (Edge c a ≡ Edge (i + 1) (j + 1)) ⊎ (Edge c a ≡ Edge (j + 1) (i + 1))
+    turn (inl q) = let s : a ≡ i + 1 = cc in let t : c ≡ j + 1 = cc in inr (λ z. Edge (t z) (s z))
+    turn (inr q) = let s : a ≡ j + 1 = cc in let t : c ≡ i + 1 = cc in inl (λ z. Edge (t z) (s z))
+
+-- an edge given again changes no test that takes it either way round
+any-again : (t : Line → Bool) (a c : ℕ) → (T (t (Edge a c)) → T (t (Edge c a)) × (T (t Bad) → ⊥)) → (x y : List Line) (m : ℕ) → (getD (x ++ y) m Bad ≡ Edge a c) ⊎ (getD (x ++ y) m Bad ≡ Edge c a)
+    → anyLine t (x ++ (Edge a c ∷ y)) ≡ anyLine t (x ++ y)
+any-again t a c h x y m e =
+    any-insert t (Edge a c) x y
+    ∙ or-told (t (Edge a c)) (anyLine t (x ++ y))
+    (λ k.
+    let w : T (t (getD (x ++ y) m Bad)) = ⊎-elim (λ q. subst (λ (l : Line). T (t l)) (sym q) k) (λ q. subst (λ (l : Line). T (t l)) (sym q) (h k .0)) e in
+    anyLine-iff t (x ++ y) .1 (m, there t (h k .1) (x ++ y) m w, w))
+
 pub edge-again : (a c : ℕ) (x y : List Line) (m : ℕ) → (getD (x ++ y) m Bad ≡ Edge a c) ⊎ (getD (x ++ y) m Bad ≡ Edge c a) → Again a c x y
 unfolding adjacent
-edge-again a c x y m e = record { joined = same; counted = again-count a c x y }
-  where
-    -- whichever way round it stands there
-    stands : (i j : ℕ) → (getD (x ++ y) m Bad ≡ Edge a c) ⊎ (getD (x ++ y) m Bad ≡ Edge c a) → (Edge a c ≡ Edge (i + 1) (j + 1)) ⊎ (Edge a c ≡ Edge (j + 1) (i + 1))
-        → (getD (x ++ y) m Bad ≡ Edge (i + 1) (j + 1)) ⊎ (getD (x ++ y) m Bad ≡ Edge (j + 1) (i + 1))
-    stands i j (inl q) (inl r) = inl (q ∙ r)
-    stands i j (inl q) (inr r) = inr (q ∙ r)
-    stands i j (inr q) (inl r) = let s : a ≡ i + 1 = cc in let t : c ≡ j + 1 = cc in inr (q ∙ (λ z. Edge (t z) (s z)))
-    stands i j (inr q) (inr r) = let s : a ≡ j + 1 = cc in let t : c ≡ i + 1 = cc in inl (q ∙ (λ z. Edge (t z) (s z)))
+edge-again a c x y m e =
+    record {
+      joined = λ i j. any-again (joins i j) a c (λ k. (joins-turn i j a c k, λ h. h)) x y m e;
+      counted = let n = count-insert isEdge (Edge a c) x y in omega arith;
+    }
 
-    same : (i j : ℕ) → adjacent (x ++ (Edge a c ∷ y)) i j ≡ adjacent (x ++ y) i j
-    same i j =
-        any-insert (joins i j) (Edge a c) x y
-        ∙ or-told (joins i j (Edge a c)) (anyLine (joins i j) (x ++ y))
-        (λ h.
-        let w = joins-iff i j (getD (x ++ y) m Bad) .1 (stands i j e (joins-iff i j (Edge a c) .0 h)) in
-        anyLine-iff (joins i j) (x ++ y) .1 (m, there (joins i j) (λ h. h) (x ++ y) m w, w))
+-- ---- the same of two files
+
+-- g is the file f with an edge given again: the `p` line states one edge more, and after it stands one `e` line more, of the vertices of an
+-- edge of f, either way round
+pub record GivenAgain (f g : List ℕ) : Type 0 where
+  pub x : List Line
+  pub y : List Line
+  pub z : List Line
+  pub v : ℕ
+  pub e : ℕ
+  pub a : ℕ
+  pub c : ℕ
+  pub m : ℕ
+  pub first : fileLines f ≡ x ++ (Size v e ∷ (y ++ z))
+  pub second : fileLines g ≡ x ++ (Size v (suc e) ∷ (y ++ (Edge a c ∷ z)))
+  pub edge : EdgeLine f m a c
+
+-- the first `p` line of either stands at one place and states as many vertices
+same-vertices : (v e d : ℕ) (x p q : List Line) → statedVertices (x ++ (Size v e ∷ p)) ≡ statedVertices (x ++ (Size v d ∷ q))
+unfolding statedVertices
+same-vertices v e d [] p q = refl
+same-vertices v e d (Comment ∷ x) p q = same-vertices v e d x p q
+same-vertices v e d (Size w u ∷ x) p q = refl
+same-vertices v e d (Edge a b ∷ x) p q = same-vertices v e d x p q
+same-vertices v e d (Bad ∷ x) p q = same-vertices v e d x p q
+
+same-first : (v e d : ℕ) (x p q : List Line) → edgeFirst (x ++ (Size v e ∷ p)) ≡ edgeFirst (x ++ (Size v d ∷ q))
+unfolding edgeFirst
+same-first v e d [] p q = refl
+same-first v e d (Comment ∷ x) p q = same-first v e d x p q
+same-first v e d (Size w u ∷ x) p q = refl
+same-first v e d (Edge a b ∷ x) p q = refl
+same-first v e d (Bad ∷ x) p q = same-first v e d x p q
+
+-- where it is the only one, it states the edges
+only-states : (v e : ℕ) (x p : List Line) → countLines isSize (x ++ (Size v e ∷ p)) ≡ 1 → statedEdges (x ++ (Size v e ∷ p)) ≡ e
+unfolding statedEdges countLines
+only-states v e [] p h = refl
+only-states v e (Comment ∷ x) p h = only-states v e x p (omega (arith, h))
+only-states v e (Size w u ∷ x) p h = let n = count-insert isSize (Size v e) x p in absurd (omega arith)
+only-states v e (Edge a b ∷ x) p h = only-states v e x p (omega (arith, h))
+only-states v e (Bad ∷ x) p h = only-states v e x p (omega (arith, h))
+
+eqb-more : (n k p q : ℕ) → n ≡ 1 + p → k ≡ 1 + q → eqb n k ≡ eqb p q
+eqb-more n k p q h l = T-ext {a = eqb n k} {b = eqb p q} (λ t. let z = eqb-iff n k .0 t in eqb-iff p q .1 (omega arith), λ t. let z = eqb-iff p q .0 t in eqb-iff n k .1 (omega arith))
+
+module _ {f g : List ℕ} (G : GivenAgain f g) where
+  abbrev E : Line
+  E = Edge (G .a) (G .c)
+
+  -- the lines of f up to the new one
+  abbrev to : List Line
+  to = G .x ++ (Size (G .v) (G .e) ∷ G .y)
+
+  made : to ++ G .z ≡ fileLines f
+  made = append-assoc (G .x) (Size (G .v) (G .e) ∷ G .y) (G .z) ∙ sym (G .first)
+
+  edged : to ++ (E ∷ G .z) ≡ G .x ++ (Size (G .v) (G .e) ∷ (G .y ++ (E ∷ G .z)))
+  edged = append-assoc (G .x) (Size (G .v) (G .e) ∷ G .y) (E ∷ G .z)
+
+  any-same : (t : Line → Bool) → t (Size (G .v) (suc (G .e))) ≡ t (Size (G .v) (G .e)) → (T (t E) → T (t (Edge (G .c) (G .a))) × (T (t Bad) → ⊥)) → anyLine t (fileLines g) ≡ anyLine t (fileLines f)
+  any-same t p h =
+      let rest = G .y ++ (E ∷ G .z) in
+      ap (anyLine t) (G .second) ∙ any-insert t (Size (G .v) (suc (G .e))) (G .x) rest ∙ ap (λ (s : Bool). s || anyLine t (G .x ++ rest)) p ∙ sym (any-insert t (Size (G .v) (G .e)) (G .x) rest)
+      ∙ ap (anyLine t) (sym edged)
+      ∙ any-again t (G .a) (G .c) h to (G .z) (G .m) (subst (λ (l : List Line). (getD l (G .m) Bad ≡ E) ⊎ (getD l (G .m) Bad ≡ Edge (G .c) (G .a))) (sym made) (G .edge))
+      ∙ ap (anyLine t) made
+
+  counted-more : (t : Line → Bool) → oneIf (t (Size (G .v) (suc (G .e)))) ≡ oneIf (t (Size (G .v) (G .e))) → countLines t (fileLines g) ≡ oneIf (t E) + countLines t (fileLines f)
+  counted-more t p =
+      let rest = G .y ++ (E ∷ G .z) in
+      ap (countLines t) (G .second) ∙ count-insert t (Size (G .v) (suc (G .e))) (G .x) rest ∙ ap (λ (n : ℕ). n + countLines t (G .x ++ rest)) p ∙ sym (count-insert t (Size (G .v) (G .e)) (G .x) rest)
+      ∙ ap (countLines t) (sym edged) ∙ count-insert t E to (G .z) ∙ ap (λ (l : List Line). oneIf (t E) + countLines t l) made
+
+  sizes-same : countLines isSize (fileLines g) ≡ countLines isSize (fileLines f)
+  sizes-same = let n = counted-more isSize refl in omega arith
+
+  vertices-same : verticesOf g ≡ verticesOf f
+  vertices-same = ap statedVertices (G .second) ∙ same-vertices (G .v) (suc (G .e)) (G .e) (G .x) _ _ ∙ sym (ap statedVertices (G .first))
+
+  strays-turn : (w : ℕ) → T (strays w E) → T (strays w (Edge (G .c) (G .a))) × (T (strays w Bad) → ⊥)
+  strays-turn w h = (or-iff (isOutside w (G .c)) (isOutside w (G .a)) .1 (⊎-elim inr inl (or-iff (isOutside w (G .a)) (isOutside w (G .c)) .0 h)), λ h. h)
+
+  bad-same : badLines (fileLines g) ≡ badLines (fileLines f)
+  unfolding badLines
+  bad-same =
+      let e = ap edgeFirst (G .second) ∙ same-first (G .v) (suc (G .e)) (G .e) (G .x) _ _ ∙ sym (ap edgeFirst (G .first)) in
+      let s = ap (λ (w : ℕ). anyLine (strays w) (fileLines g)) vertices-same ∙ any-same (strays (verticesOf f)) refl (strays-turn (verticesOf f)) in
+      λ i. any-same isBad refl (λ k. absurd k) i || (not (eqb (sizes-same i) 1) || (e i || s i))
+
+  loop-same : hasLoop g ≡ hasLoop f
+  loop-same = any-same isLoop refl (λ h. (eqb-iff (G .c) (G .a) .1 (sym (eqb-iff (G .a) (G .c) .0 h)), λ h. h))
+
+  sheet-same : (k : ℕ) → graphSheet g k ≡ graphSheet f k
+  unfolding graphSheet adjacent
+  sheet-same k = λ i. sheetBytes layout 1 (colouring (vertices-same i) k (λ p q. any-same (joins p q) refl (λ h. (joins-turn p q (G .a) (G .c) h, λ h. h)) i))
+
+  -- one line more and one more stated
+  miscounted-same : countLines isSize (fileLines f) ≡ 1 → miscounted g ≡ miscounted f
+  miscounted-same one =
+      let n = counted-more isEdge refl in
+      let s : statedEdges (fileLines f) ≡ G .e = ap statedEdges (G .first) ∙ only-states (G .v) (G .e) (G .x) _ (ap (countLines isSize) (sym (G .first)) ∙ one) in
+      let r : statedEdges (fileLines g) ≡ suc (G .e) = ap statedEdges (G .second) ∙ only-states (G .v) (suc (G .e)) (G .x) _ (ap (countLines isSize) (sym (G .second)) ∙ sizes-same ∙ one) in
+      let q : statedEdges (fileLines g) ≡ 1 + statedEdges (fileLines f) = omega arith in
+      λ i. not (eqb-more (countLines isEdge (fileLines g)) (statedEdges (fileLines g)) (countLines isEdge (fileLines f)) (statedEdges (fileLines f)) n q i)
+
+  -- Neither file being over 64 KiB, the job answers and leaves the same for both: the same sheet, byte for byte, or the same refusal.
+  pub colour-again : length f ≤ fileLimit → length g ≤ fileLimit → (k : ℕ) (b : List ℕ) → colourJob g k b ≡ colourJob f k b
+  unfolding colourJob badFile badLines
+  colour-again lf lg k b = go (split (badFile f))
+    where
+      bad : badFile g ≡ badFile f
+      bad = λ i. (le-ltb fileLimit (length g) lg ∙ sym (le-ltb fileLimit (length f) lf)) i || bad-same i
+
+      one : badFile f ≡ false → countLines isSize (fileLines f) ≡ 1
+      one e =
+          let late = edgeFirst (fileLines f) || anyLine (strays (verticesOf f)) (fileLines f) in
+          let many = not (eqb (countLines isSize (fileLines f)) 1) in
+          eqb-true _ 1 (not-false _ (neither many late (neither (anyLine isBad (fileLines f)) (many || late) (neither (ltb fileLimit (length f)) (badLines (fileLines f)) e .1) .1) .0))
+
+      go : (badFile f ≡ true) ⊎ (badFile f ≡ false) → colourJob g k b ≡ colourJob f k b
+      go (inl e) = rw (bad, e)
+      go (inr e) = λ i. refuseIf (bad i) File b
+          (refuseIf (loop-same i) Loop b
+          (refuseIf (miscounted-same (one e) i) Count b
+          (refuseIf (outOfRange (vertices-same i) k) Range b
+          (refuseIf (ltb (length b) (length (sheet-same k i))) Buffer b
+          (colourDone (sheet-same k i) b)))))

@@ -2,12 +2,12 @@
 use mathlib.Core.Path.{_≡_, refl, sym, ap, _∙_}
 use mathlib.Core.Bool.{Bool, true, false}
 use mathlib.Core.List.{List, [], _∷_, _++_}
-use mathlib.Core.Logic.{_⊎_, inl, inr}
+use mathlib.Core.Logic.{_⊎_, inl, inr, _≢_}
 use Prim.Native.Nat.{ℕ, _≤_}
 use native.Mathlib.Omega.{arith}
 use lib.Dec.{eqb}
-use lib.ListN.{length, length-append}
-use borrow.Author.Tests.{eqb-true}
+use lib.ListN.{length}
+use borrow.Author.Tests.{eqb-true, eqb-false}
 use Rattle.graph.specs.Graph.{before, linesOf, fieldsOf}
 use Rattle.graph.proofs.Lines.{lines-none, lines-more}
 use Rattle.graph.proofs.Fields.{fields-space, fields-more}
@@ -33,24 +33,34 @@ abbrev pub ended : List (List ℕ) → List ℕ
 ended [] = []
 ended (l ∷ m) = l ++ (10 ∷ ended m)
 
--- "each line ends in a newline, which the last may lack": with it, the lines are the file
-pub lines-make : (f : List ℕ) → (ended (linesOf f) ≡ f) ⊎ (ended (linesOf f) ≡ f ++ (10 ∷ []))
+-- the file is not empty and does not end in a newline
+abbrev pub Unended : List ℕ → Type 0
+Unended [] = ⊥
+Unended (x ∷ []) = x ≢ 10
+Unended (x ∷ y ∷ f) = Unended (y ∷ f)
+
+-- the lines, each with its newline, are the file; or the file and a newline, where it lacks the last
+abbrev pub LinesMake : List ℕ → Type 0
+LinesMake f = ((Unended f → ⊥) × (ended (linesOf f) ≡ f)) ⊎ (Unended f × (ended (linesOf f) ≡ f ++ (10 ∷ [])))
+
+-- "each line ends in a newline, which the last may lack": a newline at the end opens no line after it
+pub lines-make : (f : List ℕ) → LinesMake f
 unfolding linesOf
-lines-make [] = inl refl
-lines-make (x ∷ f) = go (eqb x 10) refl (linesOf f) refl (lines-make f)
+lines-make [] = inl (λ h. h, refl)
+lines-make (x ∷ []) = go (eqb x 10) refl
   where
-    go : (t : Bool) → eqb x 10 ≡ t → (m : List (List ℕ)) → linesOf f ≡ m → (ended (linesOf f) ≡ f) ⊎ (ended (linesOf f) ≡ f ++ (10 ∷ [])) → (ended (linesOf (x ∷ f)) ≡ x ∷ f) ⊎ (ended (linesOf (x ∷ f)) ≡ (x ∷ f) ++ (10 ∷ []))
-    go true e m q (inl h) = inl (ap ended (lines-none x f e) ∙ (λ i. sym (eqb-true x 10 e) i ∷ h i))
-    go true e m q (inr h) = inr (ap ended (lines-none x f e) ∙ (λ i. sym (eqb-true x 10 e) i ∷ h i))
-    go false e [] q (inl h) =
-        let z : f ≡ [] = sym h ∙ ap ended q in
-        inr (ap ended (lines-more x f e ∙ ap (before x) q) ∙ ap (λ (l : List ℕ). (x ∷ l) ++ (10 ∷ [])) (sym z))
-    go false e [] q (inr h) =
-        let z = ap length (sym h ∙ ap ended q) in
-        let l = length-append f (10 ∷ []) in
-        absurd (omega arith)
-    go false e (l ∷ m) q (inl h) = inl (ap ended (lines-more x f e ∙ ap (before x) q) ∙ ap (λ (y : List ℕ). x ∷ y) (sym (ap ended q) ∙ h))
-    go false e (l ∷ m) q (inr h) = inr (ap ended (lines-more x f e ∙ ap (before x) q) ∙ ap (λ (y : List ℕ). x ∷ y) (sym (ap ended q) ∙ h))
+    go : (t : Bool) → eqb x 10 ≡ t → LinesMake (x ∷ [])
+    go true e = inl (λ d. d (eqb-true x 10 e), ap ended (lines-none x [] e) ∙ (λ i. sym (eqb-true x 10 e) i ∷ []))
+    go false e = inr (eqb-false x 10 e, ap ended (lines-more x [] e))
+lines-make (x ∷ y ∷ f) = go (eqb x 10) refl (linesOf (y ∷ f)) refl (lines-make (y ∷ f))
+  where
+    go : (t : Bool) → eqb x 10 ≡ t → (m : List (List ℕ)) → linesOf (y ∷ f) ≡ m → LinesMake (y ∷ f) → LinesMake (x ∷ y ∷ f)
+    go true e m q (inl (n, h)) = inl (n, ap ended (lines-none x (y ∷ f) e) ∙ (λ i. sym (eqb-true x 10 e) i ∷ h i))
+    go true e m q (inr (n, h)) = inr (n, ap ended (lines-none x (y ∷ f) e) ∙ (λ i. sym (eqb-true x 10 e) i ∷ h i))
+    go false e [] q (inl (n, h)) = let z = ap length (sym h ∙ ap ended q) in absurd (omega arith)
+    go false e [] q (inr (n, h)) = let z = ap length (sym h ∙ ap ended q) in absurd (omega arith)
+    go false e (l ∷ m) q (inl (n, h)) = inl (n, ap ended (lines-more x (y ∷ f) e ∙ ap (before x) q) ∙ ap (λ (k : List ℕ). x ∷ k) (sym (ap ended q) ∙ h))
+    go false e (l ∷ m) q (inr (n, h)) = inr (n, ap ended (lines-more x (y ∷ f) e ∙ ap (before x) q) ∙ ap (λ (k : List ℕ). x ∷ k) (sym (ap ended q) ∙ h))
 
 -- and no line has one inside
 pub lines-inside : (f : List ℕ) → AllWithout 10 (linesOf f)
