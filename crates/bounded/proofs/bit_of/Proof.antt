@@ -7,9 +7,6 @@ use borrow.Author.Needs.{needs}
 use Rattle.bounded.proofs.bit_of.Statement.{statement}
 use Rattle.bounded.proofs.bit_of.Tie as tie
 
-power-requires : tie.Need-power-requires
-power-requires c κs = search needs
-
 cast-result : tie.Need-cast-result
 cast-result c =
     let e = c .power .ensures in
@@ -19,8 +16,5 @@ cast-result c =
 returns : tie.Need-returns
 returns c = c .before .pre .1 ∙ ap (λ (k : ℕ). 2 ^ k) (sym (c .if1 .taken))
 
-returns-2 : tie.Need-returns-2
-returns-2 c = search needs
-
 pub bit-of-spec : {M : Type 1} → statement M
-bit-of-spec = tie.close (tie.spec power-requires cast-result returns returns-2)
+bit-of-spec = tie.close (tie.spec (λ c κs. search needs) cast-result returns (λ c. search needs))

@@ -9,11 +9,8 @@ use borrow.Author.Needs.{needs}
 use Rattle.bounded.proofs.power.Statement.{statement}
 use Rattle.bounded.proofs.power.Tie as tie
 
-shl-result : tie.Need-shl-result
-shl-result c = search needs
-
 returns : tie.Need-returns
 returns c = shl-exact 1 (c .args .z) 64 (lit< tt) (omega arith) ∙ one-mul (2 ^ c .args .z)
 
 pub power-spec : {M : Type 1} → statement M
-power-spec = tie.close (tie.spec shl-result returns)
+power-spec = tie.close (tie.spec (λ c. search needs) returns)

@@ -7,9 +7,6 @@ use native.Mathlib.Omega.{arith}
 use Rattle.bounded.proofs.weight.Statement.{statement}
 use Rattle.bounded.proofs.weight.Tie as tie
 
-power-requires : tie.Need-power-requires
-power-requires c κs = search needs
-
 cast-result : tie.Need-cast-result
 cast-result c =
     let e = c .power .ensures in
@@ -19,8 +16,5 @@ cast-result c =
 returns : tie.Need-returns
 returns c = c .power .ensures ∙ rw (c .before .if1 .taken)
 
-returns-2 : tie.Need-returns-2
-returns-2 c = search needs
-
 pub weight-spec : {M : Type 1} → statement M
-weight-spec = tie.close (tie.spec power-requires cast-result returns returns-2)
+weight-spec = tie.close (tie.spec (λ c κs. search needs) cast-result returns (λ c. search needs))

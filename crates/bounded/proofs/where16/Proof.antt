@@ -9,12 +9,6 @@ use Rattle.bounded.proofs.Mask.{bit-hit, bit-miss}
 use Rattle.bounded.proofs.where16.Statement.{statement}
 use Rattle.bounded.proofs.where16.Tie as tie
 
-cast-if1 : tie.Need-cast-if1
-cast-if1 c = search needs
-
-shl-if1 : tie.Need-shl-if1
-shl-if1 c = search needs
-
 returns : tie.Need-returns
 returns c =
     let a = c .before .args in
@@ -28,4 +22,4 @@ returns-2 c =
     rw (bit-miss (a .set) (a .c) (ap (bitAnd (a .set)) (sym e) ∙ c .if1 .left))
 
 pub where16-spec : {M : Type 1} → statement M
-where16-spec = tie.close (tie.spec cast-if1 shl-if1 returns returns-2)
+where16-spec = tie.close (tie.spec (λ c. search needs) (λ c. search needs) returns returns-2)

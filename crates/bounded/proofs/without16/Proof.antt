@@ -7,16 +7,10 @@ use borrow.Author.Needs.{needs}
 use Rattle.bounded.proofs.without16.Statement.{statement}
 use Rattle.bounded.proofs.without16.Tie as tie
 
-cast-result : tie.Need-cast-result
-cast-result c = search needs
-
-shl-result : tie.Need-shl-result
-shl-result c = search needs
-
 returns : tie.Need-returns
 returns c =
     let e : (1 * 2 ^ c .args .b) % 65536 ≡ 2 ^ c .args .b = omega (arith, shl-exact {a = 1} 1 (c .args .b) 16 (omega arith) (omega arith)) in
     rw e
 
 pub without16-spec : {M : Type 1} → statement M
-without16-spec = tie.close (tie.spec cast-result shl-result returns)
+without16-spec = tie.close (tie.spec (λ c. search needs) (λ c. search needs) returns)

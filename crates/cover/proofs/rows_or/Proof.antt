@@ -12,8 +12,5 @@ rows-at-requires c κs = let p = c .before .before .pre in (p .0 .located, p .3,
 returns : tie.Need-returns
 returns c = let p = c .before .before .pre in (p .1 ∙ ap (λ (x : ℕ). rowsAt x (c .before .before .args .l)) (sym (c .if1 .taken)), p .2)
 
-returns-2 : tie.Need-returns-2
-returns-2 c = search needs
-
 pub rows-or-spec : {M : Type 1} → statement M
-rows-or-spec = tie.close (tie.spec rows-at-requires returns returns-2)
+rows-or-spec = tie.close (tie.spec rows-at-requires returns (λ c. search needs))

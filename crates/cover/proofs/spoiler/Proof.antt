@@ -28,33 +28,6 @@ rows-at-requires c κs = let p = c .before .pre in (p .0 .table .located, p .1 .
 rows-or-requires : tie.Need-rows-or-requires
 rows-or-requires c κs = let p = c .before .before .pre in (p .0 .table, c .rows-at .ensures .0, c .rows-at .ensures .1, p .2 .variable, p .3, p .5)
 
-mul-w : tie.Need-mul-w
-mul-w c = search needs
-
-element-copy-out-w : tie.Need-element-copy-out-w
-element-copy-out-w c = search needs
-
-add-w : tie.Need-add-w
-add-w c = search needs
-
-mul-w-2 : tie.Need-mul-w-2
-mul-w-2 c = search needs
-
-shared-slice-read-w : tie.Need-shared-slice-read-w
-shared-slice-read-w c = search needs
-
-add-spoilers : tie.Need-add-spoilers
-add-spoilers c = search needs
-
-mul-spoilers : tie.Need-mul-spoilers
-mul-spoilers c = search needs
-
-shared-slice-read-spoilers : tie.Need-shared-slice-read-spoilers
-shared-slice-read-spoilers c = search needs
-
-lowest16-requires : tie.Need-lowest16-requires
-lowest16-requires c κs = search needs
-
 returns : tie.Need-returns
 returns c =
     let p = c .before .before .before .before .before .before .before .pre in
@@ -73,14 +46,14 @@ spoiler-spec =
     (tie.spec
     rows-at-requires
     rows-or-requires
-    mul-w
-    element-copy-out-w
-    add-w
-    mul-w-2
-    shared-slice-read-w
-    add-spoilers
-    mul-spoilers
-    shared-slice-read-spoilers
-    lowest16-requires
+    (λ c. search needs)
+    (λ c. search needs)
+    (λ c. search needs)
+    (λ c. search needs)
+    (λ c. search needs)
+    (λ c. search needs)
+    (λ c. search needs)
+    (λ c. search needs)
+    (λ c κs. search needs)
     returns
     returns-2)

@@ -6,9 +6,6 @@ use Rattle.first_plan.proofs.Branches.{opens-state}
 use Rattle.first_plan.proofs.attempt.Statement.{statement}
 use Rattle.first_plan.proofs.attempt.Tie as tie
 
-choose-requires : tie.Need-choose-requires
-choose-requires c κs = search needs
-
 narrow-requires : tie.Need-narrow-requires
 narrow-requires c κs = let p = c .before .before .before .pre .0 in rw (c .before .choose .ensures) (ready-held (p .table) (choose-fits (p .fits) _ _))
 
@@ -16,4 +13,4 @@ returns : tie.Need-returns
 returns c = let p = c .before .before .before .before .pre .0 in opens-state _ (p .table) (choose-fits (p .fits) _ _) (c .before .before .choose .ensures) (c .narrow .ensures)
 
 pub attempt-spec : {M : Type 1} → statement M
-attempt-spec = tie.close (tie.spec choose-requires narrow-requires returns)
+attempt-spec = tie.close (tie.spec (λ c κs. search needs) narrow-requires returns)

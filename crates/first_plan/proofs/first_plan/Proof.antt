@@ -6,14 +6,8 @@ use Rattle.first_plan.proofs.Branches.{opened-first, closed-first, unso
 use Rattle.first_plan.proofs.first_plan.Statement.{statement}
 use Rattle.first_plan.proofs.first_plan.Tie as tie
 
-crowded-requires : tie.Need-crowded-requires
-crowded-requires c κs = search needs
-
 returns : tie.Need-returns
 returns c = unsolved-first (c .before .before .before .before .before .pre .fits) (c .before .crowded .ensures .none (c .if1 .taken)) _
-
-narrow-requires : tie.Need-narrow-requires
-narrow-requires c κs = search needs
 
 returns-2 : tie.Need-returns-2
 returns-2 c = closed-first (c .before .before .before .before .before .before .before .before .pre .fits) (c .before .before .narrow .ensures) (not-true _ (c .if2 .taken)) _
@@ -28,4 +22,4 @@ returns-3 c = c .pick .ensures ∙ sym (opened-first (c .before .before .before 
 
 pub first-plan-spec : {M : Type 1} → statement M
 first-plan-spec =
-    tie.close (tie.spec crowded-requires returns narrow-requires returns-2 pick-requires returns-3)
+    tie.close (tie.spec (λ c κs. search needs) returns (λ c κs. search needs) returns-2 pick-requires returns-3)

@@ -10,9 +10,6 @@ use borrow.Author.Needs.{needs}
 use Rattle.held.proofs.full_domain.Statement.{statement}
 use Rattle.held.proofs.full_domain.Tie as tie
 
-mul-values-below : tie.Need-mul-values-below
-mul-values-below c = search needs
-
 shared-slice-read-values-below : tie.Need-shared-slice-read-values-below
 shared-slice-read-values-below c = omega (arith, c .before .before .before .pre .0 .located .long)
 
@@ -33,4 +30,4 @@ returns-2 c = let q = c .before .before .pre in full-outside _ (c .before .befor
 
 pub full-domain-spec : {M : Type 1} → statement M
 full-domain-spec =
-    tie.close (tie.spec mul-values-below shared-slice-read-values-below cast-values-below values-below-requires returns returns-2)
+    tie.close (tie.spec (λ c. search needs) shared-slice-read-values-below cast-values-below values-below-requires returns returns-2)

@@ -23,32 +23,11 @@ Inv-loop t n m₀ i₀ m i = (i ≤ 32) × (m .active ≡ m₀ .active) × (m .d
 abbrev μ-loop : tie.MeasureT-loop
 μ-loop t n m₀ i₀ m i = 32 - i
 
-variables-requires : tie.Need-variables-requires Inv-loop μ-loop
-variables-requires c κs = search needs
-
-empty-masks-requires : tie.Need-empty-masks-requires Inv-loop μ-loop
-empty-masks-requires c κs = search needs
-
 variables-below-requires : tie.Need-variables-below-requires Inv-loop μ-loop
 variables-below-requires c κs = omega (arith, c .before .variables .ensures, held-few (c .before .before .before .args .t .now))
 
 loop-holds : tie.Need-loop-holds Inv-loop μ-loop
 loop-holds c = (search needs, refl, sym (filled-none _ _))
-
-full-domain-requires : tie.Need-full-domain-requires Inv-loop μ-loop
-full-domain-requires c κs = search needs
-
-mul-m : tie.Need-mul-m Inv-loop μ-loop
-mul-m c = search needs
-
-element-write-m : tie.Need-element-write-m Inv-loop μ-loop
-element-write-m c = search needs
-
-add-i : tie.Need-add-i Inv-loop μ-loop
-add-i c = search needs
-
-loop-less : tie.Need-loop-less Inv-loop μ-loop
-loop-less c = search needs
 
 loop-again : tie.Need-loop-again Inv-loop μ-loop
 loop-again c =
@@ -72,14 +51,14 @@ full-masks-spec =
     (tie.spec
     Inv-loop
     μ-loop
-    variables-requires
-    empty-masks-requires
+    (λ c κs. search needs)
+    (λ c κs. search needs)
     variables-below-requires
     loop-holds
-    full-domain-requires
-    mul-m
-    element-write-m
-    add-i
-    loop-less
+    (λ c κs. search needs)
+    (λ c. search needs)
+    (λ c. search needs)
+    (λ c. search needs)
+    (λ c. search needs)
     loop-again
     returns)

@@ -38,27 +38,6 @@ near-of t i x e low high =
       all = λ j l. bit-not 32 x j (omega arith) l ∙ ap not (ap (λ (y : ℕ). bit y j) e ∙ far-bits t i j l low);
     }
 
-add-joined : tie.Need-add-joined
-add-joined c = search needs
-
-mul-joined : tie.Need-mul-joined
-mul-joined c = search needs
-
-shared-slice-read-joined : tie.Need-shared-slice-read-joined
-shared-slice-read-joined c = search needs
-
-add-joined-2 : tie.Need-add-joined-2
-add-joined-2 c = search needs
-
-mul-joined-2 : tie.Need-mul-joined-2
-mul-joined-2 c = search needs
-
-shared-slice-read-joined-2 : tie.Need-shared-slice-read-joined-2
-shared-slice-read-joined-2 c = search needs
-
-joined-requires : tie.Need-joined-requires
-joined-requires c κs = search needs
-
 returns : tie.Need-returns
 returns c =
     let a = c .before .before .before .before .args in
@@ -69,11 +48,11 @@ pub neighbours-spec : {M : Type 1} → statement M
 neighbours-spec =
     tie.close
     (tie.spec
-    add-joined
-    mul-joined
-    shared-slice-read-joined
-    add-joined-2
-    mul-joined-2
-    shared-slice-read-joined-2
-    joined-requires
+    (λ c. search needs)
+    (λ c. search needs)
+    (λ c. search needs)
+    (λ c. search needs)
+    (λ c. search needs)
+    (λ c. search needs)
+    (λ c κs. search needs)
     returns)

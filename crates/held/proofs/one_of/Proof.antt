@@ -6,11 +6,8 @@ use Rattle.problem.proofs.Places.{place-up}
 use Rattle.held.proofs.one_of.Statement.{statement}
 use Rattle.held.proofs.one_of.Tie as tie
 
-shared-slice-read-result : tie.Need-shared-slice-read-result
-shared-slice-read-result c = search needs
-
 returns : tie.Need-returns
 returns c = c .before .pre .places 0 2 (omega arith) (omega arith) ∙ place-up 0 2 (omega arith)
 
 pub one-of-spec : {M : Type 1} → statement M
-one-of-spec = tie.close (tie.spec shared-slice-read-result returns)
+one-of-spec = tie.close (tie.spec (λ c. search needs) returns)

@@ -9,21 +9,6 @@ use borrow.Author.Needs.{needs}
 use Rattle.held.proofs.pair_allowed.Statement.{statement}
 use Rattle.held.proofs.pair_allowed.Tie as tie
 
-rows-at-requires : tie.Need-rows-at-requires
-rows-at-requires c κs = search needs
-
-add-has16 : tie.Need-add-has16
-add-has16 c = search needs
-
-mul-has16 : tie.Need-mul-has16
-mul-has16 c = search needs
-
-shared-slice-read-has16 : tie.Need-shared-slice-read-has16
-shared-slice-read-has16 c = search needs
-
-has16-requires : tie.Need-has16-requires
-has16-requires c κs = search needs
-
 returns : tie.Need-returns
 returns c = allowed-apart (c .before .before .pre .0) _ _ _ _ (c .if1 .taken)
 
@@ -38,10 +23,10 @@ pub pair-allowed-spec : {M : Type 1} → statement M
 pair-allowed-spec =
     tie.close
     (tie.spec
-    rows-at-requires
-    add-has16
-    mul-has16
-    shared-slice-read-has16
-    has16-requires
+    (λ c κs. search needs)
+    (λ c. search needs)
+    (λ c. search needs)
+    (λ c. search needs)
+    (λ c κs. search needs)
     returns
     returns-2)

@@ -17,9 +17,6 @@ use Rattle.held.proofs.row.Tie as tie
 all : (c : tie.After-values-below) → c .values-below .result ≡ maskOf 16 (λ a. ltb a ((held (c .before .before .before .args .t .now)) .size (c .before .before .before .args .j)))
 all c = c .values-below .ensures ∙ ap (λ (z : ℕ). maskOf 16 (λ a. ltb a z)) (c .before .size .ensures)
 
-size-requires : tie.Need-size-requires
-size-requires c κs = search needs
-
 values-below-requires : tie.Need-values-below-requires
 values-below-requires c κs = omega (arith, c .size .ensures, held-narrow (c .before .before .pre .0) (c .before .before .args .j))
 
@@ -32,4 +29,4 @@ returns c =
     c .row-among .ensures ∙ ap (λ (x : ℕ). bitAnd x (rowWord (held (a .t .now)) (a .i) (a .j) (a .a))) (all (c .before)) ∙ row-all (c .before .before .before .before .pre .0) (a .i) (a .j) (a .a)
 
 pub row-spec : {M : Type 1} → statement M
-row-spec = tie.close (tie.spec size-requires values-below-requires row-among-requires returns)
+row-spec = tie.close (tie.spec (λ c κs. search needs) values-below-requires row-among-requires returns)

@@ -8,18 +8,6 @@ use borrow.Author.Needs.{needs}
 use Rattle.held.proofs.row_among.Statement.{statement}
 use Rattle.held.proofs.row_among.Tie as tie
 
-rows-at-requires : tie.Need-rows-at-requires
-rows-at-requires c κs = search needs
-
-add-result : tie.Need-add-result
-add-result c = search needs
-
-mul-result : tie.Need-mul-result
-mul-result c = search needs
-
-shared-slice-read-result : tie.Need-shared-slice-read-result
-shared-slice-read-result c = search needs
-
 returns : tie.Need-returns
 returns c =
     let a = c .before .before .before .args in
@@ -29,4 +17,4 @@ returns c =
 
 pub row-among-spec : {M : Type 1} → statement M
 row-among-spec =
-    tie.close (tie.spec rows-at-requires add-result mul-result shared-slice-read-result returns)
+    tie.close (tie.spec (λ c κs. search needs) (λ c. search needs) (λ c. search needs) (λ c. search needs) returns)

@@ -17,21 +17,6 @@ use Rattle.held.proofs.rows_at.Tie as tie
 entry : {t : List ℕ} {i j : ℕ} → Located t × (i < 32) × (j < 32) × (i ≢ j) → (getD t (placeAt i j) 0 ≡ placeOf i j) × (placeOf i j < 496)
 entry {t} {i} {j} p = (p .0 .places i j (p .1) (p .2), place-small i j (p .1) (p .2) (p .3))
 
-mul-place : tie.Need-mul-place
-mul-place c = search needs
-
-add-place : tie.Need-add-place
-add-place c = search needs
-
-add-place-2 : tie.Need-add-place-2
-add-place-2 c = search needs
-
-mul-place-2 : tie.Need-mul-place-2
-mul-place-2 c = search needs
-
-shared-slice-read-place : tie.Need-shared-slice-read-place
-shared-slice-read-place c = search needs
-
 cast-place : tie.Need-cast-place
 cast-place c = let e = entry (c .before .pre) in search needs
 
@@ -64,11 +49,11 @@ pub rows-at-spec : {M : Type 1} → statement M
 rows-at-spec =
     tie.close
     (tie.spec
-    mul-place
-    add-place
-    add-place-2
-    mul-place-2
-    shared-slice-read-place
+    (λ c. search needs)
+    (λ c. search needs)
+    (λ c. search needs)
+    (λ c. search needs)
+    (λ c. search needs)
     cast-place
     mul-result
     add-result

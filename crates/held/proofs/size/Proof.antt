@@ -6,12 +6,6 @@ use native.Mathlib.Omega.{arith}
 use Rattle.held.proofs.size.Statement.{statement}
 use Rattle.held.proofs.size.Tie as tie
 
-mul-result : tie.Need-mul-result
-mul-result c = search needs
-
-shared-slice-read-result : tie.Need-shared-slice-read-result
-shared-slice-read-result c = search needs
-
 cast-result : tie.Need-cast-result
 cast-result c = omega (arith, c .shared-slice-known .given (c .before .args .i))
 
@@ -19,4 +13,4 @@ returns : tie.Need-returns
 returns c = sym (held-entry _ _ (c .before .pre .1))
 
 pub size-spec : {M : Type 1} → statement M
-size-spec = tie.close (tie.spec mul-result shared-slice-read-result cast-result returns)
+size-spec = tie.close (tie.spec (λ c. search needs) (λ c. search needs) cast-result returns)

@@ -23,9 +23,6 @@ Inv-loop t n sum₀ i₀ sum i = (sum ≡ sumTo i ((held t) .size)) × ((sum ≤
 abbrev μ-loop : tie.MeasureT-loop
 μ-loop t n sum₀ i₀ sum i = n - i
 
-variables-requires : tie.Need-variables-requires Inv-loop μ-loop
-variables-requires c κs = search needs
-
 loop-holds : tie.Need-loop-holds Inv-loop μ-loop
 loop-holds c = (sym (sum-none _), (omega arith, omega arith))
 
@@ -45,12 +42,6 @@ add-sum c =
     let e = c .before .before .before .variables .ensures in
     let x = size-small (a .pre) (c .before .before .loop .i) (omega arith) in
     search needs
-
-add-i : tie.Need-add-i Inv-loop μ-loop
-add-i c = search needs
-
-loop-less : tie.Need-loop-less Inv-loop μ-loop
-loop-less c = search needs
 
 loop-again : tie.Need-loop-again Inv-loop μ-loop
 loop-again c =
@@ -75,13 +66,13 @@ size-sum-spec =
     (tie.spec
     Inv-loop
     μ-loop
-    variables-requires
+    (λ c κs. search needs)
     loop-holds
     mul-sum
     shared-slice-read-sum
     cast-sum
     add-sum
-    add-i
-    loop-less
+    (λ c. search needs)
+    (λ c. search needs)
     loop-again
     returns)

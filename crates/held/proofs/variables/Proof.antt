@@ -21,9 +21,6 @@ abbrev μ-loop : tie.MeasureT-loop
 loop-holds : tie.Need-loop-holds Inv-loop μ-loop
 loop-holds c = (search needs, lowest-none _)
 
-mul-if1 : tie.Need-mul-if1 Inv-loop μ-loop
-mul-if1 c = search needs
-
 shared-slice-read-if1 : tie.Need-shared-slice-read-if1 Inv-loop μ-loop
 shared-slice-read-if1 c = omega (arith, c .before .before .before .pre .located .long)
 
@@ -31,12 +28,6 @@ returns : tie.Need-returns Inv-loop μ-loop
 returns c =
     let l = c .before .before .loop-test .taken in
     sym (held-lowest _ ∙ lowest-hit _ 32 _ l (c .before .before .before .loop .inv .1) (eq-eqb _ 0 (held-entry _ _ l ∙ c .if1 .taken)))
-
-add-i : tie.Need-add-i Inv-loop μ-loop
-add-i c = search needs
-
-loop-less : tie.Need-loop-less Inv-loop μ-loop
-loop-less c = search needs
 
 loop-again : tie.Need-loop-again Inv-loop μ-loop
 loop-again c =
@@ -48,4 +39,4 @@ returns-2 c = sym (held-lowest _ ∙ lowest-end _ 32 _ (omega arith) (omega arit
 
 pub variables-spec : {M : Type 1} → statement M
 variables-spec =
-    tie.close (tie.spec Inv-loop μ-loop loop-holds mul-if1 shared-slice-read-if1 returns add-i loop-less loop-again returns-2)
+    tie.close (tie.spec Inv-loop μ-loop loop-holds (λ c. search needs) shared-slice-read-if1 returns (λ c. search needs) (λ c. search needs) loop-again returns-2)

@@ -6,9 +6,6 @@ use Rattle.read_graph.proofs.Laws.{getD-any}
 use Rattle.read_graph.proofs.byte_at.Statement.{statement}
 use Rattle.read_graph.proofs.byte_at.Tie as tie
 
-shared-slice-read-result : tie.Need-shared-slice-read-result
-shared-slice-read-result c = search needs
-
 returns : tie.Need-returns
 returns c = getD-any (c .before .before .args .f .now) (c .before .before .args .k) 0 10 (c .before .if1 .taken)
 
@@ -16,4 +13,4 @@ returns-2 : tie.Need-returns-2
 returns-2 c = sym (List·getD-eq-default (c .before .args .f .now) 10 (c .if1 .left))
 
 pub byte-at-spec : {M : Type 1} → statement M
-byte-at-spec = tie.close (tie.spec shared-slice-read-result returns returns-2)
+byte-at-spec = tie.close (tie.spec (λ c. search needs) returns returns-2)

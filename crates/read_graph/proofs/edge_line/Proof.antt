@@ -8,22 +8,10 @@ use native.Mathlib.Omega.{arith}
 use Rattle.read_graph.proofs.edge_line.Statement.{statement}
 use Rattle.read_graph.proofs.edge_line.Tie as tie
 
-add-byte-at : tie.Need-add-byte-at
-add-byte-at c = search needs
-
-byte-at-requires : tie.Need-byte-at-requires
-byte-at-requires c κs = search needs
-
-bad-line-requires : tie.Need-bad-line-requires
-bad-line-requires c κs = search needs
-
 returns : tie.Need-returns
 returns c =
     let a = c .before .before .before .before .args in
     bad-here _ _ _ (c .bad-line .ensures) (edge-bad (a .f .now) (a .p) (c .before .before .before .before .pre .1) (λ e. c .before .if1 .taken (c .before .before .byte-at .ensures ∙ e)))
-
-add-pair-line : tie.Need-add-pair-line
-add-pair-line c = search needs
 
 pair-line-requires : tie.Need-pair-line-requires
 pair-line-requires c κs =
@@ -40,10 +28,10 @@ pub edge-line-spec : {M : Type 1} → statement M
 edge-line-spec =
     tie.close
     (tie.spec
-    add-byte-at
-    byte-at-requires
-    bad-line-requires
+    (λ c. search needs)
+    (λ c κs. search needs)
+    (λ c κs. search needs)
     returns
-    add-pair-line
+    (λ c. search needs)
     pair-line-requires
     returns-2)

@@ -7,26 +7,14 @@ use native.Mathlib.Omega.{arith}
 use Rattle.read_graph.proofs.field_at.Statement.{statement}
 use Rattle.read_graph.proofs.field_at.Tie as tie
 
-digits-at-requires : tie.Need-digits-at-requires
-digits-at-requires c κs = search needs
-
 returns : tie.Need-returns
 returns c = let e = c .before .digits-at .ensures .next in inl (inl (omega arith))
-
-sub-if2 : tie.Need-sub-if2
-sub-if2 c = search needs
 
 returns-2 : tie.Need-returns-2
 returns-2 c = let e = c .before .before .digits-at .ensures .next in inl (inr (omega arith))
 
-byte-at-requires : tie.Need-byte-at-requires
-byte-at-requires c κs = search needs
-
 returns-3 : tie.Need-returns-3
 returns-3 c = inr (λ e. c .if3 .taken (c .before .byte-at .ensures ∙ sym (sep-at _ _ _ (c .before .before .before .before .digits-at .ensures .next)) ∙ e))
-
-add-t7 : tie.Need-add-t7
-add-t7 c = search needs
 
 returns-4 : tie.Need-returns-4
 returns-4 c =
@@ -37,11 +25,11 @@ pub field-at-spec : {M : Type 1} → statement M
 field-at-spec =
     tie.close
     (tie.spec
-    digits-at-requires
+    (λ c κs. search needs)
     returns
-    sub-if2
+    (λ c. search needs)
     returns-2
-    byte-at-requires
+    (λ c κs. search needs)
     returns-3
-    add-t7
+    (λ c. search needs)
     returns-4)

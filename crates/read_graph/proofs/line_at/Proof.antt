@@ -9,20 +9,11 @@ use native.Mathlib.Omega.{arith}
 use Rattle.read_graph.proofs.line_at.Statement.{statement}
 use Rattle.read_graph.proofs.line_at.Tie as tie
 
-shared-slice-read-b : tie.Need-shared-slice-read-b
-shared-slice-read-b c = search needs
-
 edge-line-requires : tie.Need-edge-line-requires
 edge-line-requires c κs =
     let a = c .before .before .before .args in
     let p = c .before .before .before .pre in
     (p .0, sym (getD-any (a .f .now) (a .p) 0 10 (p .1)) ∙ c .if1 .taken)
-
-returns : tie.Need-returns
-returns c = search needs
-
-line-end-requires : tie.Need-line-end-requires
-line-end-requires c κs = search needs
 
 add-t9 : tie.Need-add-t9
 add-t9 c =
@@ -44,18 +35,15 @@ size-line-requires c κs =
     let p = c .before .before .before .before .pre in
     (p .0, record { comment = λ e. c .if2 .left (getD-any (a .f .now) (a .p) 0 10 (p .1) ∙ e); edge = λ e. c .before .if1 .left (getD-any (a .f .now) (a .p) 0 10 (p .1) ∙ e) })
 
-returns-3 : tie.Need-returns-3
-returns-3 c = search needs
-
 pub line-at-spec : {M : Type 1} → statement M
 line-at-spec =
     tie.close
     (tie.spec
-    shared-slice-read-b
+    (λ c. search needs)
     edge-line-requires
-    returns
-    line-end-requires
+    (λ c. search needs)
+    (λ c κs. search needs)
     add-t9
     returns-2
     size-line-requires
-    returns-3)
+    (λ c. search needs))

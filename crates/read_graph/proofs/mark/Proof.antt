@@ -5,24 +5,6 @@ use borrow.Author.Needs.{needs}
 use Rattle.read_graph.proofs.mark.Statement.{statement}
 use Rattle.read_graph.proofs.mark.Tie as tie
 
-enum-known-l : tie.Need-enum-known-l
-enum-known-l c = search needs
-
-mark-pair-requires : tie.Need-mark-pair-requires
-mark-pair-requires c κs = search needs
-
-enum-told : tie.Need-enum-told
-enum-told c = search needs
-
-enum-known-l-2 : tie.Need-enum-known-l-2
-enum-known-l-2 c = search needs
-
-enum-told-2 : tie.Need-enum-told-2
-enum-told-2 c = search needs
-
-same-length : tie.Need-same-length
-same-length c = search needs
-
 returns : tie.Need-returns
 returns c = rw (c .before .before .before .before .before .l .given .1) (c .before .before .mark-pair .ensures)
 
@@ -39,12 +21,12 @@ pub mark-spec : {M : Type 1} → statement M
 mark-spec =
     tie.close
     (tie.spec
-    enum-known-l
-    mark-pair-requires
-    enum-told
-    enum-known-l-2
-    enum-told-2
-    same-length
+    (λ c. search needs)
+    (λ c κs. search needs)
+    (λ c. search needs)
+    (λ c. search needs)
+    (λ c. search needs)
+    (λ c. search needs)
     returns
     returns-2
     returns-3

@@ -8,12 +8,6 @@ use borrow.Author.Needs.{needs}
 use Rattle.read_graph.proofs.mark_pair.Statement.{statement}
 use Rattle.read_graph.proofs.mark_pair.Tie as tie
 
-is-outside-requires : tie.Need-is-outside-requires
-is-outside-requires c κs = search needs
-
-is-outside-requires-2 : tie.Need-is-outside-requires-2
-is-outside-requires-2 c κs = search needs
-
 returns : tie.Need-returns
 returns c =
     let a = c .before .before .before .before .args in
@@ -79,9 +73,6 @@ slice-write-near-2 c =
     let h = inside _ _ (a .a) (a .b) (c .before .before .is-outside .ensures) (c .before .is-outside2 .ensures) (c .if1 .left) in
     simp length-set (omega arith)
 
-same-length : tie.Need-same-length
-same-length c = search needs
-
 returns-2 : tie.Need-returns-2
 returns-2 c =
     let a = c .before .before .before .before .args in
@@ -92,8 +83,8 @@ pub mark-pair-spec : {M : Type 1} → statement M
 mark-pair-spec =
     tie.close
     (tie.spec
-    is-outside-requires
-    is-outside-requires-2
+    (λ c κs. search needs)
+    (λ c κs. search needs)
     returns
     sub-near
     mul-near
@@ -105,5 +96,5 @@ mark-pair-spec =
     sub-near-4
     add-near-2
     slice-write-near-2
-    same-length
+    (λ c. search needs)
     returns-2)

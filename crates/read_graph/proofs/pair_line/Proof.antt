@@ -7,36 +7,12 @@ use borrow.Author.Needs.{needs}
 use Rattle.read_graph.proofs.pair_line.Statement.{statement}
 use Rattle.read_graph.proofs.pair_line.Tie as tie
 
-field-at-requires : tie.Need-field-at-requires
-field-at-requires c κs = search needs
-
-enum-told : tie.Need-enum-told
-enum-told c = search needs
-
-bad-line-requires : tie.Need-bad-line-requires
-bad-line-requires c κs = search needs
-
-enum-known-a : tie.Need-enum-known-a
-enum-known-a c = search needs
-
 field-at-requires-2 : tie.Need-field-at-requires-2
 field-at-requires-2 c κs =
     let a = c .before .before .before .before .before .args in
     let x = c .before .a .given in
     let N : NumberAt (a .f .now) (a .p) 32 (x .0 .0) (x .0 .1 .0) = rw (x .1) at (c .before .before .before .field-at .ensures) in
     number-place _ _ _ _ N (c .before .before .before .before .before .pre)
-
-enum-told-2 : tie.Need-enum-told-2
-enum-told-2 c = search needs
-
-bad-line-requires-2 : tie.Need-bad-line-requires-2
-bad-line-requires-2 c κs = search needs
-
-enum-known-b : tie.Need-enum-known-b
-enum-known-b c = search needs
-
-two-numbers-requires : tie.Need-two-numbers-requires
-two-numbers-requires c κs = search needs
 
 returns : tie.Need-returns
 returns c =
@@ -66,15 +42,15 @@ pub pair-line-spec : {M : Type 1} → statement M
 pair-line-spec =
     tie.close
     (tie.spec
-    field-at-requires
-    enum-told
-    bad-line-requires
-    enum-known-a
+    (λ c κs. search needs)
+    (λ c. search needs)
+    (λ c κs. search needs)
+    (λ c. search needs)
     field-at-requires-2
-    enum-told-2
-    bad-line-requires-2
-    enum-known-b
-    two-numbers-requires
+    (λ c. search needs)
+    (λ c κs. search needs)
+    (λ c. search needs)
+    (λ c κs. search needs)
     returns
     returns-2
     returns-3)

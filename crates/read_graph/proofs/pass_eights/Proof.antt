@@ -21,17 +21,8 @@ loop-holds c = record { within = c .before .pre .within; rest = refl }
 add-loop : tie.Need-add-loop Inv-loop μ-loop
 add-loop c = let w = c .loop .inv .within in let s = c .before .before .pre .short in omega arith
 
-ends-in-eight-requires : tie.Need-ends-in-eight-requires Inv-loop μ-loop
-ends-in-eight-requires c κs = search needs
-
 returns : tie.Need-returns Inv-loop μ-loop
 returns c = c .before .before .before .loop .inv
-
-add-k : tie.Need-add-k Inv-loop μ-loop
-add-k c = search needs
-
-loop-less : tie.Need-loop-less Inv-loop μ-loop
-loop-less c = search needs
 
 loop-again : tie.Need-loop-again Inv-loop μ-loop
 loop-again c = line-eight _ _ _ (c .before .before .before .loop .inv) (c .before .before .loop-test .taken) (sym (c .before .ends-in-eight .ensures) ∙ c .if1 .left)
@@ -47,9 +38,9 @@ pass-eights-spec =
     μ-loop
     loop-holds
     add-loop
-    ends-in-eight-requires
+    (λ c κs. search needs)
     returns
-    add-k
-    loop-less
+    (λ c. search needs)
+    (λ c. search needs)
     loop-again
     returns-2)

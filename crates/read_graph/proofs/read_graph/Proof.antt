@@ -9,16 +9,10 @@ returns : tie.Need-returns
 returns c =
     record { is = sym (read-long (c .before .before .before .args .f .now) (c .if1 .taken)); long = c .before .before .before .pre .long; marks = λ n. absurd (n refl) }
 
-read-lines-requires : tie.Need-read-lines-requires
-read-lines-requires c κs = search needs
-
-same-length : tie.Need-same-length
-same-length c = search needs
-
 returns-2 : tie.Need-returns-2
 returns-2 c =
     let r = c .before .before .read-lines .ensures in
     record { is = r .is ∙ sym (read-short (c .before .before .before .before .before .before .before .args .f .now) (c .before .before .before .before .if1 .left)); long = r .long; marks = r .marks }
 
 pub read-graph-spec : {M : Type 1} → statement M
-read-graph-spec = tie.close (tie.spec returns read-lines-requires same-length returns-2)
+read-graph-spec = tie.close (tie.spec returns (λ c κs. search needs) (λ c. search needs) returns-2)

@@ -67,9 +67,6 @@ loop-again c =
     let good = ap (λ (x : Tally). x .good) (sym step) ∙ not-false _ (c .before .before .before .before .if1 .left) in
     rw step (reading-turns f _ _ _ w h _ l good _ (c .before .before .mark .ensures))
 
-ended-requires : tie.Need-ended-requires Inv-loop μ-loop
-ended-requires c κs = search needs
-
 same-length-2 : tie.Need-same-length-2 Inv-loop μ-loop
 same-length-2 c = let a = c .before .before .loop .inv .long in let b = c .before .before .before .before .before .pre .1 .long in a ∙ sym b
 
@@ -90,6 +87,6 @@ read-lines-spec =
     mark-requires
     loop-less
     loop-again
-    ended-requires
+    (λ c κs. search needs)
     same-length-2
     returns-2)

@@ -7,21 +7,9 @@ use borrow.Author.Needs.{needs}
 use Rattle.read_graph.proofs.size_line.Statement.{statement}
 use Rattle.read_graph.proofs.size_line.Tie as tie
 
-slice-aggregate-begins : tie.Need-slice-aggregate-begins
-slice-aggregate-begins c = search needs
-
-begins-requires : tie.Need-begins-requires
-begins-requires c κs = search needs
-
-bad-line-requires : tie.Need-bad-line-requires
-bad-line-requires c κs = search needs
-
 returns : tie.Need-returns
 returns c =
     bad-here _ _ _ (c .bad-line .ensures) (size-bad _ _ (c .before .before .before .before .before .pre .1) (sym (c .before .before .begins .ensures) ∙ not-true _ (c .before .if1 .taken)))
-
-add-pair-line : tie.Need-add-pair-line
-add-pair-line c = search needs
 
 pair-line-requires : tie.Need-pair-line-requires
 pair-line-requires c κs = word-place _ sizeWord _ (c .before .before .before .before .pre .0) (sym (c .before .begins .ensures) ∙ not-false _ (c .if1 .left))
@@ -34,10 +22,10 @@ pub size-line-spec : {M : Type 1} → statement M
 size-line-spec =
     tie.close
     (tie.spec
-    slice-aggregate-begins
-    begins-requires
-    bad-line-requires
+    (λ c. search needs)
+    (λ c κs. search needs)
+    (λ c κs. search needs)
     returns
-    add-pair-line
+    (λ c. search needs)
     pair-line-requires
     returns-2)

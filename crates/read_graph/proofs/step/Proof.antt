@@ -4,27 +4,6 @@ use borrow.Author.Needs.{needs}
 use Rattle.read_graph.proofs.step.Statement.{statement}
 use Rattle.read_graph.proofs.step.Tie as tie
 
-enum-told : tie.Need-enum-told
-enum-told c = search needs
-
-enum-known-l : tie.Need-enum-known-l
-enum-known-l c = search needs
-
-with-size-requires : tie.Need-with-size-requires
-with-size-requires c κs = search needs
-
-enum-known-l-2 : tie.Need-enum-known-l-2
-enum-known-l-2 c = search needs
-
-with-edge-requires : tie.Need-with-edge-requires
-with-edge-requires c κs = search needs
-
-enum-told-2 : tie.Need-enum-told-2
-enum-told-2 c = search needs
-
-turned-away-requires : tie.Need-turned-away-requires
-turned-away-requires c κs = search needs
-
 returns : tie.Need-returns
 unfolding stepped
 returns c = rw (c .enum-told .given .1)
@@ -43,13 +22,13 @@ pub step-spec : {M : Type 1} → statement M
 step-spec =
     tie.close
     (tie.spec
-    enum-told
-    enum-known-l
-    with-size-requires
-    enum-known-l-2
-    with-edge-requires
-    enum-told-2
-    turned-away-requires
+    (λ c. search needs)
+    (λ c. search needs)
+    (λ c κs. search needs)
+    (λ c. search needs)
+    (λ c κs. search needs)
+    (λ c. search needs)
+    (λ c κs. search needs)
     returns
     returns-2
     returns-3

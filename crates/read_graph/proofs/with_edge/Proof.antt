@@ -7,30 +7,15 @@ use borrow.Author.Needs.{needs}
 use Rattle.read_graph.proofs.with_edge.Statement.{statement}
 use Rattle.read_graph.proofs.with_edge.Tie as tie
 
-turned-away-requires : tie.Need-turned-away-requires
-turned-away-requires c κs = search needs
-
 returns : tie.Need-returns
 returns c =
     let a = c .before .before .before .args in
     c .turned-away .ensures ∙ sym (step-astray (a .g) (a .a) (a .b) (unsized (a .g) (a .a) (a .b) (not-true _ (c .before .if1 .taken))))
 
-is-outside-requires : tie.Need-is-outside-requires
-is-outside-requires c κs = search needs
-
-is-outside-requires-2 : tie.Need-is-outside-requires-2
-is-outside-requires-2 c κs = search needs
-
-turned-away-requires-2 : tie.Need-turned-away-requires-2
-turned-away-requires-2 c κs = search needs
-
 returns-2 : tie.Need-returns-2
 returns-2 c =
     let a = c .before .before .before .before .before .before .args in
     c .turned-away2 .ensures ∙ sym (step-astray (a .g) (a .a) (a .b) (out-of-range (a .g) (a .a) (a .b) _ _ (c .before .before .before .is-outside .ensures) (c .before .before .is-outside2 .ensures) (c .before .if2 .taken)))
-
-add-t7 : tie.Need-add-t7
-add-t7 c = search needs
 
 returns-3 : tie.Need-returns-3
 returns-3 c =
@@ -41,11 +26,11 @@ pub with-edge-spec : {M : Type 1} → statement M
 with-edge-spec =
     tie.close
     (tie.spec
-    turned-away-requires
+    (λ c κs. search needs)
     returns
-    is-outside-requires
-    is-outside-requires-2
-    turned-away-requires-2
+    (λ c κs. search needs)
+    (λ c κs. search needs)
+    (λ c κs. search needs)
     returns-2
-    add-t7
+    (λ c. search needs)
     returns-3)

@@ -5,9 +5,6 @@ use borrow.Author.Needs.{needs}
 use Rattle.read_graph.proofs.with_size.Statement.{statement}
 use Rattle.read_graph.proofs.with_size.Tie as tie
 
-turned-away-requires : tie.Need-turned-away-requires
-turned-away-requires c κs = search needs
-
 returns : tie.Need-returns
 returns c =
     let a = c .before .before .args in
@@ -17,4 +14,4 @@ returns-2 : tie.Need-returns-2
 returns-2 c = sym (step-size (c .before .args .g) (c .before .args .v) (c .before .args .e) (c .if1 .left))
 
 pub with-size-spec : {M : Type 1} → statement M
-with-size-spec = tie.close (tie.spec turned-away-requires returns returns-2)
+with-size-spec = tie.close (tie.spec (λ c κs. search needs) returns returns-2)

@@ -9,15 +9,6 @@ use Rattle.bounded.specs.Mask.{bit}
 use Rattle.table.proofs.lane.Statement.{statement}
 use Rattle.table.proofs.lane.Tie as tie
 
-cast-where16 : tie.Need-cast-where16
-cast-where16 c = search needs
-
-shl-where16 : tie.Need-shl-where16
-shl-where16 c = search needs
-
-where16-requires : tie.Need-where16-requires
-where16-requires c κs = search needs
-
 returns : tie.Need-returns
 returns c =
     let a = c .before .args in
@@ -25,4 +16,4 @@ returns c =
     c .where16 .ensures ∙ ap (λ (x : ℕ). cond (bit (a .row) (a .b)) x 0) e
 
 pub lane-spec : {M : Type 1} → statement M
-lane-spec = tie.close (tie.spec cast-where16 shl-where16 where16-requires returns)
+lane-spec = tie.close (tie.spec (λ c. search needs) (λ c. search needs) (λ c κs. search needs) returns)
