@@ -9,14 +9,14 @@ use Rattle.sheet.specs.Sheet.{layout, variablesOf, blocksOf, readSheet, Keeps}
 use Rattle.sheet.specs.declared.SheetRefusal.{SheetRefusal}
 use Rattle.sheet.specs.declared.SheetRead.the-variants.{Accepted}
 use Rattle.jobs.specs.WithSheet.{withSheet}
-use Rattle.jobs.specs.Run.{runJob}
-use Rattle.jobs.specs.Hand.{startJob, callJob, callsJob}
-use Rattle.jobs.specs.PutBack.{putBackJob}
-use Rattle.jobs.specs.Print.{sheetLines, printed}
-use Rattle.jobs.specs.declared.ManualState.{ManualState}
-use Rattle.jobs.specs.declared.CallAnswer.{CallAnswer}
+use Rattle.run.specs.Run.{runJob}
+use Rattle.hand.specs.Hand.{startJob, callJob, callsJob}
+use Rattle.put_back.specs.PutBack.{putBackJob}
+use Rattle.fields.specs.Print.{sheetLines, printed}
+use Rattle.hand.specs.declared.HandState.{HandState}
+use Rattle.hand.specs.declared.CallAnswer.{CallAnswer}
 use Rattle.jobs.proofs.Opened.{variables-of, sheet-kept}
-use Rattle.jobs.proofs.Printed.{printed-sheet}
+use Rattle.fields.proofs.Printed.{printed-sheet}
 use Rattle.compose.specs.Compose.{blockCount}
 use Rattle.compose.proofs.Canonical.{blocks-counted}
 use Rattle.pick.specs.Pick.{pickJob}
@@ -53,11 +53,11 @@ module _ (s : List ℕ) (K : Keeps layout s) where
   unfolding startJob
   start-alike = sheet-alike _ _
 
-  pub call-alike : (st : ManualState) (i : ℕ) → callJob (movedBytes s) st i ≡ callJob s st i
+  pub call-alike : (st : HandState) (i : ℕ) → callJob (movedBytes s) st i ≡ callJob s st i
   unfolding callJob
   call-alike st i = sheet-alike _ _
 
-  pub calls-alike : (st : ManualState) (l : List ℕ) → callsJob (movedBytes s) st l ≡ callsJob s st l
+  pub calls-alike : (st : HandState) (l : List ℕ) → callsJob (movedBytes s) st l ≡ callsJob s st l
   unfolding callsJob
   calls-alike st [] = refl
   calls-alike st (i ∷ l) = ap (λ (y : CallAnswer). callsJob (movedBytes s) (y .state) l) (call-alike st i) ∙ calls-alike ((callJob s st i) .state) l

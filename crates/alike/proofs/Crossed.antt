@@ -6,13 +6,17 @@ use Prim.Native.Nat.{ℕ}
 use lib.Dec.{eqb}
 use lib.ListN.{length}
 use Rattle.sheet.specs.Sheet.{layout, Keeps}
-use Rattle.jobs.specs.Run.{RunResult}
-use Rattle.jobs.specs.declared.StartAnswer.{StartAnswer}
-use Rattle.jobs.specs.declared.CallAnswer.{CallAnswer}
+use Rattle.run.specs.Run.{RunResult}
+use Rattle.hand.specs.declared.StartAnswer.{StartAnswer}
+use Rattle.hand.specs.declared.CallAnswer.{CallAnswer}
 use Rattle.pick.specs.Pick.{PickResult}
-use Rattle.boundary.specs.State.{stateLength, handStateLength, handIn}
-use Rattle.boundary.specs.Calls.{badState, badHandState, readNumber, readCall, RunCall, runCrossed, runCall, HandCall, startCrossed, startCall, calledCrossed, handCall, handCalls, putBackCall}
-use Rattle.boundary_pick.specs.Calls.{PickCall, crossedNumber, crossedState, pickCall}
+use Rattle.boundary.specs.State.{stateLength}
+use Rattle.hand.specs.Call.{handStateLength, handIn, HandCall, startCrossed, startCall, calledCrossed, handCall, handCalls}
+use Rattle.boundary.specs.Numbers.{badState, badHandState}
+use Rattle.read.specs.Read.{readNumber, readCall}
+use Rattle.run.specs.Call.{RunCall, runCrossed, runCall}
+use Rattle.put_back.specs.Call.{putBackCall}
+use Rattle.pick.specs.Call.{PickCall, crossedNumber, crossedState, pickCall}
 use Rattle.moved.specs.Move.{movedBytes}
 use Rattle.alike.proofs.Alike.{read-alike, run-alike, start-alike, call-alike, put-back-alike, pick-alike}
 

@@ -6,19 +6,19 @@
 ghost use Prim.Native.Nat.{_≤_};
 ghost use lib.ListN.{length};
 ghost use Rattle.io.specs.Counts.{Counts};
-use jobs::CallAnswer;
-use jobs::CallOutcome;
-use jobs::ExtendRefusal;
-use jobs::Extended;
-use jobs::ManualState;
-use jobs::ReduceOutcome;
-use jobs::Reduced;
-use jobs::StartAnswer;
-use jobs::StartOutcome;
+use hand::CallAnswer;
+use hand::CallOutcome;
+use hand::HandState;
+use hand::StartAnswer;
+use hand::StartOutcome;
 use pick::PickOutcome;
 use pick::Picked;
 use problem::End;
 use problem::Masks;
+use put_back::PutBackOutcome;
+use put_back::PutBackRefusal;
+use run::RunAnswer;
+use run::RunOutcome;
 use sheet::SheetRead;
 
 // A line `read SHEET`.
@@ -58,13 +58,13 @@ fn run_part(s: &[u8], b: &mut [u8]) {
     show_run(a, b);
 }
 
-fn show_run(a: Reduced, b: &[u8]) {
+fn show_run(a: RunAnswer, b: &[u8]) {
     let o = a.outcome;
     match o {
-        ReduceOutcome::Refused(r) => {
-            cases::show_number(b"refused ", jobs::reduce_number(r) as usize);
+        RunOutcome::Refused(r) => {
+            cases::show_number(b"refused ", run::run_number(r) as usize);
         }
-        ReduceOutcome::Done {
+        RunOutcome::Done {
             end,
             steps,
             written,
@@ -77,7 +77,7 @@ fn show_run(a: Reduced, b: &[u8]) {
 
 // A word, and the run's answer behind it.
 fn show_ran(word: &[u8], end: End, steps: usize, written: usize, m: Masks) {
-    cases::show_number(word, jobs::end_number(end) as usize);
+    cases::show_number(word, run::end_number(end) as usize);
     cases::show_number(b" ", steps);
     cases::show_number(b" ", written);
     cases::show(b" ");
@@ -105,7 +105,7 @@ fn show_start(a: StartAnswer) {
 }
 
 // The state at the end of an answer's line.
-fn show_state(s: ManualState) {
+fn show_state(s: HandState) {
     cases::show(b" ");
     cases::show_masks(s.masks);
     cases::show(b"\n");
@@ -118,14 +118,14 @@ fn do_hand(fields: &[u8]) {
     let masks = cases::masks(more);
     let mut sheet = io::large_buffer();
     let n = cases::bytes(&more[cases::next_field(more)..], &mut sheet);
-    show_call(hand::hand_call(&sheet[..n], ManualState { masks }, item));
+    show_call(hand_call::hand_call(&sheet[..n], HandState { masks }, item));
 }
 
 fn show_call(a: CallAnswer) {
     let o = a.outcome;
     match o {
         CallOutcome::Refused(r) => {
-            cases::show_number(b"refused ", jobs::manual_number(r) as usize);
+            cases::show_number(b"refused ", hand::hand_number(r) as usize);
         }
         CallOutcome::Eliminated(v) => {
             cases::show_number(b"taken ", v);
@@ -155,14 +155,14 @@ fn back_rest(fields: &[u8], s: &[u8], trace: &[u8]) {
 
 // Putting back into a result's buffer.
 fn back_part(s: &[u8], trace: &[u8], plan: &[u8], out: &mut [u8]) {
-    let a = extend::put_back(s, trace, plan, out);
+    let a = putting_back::put_back(s, trace, plan, out);
     show_back(a, out);
 }
 
 // What a refusal carries, behind its number: of an unlawful record its number, the item and the setting.
-fn show_carried(r: ExtendRefusal) {
+fn show_carried(r: PutBackRefusal) {
     match r {
-        ExtendRefusal::Unlawful {
+        PutBackRefusal::Unlawful {
             record,
             variable,
             value,
@@ -171,22 +171,22 @@ fn show_carried(r: ExtendRefusal) {
             cases::show_number(b" ", variable);
             cases::show_number(b" ", value);
         }
-        ExtendRefusal::Sheet(_) => {}
-        ExtendRefusal::PlanLength => {}
-        ExtendRefusal::ResultLength => {}
-        ExtendRefusal::TraceFront => {}
-        ExtendRefusal::Malformed => {}
-        ExtendRefusal::Plan => {}
+        PutBackRefusal::Sheet(_) => {}
+        PutBackRefusal::PlanLength => {}
+        PutBackRefusal::ResultLength => {}
+        PutBackRefusal::TraceFront => {}
+        PutBackRefusal::Malformed => {}
+        PutBackRefusal::Plan => {}
     }
 }
 
-fn show_back(a: Extended, out: &[u8]) {
+fn show_back(a: PutBackOutcome, out: &[u8]) {
     match a {
-        Extended::Refused(r) => {
-            cases::show_number(b"refused ", jobs::extend_number(r) as usize);
+        PutBackOutcome::Refused(r) => {
+            cases::show_number(b"refused ", put_back::put_back_number(r) as usize);
             show_carried(r);
         }
-        Extended::Done => {
+        PutBackOutcome::Done => {
             cases::show(b"done");
         }
     }

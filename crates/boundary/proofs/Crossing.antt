@@ -13,8 +13,7 @@ use Rattle.bounded.proofs.Truth.{lt-dec}
 use Rattle.problem.specs.Masks.{Proper}
 use Rattle.problem.specs.declared.Masks.{Masks}
 use Rattle.sheet.specs.Bytes.{byteAt, numberAt, numberBytes}
-use Rattle.jobs.specs.declared.ManualState.{ManualState}
-use Rattle.boundary.specs.State.{wordsBytes, stateLength, masksBytes, masksIn, handStateLength, handBytes, handIn}
+use Rattle.boundary.specs.State.{wordsBytes, stateLength, masksBytes, masksIn}
 use Rattle.boundary.proofs.Bytes.{length-words}
 
 -- ---- the bytes of one number
@@ -130,10 +129,3 @@ bytes-crossed b e h = ext-getD 0 (masksBytes (masksIn b)) b (len ∙ sym e) (λ 
         go (inl f) _ = front k f
         go (inr f) (inl g) = let q : 4 + 2 * ((k - 4) / 2) ≡ k = omega arith in rw q at (word ((k - 4) / 2) (omega arith) .0)
         go (inr f) (inr g) = let q : 4 + 2 * ((k - 4) / 2) + 1 ≡ k = omega arith in rw q at (word ((k - 4) / 2) (omega arith) .1)
-
--- the same of a hand state
-pub hand-crossed : (st : ManualState) → Proper (st .masks) → handIn (handBytes st) ≡ st
-hand-crossed st R = ap (λ (m : Masks). record { masks = m }) (masks-crossed (st .masks) R)
-
-pub hand-bytes-crossed : (b : List ℕ) → length b ≡ handStateLength → ((k : ℕ) → k < handStateLength → getD b k 0 < 256) → handBytes (handIn b) ≡ b
-hand-bytes-crossed = bytes-crossed

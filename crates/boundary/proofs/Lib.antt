@@ -1,7 +1,3 @@
-pub mod Answers
 pub mod Bytes
-pub mod Calls
 pub mod Crossing
-pub mod Demands
-pub mod Small
-pub mod States
+pub mod Answers

@@ -4,14 +4,11 @@ use Prim.Native.Nat.{ℕ, _+_, _*_}
 use Rattle.bounded.specs.Table.{tab}
 use Rattle.problem.specs.declared.Masks.{Masks}
 use Rattle.sheet.specs.Bytes.{numberAt, numberBytes}
-use Rattle.jobs.specs.declared.ManualState.{ManualState}
 
 -- the 2 bytes of each number of a list
 unfoldable pub wordsBytes : List ℕ → List ℕ
 wordsBytes [] = []
 wordsBytes (x ∷ l) = numberBytes 2 x ++ wordsBytes l
-
--- ---- a run's state
 
 -- its bytes: 4 + 2 * 32
 abbrev pub stateLength : ℕ
@@ -23,14 +20,3 @@ masksBytes m = numberBytes 4 (m .active) ++ wordsBytes (m .domains)
 -- the state that bytes say
 unfoldable pub masksIn : List ℕ → Masks
 masksIn b = record { active = numberAt b 4 0; domains = tab 32 (λ i. numberAt b 2 (4 + 2 * i)) }
-
--- ---- a hand state: it holds a run's state and nothing else
-
-abbrev pub handStateLength : ℕ
-handStateLength = 68
-
-abbrev pub handBytes : ManualState → List ℕ
-handBytes st = masksBytes (st .masks)
-
-abbrev pub handIn : List ℕ → ManualState
-handIn b = record { masks = masksIn b }

@@ -1,14 +1,11 @@
-// The bytes of a state at the C boundary, the number that refused putting back answers, and what each exported call answers and leaves, as
-// definitions with their laws.
+// The bytes of a state at the C boundary, and the numbers that are the boundary's own.
 ghost use mathlib.Core.Path.{_≡_};
 ghost use Prim.Native.Nat.{_+_, _*_, _≤_};
 ghost use lib.ListN.{length};
 ghost use Rattle.sheet.specs.Bytes.{numberAt, numberBytes};
 ghost use Rattle.trace.specs.Written.{written};
-ghost use Rattle.jobs.specs.declared.Extended.the-variants.{Refused};
 ghost use Rattle.boundary.specs.State.{stateLength, masksBytes, masksIn};
-ghost use Rattle.boundary.specs.Calls.{unlawfulFields, FieldsFit, backNumber};
-use jobs::ExtendRefusal;
+ghost use Rattle.boundary.specs.Numbers.{badState, badHandState};
 use problem::Masks;
 
 // ---- the state's bytes
@@ -73,32 +70,18 @@ pub fn put_state(b: &mut [u8], m: Masks)
     }
 }
 
-// ---- the answer of refused putting back
+// ---- the boundary's own refusals
 
-// The record's number, the variable and the value of an unlawful record.
-fn unlawful_fields(r: ExtendRefusal) -> u64
-    requires { ⌜ FieldsFit r ⌝ }
-    ensures { λ k. ⌜ k ≡ unlawfulFields r ⌝ }
+// A buffer for a run's state has another length.
+pub fn bad_state() -> u64
+    ensures { λ r. ⌜ r ≡ badState ⌝ }
 {
-    match r {
-        ExtendRefusal::Unlawful {
-            record,
-            variable,
-            value,
-        } => record as u64 + 65536 * (variable as u64 + 256 * value as u64),
-        ExtendRefusal::Sheet(_) => 0,
-        ExtendRefusal::PlanLength => 0,
-        ExtendRefusal::ResultLength => 0,
-        ExtendRefusal::TraceFront => 0,
-        ExtendRefusal::Malformed => 0,
-        ExtendRefusal::Plan => 0,
-    }
+    200
 }
 
-// The refusal's number in the low byte, and above it what an unlawful record carries.
-pub fn put_back_answer(r: ExtendRefusal) -> u64
-    requires { ⌜ FieldsFit r ⌝ }
-    ensures { λ k. ⌜ k ≡ backNumber (Refused r) ⌝ }
+// A buffer for a hand state has another length.
+pub fn bad_hand_state() -> u64
+    ensures { λ r. ⌜ r ≡ badHandState ⌝ }
 {
-    jobs::extend_number(r) as u64 + 256 * unlawful_fields(r)
+    201
 }

@@ -3,3 +3,4 @@ pub mod Job
 pub mod Causes
 pub mod Plans
 pub mod Samples
+pub mod Call

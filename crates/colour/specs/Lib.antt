@@ -1,3 +1,4 @@
 pub mod Colour
 pub mod Parts
 pub mod Samples
+pub mod Call

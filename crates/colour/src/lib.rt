@@ -1,4 +1,5 @@
 // The sheet of a colouring graph: the file is read, the table of its colouring problem filled, and the sheet written.
+ghost use Rattle.colour.specs.Call.{colourCall};
 ghost use mathlib.Core.Path.{_≡_};
 ghost use Prim.Native.Nat.{_*_, _<_, _≤_};
 ghost use lib.ListN.{length};
@@ -181,5 +182,19 @@ pub fn colour(file: &[u8], channels: u64, sheet: &mut [u8]) -> Coloured
             lines,
             loops,
         } => colour_graph(&near, vertices, edges, lines, loops, channels, sheet),
+    }
+}
+
+// ---- from C
+
+// The sheet of a colouring graph. Bits 0-7: the refusal's number, 0 where the sheet was written; bits 8-31: the bytes written. A refused
+// call writes nothing.
+pub fn colour_call(file: &[u8], channels: u64, sheet: &mut [u8]) -> u64
+    ensures answer { λ r. ⌜ r ≡ (colourCall (now (file .entry)) channels (now (sheet .entry))) .answer ⌝ }
+    ensures sheet { λ _. ⌜ now (sheet .exit) ≡ (colourCall (now (file .entry)) channels (now (sheet .entry))) .sheet ⌝ }
+{
+    match colour(file, channels, sheet) {
+        Coloured::Refused(r) => colour_number(r) as u64,
+        Coloured::Written(w) => 256 * w as u64,
     }
 }

@@ -7,7 +7,7 @@ use Rattle.bounded.specs.Table.{tab}
 use Rattle.problem.specs.Problem.{bothWays}
 use Rattle.problem.specs.Samples.{problem, unequal, barred, star}
 use Rattle.sheet.specs.Sheet.{layout}
-use Rattle.jobs.specs.Starred.{sheetA, sheetB, sheetD}
+use Rattle.jobs.specs.Sheets.{sheetA, sheetB, sheetD}
 use Rattle.compose.specs.Compose.{rowBars, pairBars, hasBlock, blockCount, rowsBytes, blockBytes, placeBytes, blocksBytes, sheetBytes}
 
 written-A : sheetBytes layout 1 (problem (2 ∷ []) unequal) ≡ sheetA

@@ -21,7 +21,7 @@ use Rattle.sheet.specs.Sheet.{Layout, layout}
 use Rattle.sheet.proofs.Versions.{test-taken}
 use Rattle.trace.specs.Written.{written}
 use Rattle.trace.proofs.Written.{sets-written, word-put, written-nil, written-one, written-more, written-front, length-written}
-use Rattle.jobs.specs.Trace.{fronted}
+use Rattle.trace.specs.Trace.{fronted}
 use Rattle.compose.specs.Compose.{rowNumber, pairBars, hasBlock, blockCount, rowsBytes, blockBytes, placeBytes, blocksBytes, sheetLength, sheetBytes}
 use Rattle.compose.specs.Parts.{markOf, Marked, Wrote, Underway, frontBytes}
 use Rattle.compose.proofs.Stands.{length-number}

@@ -11,7 +11,7 @@ use Rattle.bounded.specs.Table.{tab}
 use Rattle.problem.specs.Problem.{Problem}
 use Rattle.sheet.specs.Bytes.{numberBytes}
 use Rattle.sheet.specs.Sheet.{Layout}
-use Rattle.jobs.specs.Trace.{fronted}
+use Rattle.trace.specs.Trace.{fronted}
 use Rattle.compose.specs.declared.Composed.{Composed}
 use Rattle.compose.specs.declared.Composed.the-variants.{Written, TooShort}
 

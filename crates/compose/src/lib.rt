@@ -7,7 +7,7 @@ ghost use Rattle.bounded.specs.Table.{tab, filled};
 ghost use Rattle.problem.specs.Held.{held, RowTable};
 ghost use Rattle.sheet.specs.Bytes.{Is, numberBytes};
 ghost use Rattle.sheet.specs.Sheet.{layout};
-ghost use Rattle.jobs.specs.Trace.{fronted};
+ghost use Rattle.trace.specs.Trace.{fronted};
 ghost use Rattle.trace.specs.Written.{written};
 ghost use Rattle.compose.specs.Compose.{rowNumber, pairBars, blockCount, rowsBytes, blockBytes, placeBytes, blocksBytes, sheetLength, sheetBytes, sheetOver};
 ghost use Rattle.compose.specs.Parts.{Version, Pair, markOf, Marked, Wrote, frontBytes};

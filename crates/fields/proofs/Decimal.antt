@@ -9,7 +9,7 @@ use native.Mathlib.Omega.{arith}
 use lib.ListN.{length, length-append}
 use borrow.Author.Tests.{lt-ltb, le-ltb}
 use Rattle.bounded.proofs.Truth.{lt-dec}
-use Rattle.jobs.specs.Print.{digitsFrom, decimal}
+use Rattle.fields.specs.Print.{digitsFrom, decimal}
 
 -- the definition over its test
 abbrev digits : Bool → ℕ → ℕ → List ℕ

@@ -1,7 +1,7 @@
 -- The second part of a step's text, as the code writes it.
 use mathlib.Core.List.{List, _++_}
 use Prim.Native.Nat.{ℕ}
-use Rattle.jobs.specs.Print.{field}
+use Rattle.fields.specs.Print.{field}
 use Rattle.problem.specs.declared.Record.{Record}
 use Rattle.problem.specs.declared.Record.the-variants.{Unsupported, Snake, Triangle, Neighbourhood, SnakeSubstitution}
 

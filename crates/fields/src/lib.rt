@@ -4,7 +4,7 @@ ghost use mathlib.Core.Path.{_≡_};
 ghost use mathlib.Core.List.{_∷_, _++_, []};
 ghost use Prim.Native.Nat.{_+_, _<_, _≤_};
 ghost use lib.ListN.{length};
-ghost use Rattle.jobs.specs.Print.{decimal, field};
+ghost use Rattle.fields.specs.Print.{decimal, field};
 ghost use Rattle.trace.specs.Written.{written, Small};
 ghost use Rattle.fields.specs.Parts.{stepFields};
 use problem::Record;

@@ -1,2 +1,8 @@
-pub mod Calls
-pub mod Laws
+pub mod Refusals
+pub mod Opened
+pub mod Unaltered
+pub mod Started
+pub mod Called
+pub mod HandOrder
+pub mod Call
+pub mod Demands

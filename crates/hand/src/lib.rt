@@ -1,171 +1,51 @@
-// docs/FORMAT.md, "Taking out by hand": one hand call, its refusals in their order and its snake step.
+// Taking out by hand, as jobs: the state, what starting and a hand call answer, and the format's number for each refusal.
 ghost use mathlib.Core.Path.{_≡_};
-ghost use mathlib.Core.Bool.{true};
-ghost use Prim.Native.Nat.{_<_, _≤_};
-ghost use lib.Dec.{ltb};
-ghost use Rattle.bounded.specs.Bounded.{imp, allBelow, lowest};
-ghost use Rattle.bounded.specs.Mask.{bit};
-ghost use Rattle.problem.specs.Problem.{maxValues, stateFits, noneEmpty, snake as snakeHolds};
-ghost use Rattle.problem.specs.Masks.{stateOf, sets, Proper};
-ghost use Rattle.problem.specs.Held.{held, RowTable};
-ghost use Rattle.held.specs.Ready.{Ready};
-ghost use Rattle.jobs.specs.Hand.{callRefused, callOver, callJob};
-ghost use Rattle.hand.specs.Parts.{fitsAt, callEliminated};
-use bounded::has32;
-use held::size;
-use jobs::CallAnswer;
-use jobs::CallOutcome;
-use jobs::ManualRefusal;
-use jobs::ManualState;
+ghost use Rattle.hand.specs.Numbers.{handRefusalNumber};
 use problem::Masks;
-use sheet::SheetRead;
+use sheet::SheetRefusal;
 
-// ---- the refusals
-
-// Every member of x is below z.
-fn below(x: u16, z: usize) -> bool
-    requires { ⌜ z ≤ 16 ⌝ }
-    ensures { λ r. ⌜ r ≡ allBelow maxValues (λ a. imp (bit x a) (ltb a z)) ⌝ }
-{
-    (x as usize) < bounded::power(z)
+// The state of taking out by hand: the run's state in a struct of its own.
+pub struct HandState {
+    pub masks: Masks,
 }
 
-// 11 at one variable. An active one is one of the problem's and has values of its own only; another has an empty domain.
-fn fits_at(t: &[u16], active: u32, on: &[u16; 32], n: usize, i: usize) -> bool
-    requires { ⌜ RowTable (now t) × Proper (sets active (now on)) × (n ≡ (held (now t)) .n) × (i < 32) ⌝ }
-    ensures { λ r. ⌜ r ≡ fitsAt (held (now (t .entry))) (stateOf (sets active (now (on .entry)))) i ⌝ }
-{
-    let domain = on[i];
-    if has32(active, i) {
-        (i < n) & below(domain, size(t, i))
-    } else {
-        domain == 0
-    }
+pub enum StartOutcome {
+    Started,
+    Refused(SheetRefusal),
 }
 
-// 11: the state fits the sheet.
-fn fits(t: &[u16], active: u32, on: &[u16; 32]) -> bool
-    requires { ⌜ RowTable (now t) × Proper (sets active (now on)) ⌝ }
-    ensures { λ r. ⌜ r ≡ stateFits (held (now (t .entry))) (stateOf (sets active (now (on .entry)))) ⌝ }
-{
-    let n = held::variables(t);
-    let mut i: usize = 0;
-    while i < 32 {
-        if !fits_at(t, active, on, n, i) {
-            return false;
-        }
-        i += 1;
-    }
-    true
+pub struct StartAnswer {
+    pub outcome: StartOutcome,
+    pub state: HandState,
 }
 
-// 12: the item is in. No number but one below 32 can be.
-fn is_active(m: Masks, i: u64) -> bool
-    ensures { λ r. ⌜ r ≡ bit (m .active) i ⌝ }
-{
-    if i < 32 {
-        has32(m.active, i as usize)
-    } else {
-        false
-    }
+// Why a hand call is refused.
+pub enum HandRefusal {
+    Sheet(SheetRefusal),
+    State,
+    Item,
+    Emptied,
+    Rule,
 }
 
-// 14: the lowest value for which the snake rule holds, or 16.
-fn lowest_snake(t: &[u16], active: u32, on: &[u16; 32], i: usize) -> usize
-    requires { ⌜ Ready (now t) (sets active (now on)) × (i < 32) ⌝ }
-    ensures { λ r. ⌜ r ≡ lowest maxValues (snakeHolds (held (now (t .entry))) (stateOf (sets active (now (on .entry)))) i) ⌝ }
-{
-    let mut v: usize = 0;
-    while v < 16 {
-        if snake::snake(t, active, on, i, v) {
-            return v;
-        }
-        v += 1;
-    }
-    16
+pub enum CallOutcome {
+    Eliminated(usize),
+    Refused(HandRefusal),
 }
 
-// ---- the call
-
-// "A refused hand call answers the state it was given."
-fn refused_call(r: ManualRefusal, st: ManualState) -> CallAnswer
-    ensures { λ a. ⌜ a ≡ callRefused r st ⌝ }
-{
-    CallAnswer {
-        outcome: CallOutcome::Refused(r),
-        state: st,
-    }
+pub struct CallAnswer {
+    pub outcome: CallOutcome,
+    pub state: HandState,
 }
 
-// The snake step for i with v.
-fn eliminated(t: &[u16], m: Masks, i: usize, v: usize) -> CallAnswer
-    requires { ⌜ Ready (now t) m × (i < 32) ⌝ }
-    ensures { λ a. ⌜ a ≡ callEliminated (held (now (t .entry))) (stateOf m) i v ⌝ }
+pub fn hand_number(r: HandRefusal) -> u8
+    ensures { λ k. ⌜ k ≡ handRefusalNumber r ⌝ }
 {
-    let masks = steps::eliminate(t, m, i);
-    let state = ManualState { masks };
-    CallAnswer {
-        outcome: CallOutcome::Eliminated(v),
-        state,
-    }
-}
-
-// 14, or the step with the lowest fitting v.
-fn call_snake(t: &[u16], st: ManualState, i: usize) -> CallAnswer
-    requires { ⌜ Ready (now t) (st .masks) × (i < 32) × (bit (st .masks .active) i ≡ true) × (noneEmpty (held (now t)) (stateOf (st .masks)) ≡ true) ⌝ }
-    ensures { λ a. ⌜ a ≡ callOver (held (now (t .entry))) st i ⌝ }
-{
-    let m = st.masks;
-    let v = lowest_snake(t, m.active, &m.domains, i);
-    if v < 16 {
-        return eliminated(t, m, i, v);
-    }
-    refused_call(ManualRefusal::Rule, st)
-}
-
-// A call with a state that fits: 12, then 13. `named` says that the item is in, `filled` that no item in is without a setting on.
-fn call_fitting(t: &[u16], st: ManualState, i: u64, named: bool, filled: bool) -> CallAnswer
-    requires { ⌜ Ready (now t) (st .masks) × (named ≡ bit (st .masks .active) i) × (filled ≡ noneEmpty (held (now t)) (stateOf (st .masks))) ⌝ }
-    ensures { λ a. ⌜ a ≡ callOver (held (now (t .entry))) st i ⌝ }
-{
-    if !named {
-        return refused_call(ManualRefusal::Item, st);
-    }
-    if !filled {
-        return refused_call(ManualRefusal::Emptied, st);
-    }
-    call_snake(t, st, i as usize)
-}
-
-// A hand call over a filled table: 11, and then what a state that fits comes to. The snake step for the named item with the lowest fitting
-// v, or the refusal and the state as it was given.
-pub fn call_over(t: &[u16], st: ManualState, i: u64) -> CallAnswer
-    requires { ⌜ RowTable (now t) ⌝ }
-    ensures { λ a. ⌜ a ≡ callOver (held (now (t .entry))) st i ⌝ }
-{
-    let m = st.masks;
-    if !fits(t, m.active, &m.domains) {
-        return refused_call(ManualRefusal::State, st);
-    }
-    call_fitting(
-        t,
-        st,
-        i,
-        is_active(m, i),
-        held::none_empty(t, m.active, &m.domains),
-    )
-}
-
-// A hand call on a sheet: it is read, its table filled on the way, and the call is over the table.
-pub fn hand_call(s: &[u8], st: ManualState, i: u64) -> CallAnswer
-    ensures { λ r. ⌜ r ≡ callJob (now (s .entry)) st i ⌝ }
-{
-    let mut t = table::blank_table();
-    match read_sheet::read_table(s, &mut t) {
-        SheetRead::Refused(r) => refused_call(ManualRefusal::Sheet(r), st),
-        SheetRead::Accepted {
-            variables: _,
-            blocks: _,
-        } => call_over(&t, st, i),
+    match r {
+        HandRefusal::Sheet(s) => sheet::sheet_number(s),
+        HandRefusal::State => 11,
+        HandRefusal::Item => 12,
+        HandRefusal::Emptied => 13,
+        HandRefusal::Rule => 14,
     }
 }

@@ -1,11 +1,2 @@
-pub mod Starred
-pub mod Refusals
 pub mod Opened
 pub mod SheetCause
-pub mod Unaltered
-pub mod Ran
-pub mod Worked
-pub mod Fronted
-pub mod HandOrder
-pub mod Called
-pub mod Printed

@@ -1,9 +1,2 @@
-pub mod Numbers
-pub mod Trace
 pub mod WithSheet
-pub mod Run
-pub mod Hand
-pub mod PutBack
-pub mod Print
-pub mod Starred
-pub mod Refusals
+pub mod Sheets

@@ -1,7 +1,7 @@
 // Reads a sheet from standard input and writes it in the other version, or the line that says why it is turned away.
 ghost use mathlib.Core.Path.{_≡_};
 ghost use lib.ListN.{length};
-ghost use Rattle.jobs.specs.Print.{inputLimit};
+ghost use Rattle.fields.specs.Print.{inputLimit};
 use libc::STDIN_FILENO;
 use moved::Moved;
 

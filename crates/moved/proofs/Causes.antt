@@ -11,8 +11,8 @@ use Rattle.problem.specs.Problem.{Problem}
 use Rattle.sheet.specs.Sheet.{layout, versionOf, Keeps}
 use Rattle.sheet.specs.Relation.{problemOf}
 use Rattle.sheet.proofs.Refusals.{sheet-number}
-use Rattle.jobs.specs.Trace.{fronted}
-use Rattle.jobs.proofs.Fronted.{AtFront, fronted-bytes}
+use Rattle.trace.specs.Trace.{fronted}
+use Rattle.trace.proofs.Fronted.{AtFront, fronted-bytes}
 use Rattle.jobs.proofs.SheetCause.{Whose, Sheets, Own, SheetCause, Told, sheet-iff}
 use Rattle.compose.specs.Compose.{sheetBytes}
 use Rattle.compose.proofs.Over.{sheet-stands}

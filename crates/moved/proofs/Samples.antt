@@ -7,7 +7,7 @@ use Rattle.problem.specs.Problem.{bothWays}
 use Rattle.sheet.specs.Sheet.{beyond, allowsAll, blockOf, blockAt, blocksFrom, badSizes, readSheet}
 use Rattle.sheet.specs.Relation.{rowsFrom, rowsOf, pairAllowed, sizeOf, listed, allowedOf, problemOf}
 use Rattle.jobs.specs.WithSheet.{withSheet}
-use Rattle.jobs.specs.Starred.{rows}
+use Rattle.starred.specs.Starred.{rows}
 use Rattle.compose.specs.Compose.{rowBars, pairBars, hasBlock, blockCount, rowsBytes, blockBytes, placeBytes, blocksBytes, sheetBytes}
 use Rattle.moved.specs.Move.{movedBytes, moveOver, moveJob}
 use Rattle.moved.specs.Samples.{AllMoved, AllSampled, samples}

@@ -1,2 +1,3 @@
 pub mod Move
 pub mod Samples
+pub mod Call

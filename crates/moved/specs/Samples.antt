@@ -3,7 +3,8 @@ use mathlib.Core.Path.{_≡_}
 use mathlib.Core.List.{List, [], _∷_, _++_}
 use Prim.Native.Nat.{ℕ, _-_}
 use lib.ListN.{length}
-use Rattle.jobs.specs.Starred.{lent, Row, sheetA, shortA, sheetB, shortB}
+use Rattle.jobs.specs.Sheets.{lent, sheetA, shortA, sheetB, shortB}
+use Rattle.starred.specs.Starred.{Row}
 use Rattle.moved.specs.Move.{movedNumber, movedBytes, moveJob}
 
 -- each sheet of a table and its version 2 are each the other, moved

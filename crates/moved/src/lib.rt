@@ -1,4 +1,5 @@
 // A sheet moved to the other version: it is read, its table filled, and the same problem written in the other version.
+ghost use Rattle.moved.specs.Call.{moveCall};
 ghost use mathlib.Core.Path.{_≡_};
 ghost use Rattle.problem.specs.Held.{held, RowTable};
 ghost use Rattle.compose.specs.Parts.{Version};
@@ -60,5 +61,19 @@ pub fn move_sheet(sheet: &[u8], target: &mut [u8]) -> Moved
             variables: _,
             blocks: _,
         } => move_over(&t, other_version(sheet::byte(sheet, 0)), target),
+    }
+}
+
+// ---- from C
+
+// A sheet moved to the other version. Bits 0-7: the refusal's number, 0 where the moved sheet was written; bits 8-31: the bytes written. A
+// refused call writes nothing.
+pub fn move_call(sheet: &[u8], target: &mut [u8]) -> u64
+    ensures answer { λ r. ⌜ r ≡ (moveCall (now (sheet .entry)) (now (target .entry))) .answer ⌝ }
+    ensures target { λ _. ⌜ now (target .exit) ≡ (moveCall (now (sheet .entry)) (now (target .entry))) .target ⌝ }
+{
+    match move_sheet(sheet, target) {
+        Moved::Refused(r) => move_number(r) as u64,
+        Moved::Written(w) => 256 * w as u64,
     }
 }

@@ -19,13 +19,15 @@ use Rattle.sheet.specs.Relation.{problemOf}
 use Rattle.sheet.specs.declared.SheetRefusal.{SheetRefusal}
 use Rattle.sheet.specs.declared.SheetRead.the-variants as read
 use Rattle.sheet.proofs.Accepted.{problem-bounded}
-use Rattle.jobs.specs.Run.{RunResult, runDone, runOver, runJob}
-use Rattle.jobs.specs.PutBack.{PutBackResult, planFits, putBackOver, putBackJob}
-use Rattle.jobs.specs.declared.Extended.the-variants.{Done}
-use Rattle.jobs.specs.declared.ReduceOutcome.the-variants as reduced
-use Rattle.jobs.proofs.Opened.{sheet-or, run-accepted-over, run-kept, put-back-kept}
+use Rattle.run.specs.Run.{RunResult, runDone, runOver, runJob}
+use Rattle.put_back.specs.PutBack.{PutBackResult, planFits, putBackOver, putBackJob}
+use Rattle.put_back.specs.declared.PutBackOutcome.the-variants.{Done}
+use Rattle.run.specs.declared.RunOutcome.the-variants as reduced
+use Rattle.jobs.proofs.Opened.{sheet-or}
+use Rattle.run.proofs.Opened.{run-accepted-over, run-kept}
+use Rattle.put_back.proofs.Opened.{put-back-kept}
 use Rattle.first_plan.specs.First.{NotAfter}
-use Rattle.extend.proofs.Demands.{put-back-accepted-over, put-back-plan}
+use Rattle.putting_back.proofs.Demands.{put-back-accepted-over, put-back-plan}
 use Rattle.pick.specs.Pick.{leftBy, runTrace, firstLeft, leftPlan, PickResult, outcomeOf, pickDone, pickOver, pickJob}
 use Rattle.pick.specs.declared.PickOutcome.the-variants.{Plan, None}
 use Rattle.pick.proofs.Left.{found-iff, plan-with, plan-without, left-plan, left-least, left-back, plan-not-read}

@@ -12,16 +12,16 @@ use Rattle.problem.specs.Masks.{stateOf, masksOf}
 use Rattle.problem.specs.declared.End.{End}
 use Rattle.problem.specs.declared.Masks.{Masks}
 use Rattle.problem.proofs.HeldTable.{held-few}
-use Rattle.jobs.specs.Run.{RunResult, runDone}
-use Rattle.jobs.specs.PutBack.{putBackOver}
-use Rattle.jobs.specs.declared.Reduced.{Reduced}
-use Rattle.jobs.specs.declared.ReduceOutcome.{ReduceOutcome}
-use Rattle.jobs.specs.declared.ReduceOutcome.the-variants.{Done, Refused}
-use Rattle.jobs.specs.declared.ReduceRefusal.{ReduceRefusal}
-use Rattle.jobs.specs.declared.ReduceRefusal.the-variants.{Sheet, Buffer}
-use Rattle.jobs.proofs.Opened.{run-accepted-over}
-use Rattle.jobs.proofs.Ran.{RunCauseOver, ran-iff-over}
-use Rattle.jobs.proofs.Worked.{run-worked-over}
+use Rattle.run.specs.Run.{RunResult, runDone}
+use Rattle.put_back.specs.PutBack.{putBackOver}
+use Rattle.run.specs.declared.RunAnswer.{RunAnswer}
+use Rattle.run.specs.declared.RunOutcome.{RunOutcome}
+use Rattle.run.specs.declared.RunOutcome.the-variants.{Done, Refused}
+use Rattle.run.specs.declared.RunRefusal.{RunRefusal}
+use Rattle.run.specs.declared.RunRefusal.the-variants.{Sheet, Buffer}
+use Rattle.run.proofs.Opened.{run-accepted-over}
+use Rattle.run.proofs.Ran.{RunCauseOver, ran-iff-over}
+use Rattle.run.proofs.Worked.{run-worked-over}
 use Rattle.trace.proofs.Written.{length-fronted}
 use Rattle.first_plan.specs.First.{firstPlan}
 use Rattle.first_plan.specs.declared.Found.{Found}
@@ -52,17 +52,17 @@ module _ {t : List ℕ} (R : RowTable t) {last : Masks} (is : last ≡ masksOf (
 
 -- ---- what the run answered: r, and the trace's buffer x
 
-module _ (P : Problem) (b : List ℕ) (l : 1 + 5 * sizeSum P ≤ length b) (r : Reduced) (is : r ≡ (runDone P b) .answer) where
-  caused : (o : ReduceOutcome) → r .outcome ≡ o → RunCauseOver P b o
-  caused o e = ran-iff-over P b o .0 (ap (λ (y : RunResult). y .answer .outcome) (run-accepted-over P b l) ∙ ap (λ (y : Reduced). y .outcome) (sym is) ∙ e)
+module _ (P : Problem) (b : List ℕ) (l : 1 + 5 * sizeSum P ≤ length b) (r : RunAnswer) (is : r ≡ (runDone P b) .answer) where
+  caused : (o : RunOutcome) → r .outcome ≡ o → RunCauseOver P b o
+  caused o e = ran-iff-over P b o .0 (ap (λ (y : RunResult). y .answer .outcome) (run-accepted-over P b l) ∙ ap (λ (y : RunAnswer). y .outcome) (sym is) ∙ e)
 
-  pub not-refused : (x : ReduceRefusal) → r .outcome ≡ Refused x → ⊥
+  pub not-refused : (x : RunRefusal) → r .outcome ≡ Refused x → ⊥
   not-refused (Sheet x) e = caused (Refused (Sheet x)) e
   not-refused Buffer e = let h = caused (Refused Buffer) e in omega arith
 
   pub state-left : r .state ≡ masksOf (leftBy P)
   unfolding runDone leftBy
-  state-left = ap (λ (y : Reduced). y .state) is
+  state-left = ap (λ (y : RunAnswer). y .state) is
 
   module _ (e : End) (k w : ℕ) (o : r .outcome ≡ Done e k w) (x : List ℕ) (f : x ≡ (runDone P b) .buffer) where
     written : w ≡ length (runTrace P)

@@ -24,10 +24,10 @@ use Rattle.problem.proofs.Trace.{trace-fits, trace-solvable}
 use Rattle.problem.proofs.Run.{run-lawful}
 use Rattle.held.specs.Ready.{Ready}
 use Rattle.held.proofs.After.{state-held, ready-held}
-use Rattle.jobs.specs.PutBack.{PutBackResult, planFits, putBackDone, putBackOver}
+use Rattle.put_back.specs.PutBack.{PutBackResult, planFits, putBackDone, putBackOver}
 use Rattle.first_plan.specs.First.{firstPlan, NotAfter}
 use Rattle.first_plan.proofs.Meaning.{first-is-plan, first-is-least, first-iff, first-keeps, first-long}
-use Rattle.extend.proofs.Demands.{run-put-back-over}
+use Rattle.putting_back.proofs.Demands.{run-put-back-over}
 use Rattle.pick.specs.Pick.{leftBy, runTrace, blank, firstLeft, leftPlan, planLeft}
 
 -- some choice of settings at all is a plan of the full sheet

@@ -3,3 +3,4 @@ pub mod Causes
 pub mod Job
 pub mod Demands
 pub mod Samples
+pub mod Call

@@ -10,8 +10,8 @@ use Rattle.problem.specs.Masks as packed
 use Rattle.sheet.specs.Sheet as sheet
 use Rattle.sheet.specs.Relation as relation
 use Rattle.jobs.specs.WithSheet.{withSheet}
-use Rattle.jobs.specs.Trace.{recordsBytes, traceBytes, recordAt}
-use Rattle.jobs.specs.PutBack.{checkFrom, checkTrace, planFits, putBackOver}
+use Rattle.trace.specs.Trace.{recordsBytes, traceBytes, recordAt}
+use Rattle.put_back.specs.PutBack.{checkFrom, checkTrace, planFits, putBackOver}
 use Rattle.first_plan.specs.First.{orElse, firstOf, firstFrom, firstPlan}
 use Rattle.pick.specs.Pick.{leftBy, firstLeft, planLeft, pickDone, pickOver, pickJob}
 use Rattle.pick.specs.Samples.{AllMeet, samples}

@@ -9,10 +9,10 @@ use Rattle.problem.specs.Reduce.{run, afterTrace, endOf}
 use Rattle.problem.specs.Masks.{masksOf, emptyMasks}
 use Rattle.problem.specs.declared.End.{End}
 use Rattle.sheet.specs.Sheet.{sheetNumber}
-use Rattle.jobs.specs.Trace.{traceBytes, fronted}
+use Rattle.trace.specs.Trace.{traceBytes, fronted}
 use Rattle.jobs.specs.WithSheet.{withSheet}
-use Rattle.jobs.specs.Run.{bufferShort}
-use Rattle.jobs.specs.PutBack.{putBackOver}
+use Rattle.run.specs.Run.{bufferShort}
+use Rattle.put_back.specs.PutBack.{putBackOver}
 use Rattle.first_plan.specs.First.{firstPlan}
 use Rattle.first_plan.specs.declared.Found.{Found}
 use Rattle.pick.specs.declared.PickRefusal.{PickRefusal}

@@ -4,7 +4,7 @@ use mathlib.Core.List.{List, [], _∷_, _++_}
 use Prim.Native.Nat.{ℕ, _-_}
 use lib.ListN.{length}
 use Rattle.problem.specs.declared.End.the-variants.{Impossible, Solved, Rest}
-use Rattle.jobs.specs.Starred.{lent, sheetB, sheetC, sheetD, sheetL}
+use Rattle.jobs.specs.Sheets.{lent, sheetB, sheetC, sheetD, sheetL}
 use Rattle.pick.specs.Pick.{pickJob}
 use Rattle.pick.specs.declared.PickRefusal.the-variants as refusal
 use Rattle.pick.specs.declared.PickOutcome.{PickOutcome}

@@ -1,16 +1,20 @@
 // Picking a plan, as a job: the run, the first plan of what it leaves, and that put back.
 ghost use mathlib.Core.Path.{_≡_};
 ghost use mathlib.Core.List.{[]};
-ghost use Prim.Native.Nat.{_≤_, _+_, _*_};
+ghost use Prim.Native.Nat.{_≤_, _<_, _+_, _*_};
 ghost use lib.ListN.{length};
+ghost use Rattle.bounded.specs.Bounded.{oneIf};
+ghost use Rattle.boundary.specs.State.{stateLength};
+ghost use Rattle.pick.specs.Call.{doneNumber, crossedNumber, crossedState, PickFits, pickCall};
 ghost use Rattle.problem.specs.Problem.{sizeSum};
 ghost use Rattle.problem.specs.Held.{held, RowTable};
 ghost use Rattle.problem.specs.Masks.{masksOf};
 ghost use Rattle.pick.specs.Pick.{pickNumber, leftBy, runTrace, firstLeft, planLeft, pickRefused, outcomeOf, pickDone, pickOver, pickJob};
+use boundary::put_state;
 use held::size_sum;
-use jobs::ReduceOutcome;
 use problem::End;
 use problem::Masks;
+use run::RunOutcome;
 use sheet::SheetRead;
 use sheet::SheetRefusal;
 
@@ -94,7 +98,7 @@ fn put_first(t: &[u16], last: Masks, trace: &[u8], plan: &mut [u8]) -> bool
     }
     let first = found.plan;
     let n = plan.len();
-    extend::put_back_over(t, trace, &first[..n], plan);
+    putting_back::put_back_over(t, trace, &first[..n], plan);
     true
 }
 
@@ -109,8 +113,8 @@ fn pick_sized(t: &[u16], trace: &mut [u8], plan: &mut [u8]) -> Picked
     let state = done.state;
     let outcome = done.outcome;
     match outcome {
-        ReduceOutcome::Refused(_) => refused(PickRefusal::Buffer),
-        ReduceOutcome::Done {
+        RunOutcome::Refused(_) => refused(PickRefusal::Buffer),
+        RunOutcome::Done {
             end,
             steps,
             written,
@@ -153,4 +157,85 @@ pub fn pick(s: &[u8], trace: &mut [u8], plan: &mut [u8]) -> Picked
             blocks: _,
         } => pick_over(&t, trace, plan),
     }
+}
+
+// ---- from C
+
+// 1 for true, 0 for false.
+fn one(b: bool) -> u64
+    ensures is { λ r. ⌜ r ≡ oneIf b ⌝ }
+    ensures within { λ r. ⌜ r ≤ 1 ⌝ }
+{
+    if b { 1 } else { 0 }
+}
+
+// The number of an answer that is no refusal.
+fn done_number(plan: bool, end: End, steps: usize, written: usize) -> u64
+    requires { ⌜ (steps < 65536) × (written < 65536) ⌝ }
+    ensures { λ r. ⌜ r ≡ doneNumber plan end steps written ⌝ }
+{
+    256
+        * (run::end_number(end) as u64
+            + 256 * (steps as u64 + 65536 * (written as u64 + 65536 * one(plan))))
+}
+
+// The number of an answer: the refusal's, or the run's own and whether a plan was written.
+pub fn picked_number(o: PickOutcome) -> u64
+    requires { ⌜ PickFits o ⌝ }
+    ensures { λ r. ⌜ r ≡ crossedNumber o ⌝ }
+{
+    match o {
+        PickOutcome::Plan {
+            end,
+            steps,
+            written,
+        } => done_number(true, end, steps, written),
+        PickOutcome::None {
+            end,
+            steps,
+            written,
+        } => done_number(false, end, steps, written),
+        PickOutcome::Refused(r) => pick_number(r) as u64,
+    }
+}
+
+// The last state, with a plan and with none; a refusal writes nothing.
+pub fn put_picked_state(b: &mut [u8], o: PickOutcome, m: Masks)
+    requires { ⌜ length (now b) ≡ stateLength ⌝ }
+    ensures { λ _. ⌜ now (b .exit) ≡ crossedState o m (now (b .entry)) ⌝ }
+{
+    match o {
+        PickOutcome::Plan {
+            end: _,
+            steps: _,
+            written: _,
+        } => put_state(b, m),
+        PickOutcome::None {
+            end: _,
+            steps: _,
+            written: _,
+        } => put_state(b, m),
+        PickOutcome::Refused(_) => {}
+    }
+}
+
+// The bytes of a run's state: the active variables in 4, then 32 domains in 2 each, big-endian.
+const STATE_LENGTH: usize = 68;
+
+// Picking a plan. As the run's answer, and bit 48: whether a plan was written. The state is written with a plan and with none, the plan
+// only with one. A refused pick writes nothing.
+pub fn pick_call(sheet: &[u8], trace: &mut [u8], plan: &mut [u8], state: &mut [u8]) -> u64
+    ensures answer { λ r. ⌜ r ≡ (pickCall (now (sheet .entry)) (now (trace .entry)) (now (plan .entry)) (now (state .entry))) .answer ⌝ }
+    ensures trace { λ _. ⌜ now (trace .exit) ≡ (pickCall (now (sheet .entry)) (now (trace .entry)) (now (plan .entry)) (now (state .entry))) .trace ⌝ }
+    ensures plan { λ _. ⌜ now (plan .exit) ≡ (pickCall (now (sheet .entry)) (now (trace .entry)) (now (plan .entry)) (now (state .entry))) .plan ⌝ }
+    ensures state { λ _. ⌜ now (state .exit) ≡ (pickCall (now (sheet .entry)) (now (trace .entry)) (now (plan .entry)) (now (state .entry))) .state ⌝ }
+{
+    if state.len() != STATE_LENGTH {
+        return boundary::bad_state();
+    }
+    let done = pick(sheet, trace, plan);
+    let outcome = done.outcome;
+    let last = done.state;
+    put_picked_state(state, outcome, last);
+    picked_number(outcome)
 }

@@ -6,7 +6,7 @@ use native.Mathlib.Numerals.{add-one}
 use native.Mathlib.Omega.{arith}
 use lib.ListN.{length, take, getD}
 use lib.Seq.{take-all}
-use Rattle.jobs.specs.Print.{field}
+use Rattle.fields.specs.Print.{field}
 use Rattle.trace.specs.Written.{written}
 use Rattle.trace.proofs.Written.{written-nil, length-written}
 use Rattle.fields.proofs.Laws.{Puts, after}

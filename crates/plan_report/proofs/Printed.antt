@@ -12,7 +12,7 @@ use Rattle.sheet.specs.Relation.{problemOf}
 use Rattle.sheet.specs.declared.SheetRefusal.{SheetRefusal}
 use Rattle.sheet.specs.declared.SheetRead.the-variants as read
 use Rattle.sheet.proofs.Accepted.{problem-bounded, longest-sheet}
-use Rattle.jobs.specs.Print.{inputLimit, sheetLines}
+use Rattle.fields.specs.Print.{inputLimit, sheetLines}
 use Rattle.jobs.proofs.Opened.{sheet-refused}
 use Rattle.report.proofs.Text.{read-lines}
 use Rattle.pick.specs.Pick.{firstLeft, planLeft, PickResult, pickDone, pickJob}

@@ -15,7 +15,7 @@ use Rattle.sheet.specs.Relation.{problemOf}
 use Rattle.sheet.specs.declared.SheetRefusal.{SheetRefusal}
 use Rattle.sheet.specs.declared.SheetRead.the-variants as read
 use Rattle.sheet.proofs.Accepted.{keeps, problem-bounded}
-use Rattle.jobs.specs.Print.{refusedLine, runLines}
+use Rattle.fields.specs.Print.{refusedLine, runLines}
 use Rattle.jobs.proofs.Opened.{sheet-refused, sheet-kept}
 use Rattle.trace.specs.Written.{written}
 use Rattle.fields.proofs.Laws.{Puts, after}

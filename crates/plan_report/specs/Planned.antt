@@ -9,7 +9,7 @@ use Rattle.problem.specs.declared.End.{End}
 use Rattle.problem.specs.declared.Masks.{Masks}
 use Rattle.sheet.specs.Sheet.{sheetNumber}
 use Rattle.jobs.specs.WithSheet.{withSheet}
-use Rattle.jobs.specs.Print.{field, refusedLine, runLines, inputLimit}
+use Rattle.fields.specs.Print.{field, refusedLine, runLines, inputLimit}
 use Rattle.pick.specs.Pick.{firstLeft, planLeft}
 use Rattle.report.specs.Report.{textIn, Ran}
 

@@ -4,7 +4,7 @@ ghost use Prim.Native.Nat.{_+_, _*_, _≤_};
 ghost use lib.ListN.{length, replicate};
 ghost use Rattle.sheet.specs.Sheet.{layout, Keeps};
 ghost use Rattle.sheet.specs.Relation.{problemOf};
-ghost use Rattle.jobs.specs.Trace.{fronted};
+ghost use Rattle.trace.specs.Trace.{fronted};
 ghost use Rattle.trace.specs.Written.{written};
 ghost use Rattle.plan_report.specs.Planned.{settingFields, planLine, foundLine, plannedLines, plannedRoom, plannedText, Picks};
 use fields::put_byte;

@@ -23,10 +23,10 @@ use Rattle.problem.proofs.Trace.{after-fits, lawful-iff, step-falls, trace-iff,
 use Rattle.problem.proofs.Count.{full-count}
 use Rattle.problem.proofs.Run.{next-lawful, run-step, run-stop, run-enough}
 use Rattle.problem.proofs.Bridge.{masks-back}
-use Rattle.jobs.specs.Trace.{recordBytes, recordsBytes, traceBytes, fronted}
-use Rattle.jobs.specs.Run.{runDone}
-use Rattle.jobs.specs.declared.ReduceOutcome.the-variants.{Done}
-use Rattle.jobs.proofs.Worked.{trace-length}
+use Rattle.trace.specs.Trace.{recordBytes, recordsBytes, traceBytes, fronted}
+use Rattle.run.specs.Run.{runDone}
+use Rattle.run.specs.declared.RunOutcome.the-variants.{Done}
+use Rattle.run.proofs.Worked.{trace-length}
 use Rattle.trace.specs.Written.{written, Small}
 use Rattle.trace.proofs.Written.{fronted-more, length-fronted}
 use Rattle.trace.proofs.Back.{trace-more, record-most}

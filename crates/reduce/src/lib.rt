@@ -1,4 +1,5 @@
 // The run of the format: step by step to its end, with its trace in a lent buffer. Variables are the format's items, values its settings.
+ghost use Rattle.run.specs.Call.{runCall};
 ghost use mathlib.Core.Path.{_≡_};
 ghost use mathlib.Core.List.{[]};
 ghost use Prim.Native.Nat.{_≤_, _+_, _*_};
@@ -8,15 +9,15 @@ ghost use Rattle.problem.specs.Reduce.{endOf};
 ghost use Rattle.problem.specs.Held.{held, RowTable};
 ghost use Rattle.problem.specs.Masks.{stateOf};
 ghost use Rattle.held.specs.Ready.{Ready};
-ghost use Rattle.jobs.specs.Run.{runRefused, runDone, runOver, runJob};
+ghost use Rattle.run.specs.Run.{runRefused, runDone, runOver, runJob};
 use held::full_masks;
 use held::size_sum;
-use jobs::ReduceOutcome;
-use jobs::ReduceRefusal;
-use jobs::Reduced;
 use problem::End;
 use problem::Masks;
 use problem::Next;
+use run::RunAnswer;
+use run::RunOutcome;
+use run::RunRefusal;
 use search::advance;
 use search::next_step;
 use sheet::SheetRead;
@@ -49,7 +50,7 @@ fn write_version(b: &mut [u8])
 }
 
 // The run over a filled table, its trace at the front of a buffer with room for the longest. Each step uses up a value, so it ends.
-pub fn run_table(t: &[u16], b: &mut [u8]) -> Reduced
+pub fn run_table(t: &[u16], b: &mut [u8]) -> RunAnswer
     requires { ⌜ RowTable (now t) × (1 + 5 * sizeSum (held (now t)) ≤ length (now b)) ⌝ }
     ensures { λ r. ⌜ (r ≡ (runDone (held (now (t .entry))) (now (b .entry))) .answer) × (now (b .exit) ≡ (runDone (held (now (t .entry))) (now (b .entry))) .buffer) ⌝ }
 {
@@ -77,8 +78,8 @@ pub fn run_table(t: &[u16], b: &mut [u8]) -> Reduced
             }
             Next::Nothing => {
                 let end = end_of(t, state);
-                return Reduced {
-                    outcome: ReduceOutcome::Done {
+                return RunAnswer {
+                    outcome: RunOutcome::Done {
                         end,
                         steps,
                         written: at,
@@ -91,37 +92,68 @@ pub fn run_table(t: &[u16], b: &mut [u8]) -> Reduced
 }
 
 // A refused run answers the reason only.
-fn refused(r: ReduceRefusal) -> Reduced
+fn refused(r: RunRefusal) -> RunAnswer
     ensures { λ x. ⌜ x ≡ (runRefused r []) .answer ⌝ }
 {
     let state = problem::empty_masks();
-    Reduced {
-        outcome: ReduceOutcome::Refused(r),
+    RunAnswer {
+        outcome: RunOutcome::Refused(r),
         state,
     }
 }
 
 // The run over a filled table: the buffer is tested first, by the table's sizes. A refused run leaves the buffer as it was.
-pub fn run_over(t: &[u16], b: &mut [u8]) -> Reduced
+pub fn run_over(t: &[u16], b: &mut [u8]) -> RunAnswer
     requires { ⌜ RowTable (now t) ⌝ }
     ensures { λ r. ⌜ (r ≡ (runOver (held (now (t .entry))) (now (b .entry))) .answer) × (now (b .exit) ≡ (runOver (held (now (t .entry))) (now (b .entry))) .buffer) ⌝ }
 {
     if b.len() < 1 + 5 * size_sum(t) {
-        return refused(ReduceRefusal::Buffer);
+        return refused(RunRefusal::Buffer);
     }
     run_table(t, b)
 }
 
 // The run: lent a sheet and a buffer for the trace. A refused run leaves the buffer as it was.
-pub fn reduce(s: &[u8], b: &mut [u8]) -> Reduced
+pub fn reduce(s: &[u8], b: &mut [u8]) -> RunAnswer
     ensures { λ r. ⌜ (r ≡ (runJob (now (s .entry)) (now (b .entry))) .answer) × (now (b .exit) ≡ (runJob (now (s .entry)) (now (b .entry))) .buffer) ⌝ }
 {
     let mut t = table::blank_table();
     match read_sheet::read_table(s, &mut t) {
-        SheetRead::Refused(r) => refused(ReduceRefusal::Sheet(r)),
+        SheetRead::Refused(r) => refused(RunRefusal::Sheet(r)),
         SheetRead::Accepted {
             variables: _,
             blocks: _,
         } => run_over(&t, b),
+    }
+}
+
+// ---- from C
+
+// The bytes of a run's state: the active variables in 4, then 32 domains in 2 each, big-endian.
+const STATE_LENGTH: usize = 68;
+
+// The run. Bits 0-7: the refusal's number, 0 where there is none; bits 8-15: the end; bits 16-31: the steps; bits 32-47: the bytes
+// written. A refused run writes neither the trace nor the state.
+pub fn run_call(sheet: &[u8], trace: &mut [u8], state: &mut [u8]) -> u64
+    ensures answer { λ r. ⌜ r ≡ (runCall (now (sheet .entry)) (now (trace .entry)) (now (state .entry))) .answer ⌝ }
+    ensures trace { λ _. ⌜ now (trace .exit) ≡ (runCall (now (sheet .entry)) (now (trace .entry)) (now (state .entry))) .trace ⌝ }
+    ensures state { λ _. ⌜ now (state .exit) ≡ (runCall (now (sheet .entry)) (now (trace .entry)) (now (state .entry))) .state ⌝ }
+{
+    if state.len() != STATE_LENGTH {
+        return boundary::bad_state();
+    }
+    let done = reduce(sheet, trace);
+    let outcome = done.outcome;
+    match outcome {
+        RunOutcome::Refused(r) => run::run_number(r) as u64,
+        RunOutcome::Done {
+            end,
+            steps,
+            written,
+        } => {
+            let last = done.state;
+            boundary::put_state(state, last);
+            256 * (run::end_number(end) as u64 + 256 * (steps as u64 + 65536 * written as u64))
+        }
     }
 }

@@ -1,7 +1,7 @@
 // Reads a sheet from standard input and writes what the run comes to.
 ghost use mathlib.Core.Path.{_≡_};
 ghost use lib.ListN.{length};
-ghost use Rattle.jobs.specs.Print.{inputLimit};
+ghost use Rattle.fields.specs.Print.{inputLimit};
 use libc::STDIN_FILENO;
 use libc::STDOUT_FILENO;
 

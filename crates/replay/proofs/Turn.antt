@@ -13,9 +13,9 @@ use Rattle.problem.specs.declared.Masks.{Masks}
 use Rattle.problem.specs.declared.Record.{Record}
 use Rattle.problem.proofs.Bridge.{masks-back}
 use Rattle.held.specs.Ready.{Ready}
-use Rattle.jobs.specs.Trace.{recordAt}
-use Rattle.jobs.specs.declared.RecordRead.{RecordRead}
-use Rattle.jobs.specs.declared.RecordRead.the-variants as record·
+use Rattle.trace.specs.Trace.{recordAt}
+use Rattle.trace.specs.declared.RecordRead.{RecordRead}
+use Rattle.trace.specs.declared.RecordRead.the-variants as record·
 use Rattle.trace.specs.Place.{placeAfter}
 use Rattle.trace.proofs.Back.{next-after}
 use Rattle.trace.proofs.Place.{after-read}

@@ -13,14 +13,14 @@ use Rattle.problem.specs.declared.Record.{Record}
 use Rattle.problem.specs.Masks.{masksOf}
 use Rattle.problem.specs.declared.Masks.{Masks}
 use Rattle.sheet.specs.Bytes.{byteAt}
-use Rattle.jobs.specs.Trace.{recordAt}
-use Rattle.jobs.specs.PutBack.{Checked, Lawful as Records, Fault as Faulty, unlawfulRecord, withRecord, checkFrom, checkTrace}
-use Rattle.jobs.specs.declared.RecordRead.{RecordRead}
-use Rattle.jobs.specs.declared.RecordRead.the-variants as record·
-use Rattle.jobs.specs.declared.ExtendRefusal.{ExtendRefusal}
-use Rattle.jobs.specs.declared.ExtendRefusal.the-variants.{TraceFront, Malformed}
+use Rattle.trace.specs.Trace.{recordAt}
+use Rattle.put_back.specs.PutBack.{Checked, Lawful as Records, Fault as Faulty, unlawfulRecord, withRecord, checkFrom, checkTrace}
+use Rattle.trace.specs.declared.RecordRead.{RecordRead}
+use Rattle.trace.specs.declared.RecordRead.the-variants as record·
+use Rattle.put_back.specs.declared.PutBackRefusal.{PutBackRefusal}
+use Rattle.put_back.specs.declared.PutBackRefusal.the-variants.{TraceFront, Malformed}
 use Rattle.trace.proofs.Back.{next-after}
-use Rattle.trace.proofs.Causes.{records-iff, check-fuel}
+use Rattle.put_back.proofs.Checked.{records-iff, check-fuel}
 use Rattle.replay.specs.Walk.{checkedFrom, ended, lawfulEnd}
 use Rattle.replay.specs.declared.TraceEnd.{TraceEnd}
 use Rattle.replay.specs.declared.TraceCheck.the-variants.{Fault}
@@ -28,7 +28,7 @@ use Rattle.replay.specs.declared.TraceCheck.the-variants.{Fault}
 -- ---- the definition over its tests
 
 -- y is the fault where the test fails
-abbrev ruled : Bool → Record → Checked → ExtendRefusal → Checked
+abbrev ruled : Bool → Record → Checked → PutBackRefusal → Checked
 ruled b r c y = elim b [ true ↦ withRecord r c | false ↦ Faulty y ]
 
 abbrev judged : Problem → State → (k : ℕ) → (Record → ℕ → Checked) → RecordRead → Checked
@@ -43,7 +43,7 @@ abbrev fronted : Problem → List ℕ → Bool → Checked
 fronted P t b = elim b [ true ↦ checkFrom (suc (length t)) P t (full P) 0 1 | false ↦ Faulty TraceFront ]
 
 -- a check that ends lawfully, taken apart
-parts : (b : Bool) (r : Record) (c : Checked) (y : ExtendRefusal) (ts : List Record) → ruled b r c y ≡ Records ts → (b ≡ true) × ((rest : List Record) × (c ≡ Records rest) × (ts ≡ r ∷ rest))
+parts : (b : Bool) (r : Record) (c : Checked) (y : PutBackRefusal) (ts : List Record) → ruled b r c y ≡ Records ts → (b ≡ true) × ((rest : List Record) × (c ≡ Records rest) × (ts ≡ r ∷ rest))
 parts true r (Records rest) y ts e = (refl, (rest, refl, cc))
 parts true r (Faulty x) y ts e = let z : _≡_ {A = ℕ} 0 1 = cc in absurd (omega arith)
 parts false r c y ts e = let z : _≡_ {A = ℕ} 0 1 = cc in absurd (omega arith)
@@ -66,7 +66,7 @@ module _ (P : Problem) (t : List ℕ) where
     checked-malformed e = ap (judged P s k (λ r q. checkFrom (length t - p) P t (after P s r) (k + 1) q)) e
 
     -- the fault where a record that stands here is not lawful
-    abbrev unlawful : Record → ExtendRefusal
+    abbrev unlawful : Record → PutBackRefusal
     unlawful r = unlawfulRecord k (brokenCover P s r)
 
     checked-read : (r : Record) (q : ℕ) → recordAt t p ≡ record·.Read r q → checkedFrom P t s k p ≡ ruled (lawful P s r) r (checkedFrom P t (after P s r) (k + 1) q) (unlawful r)
@@ -129,6 +129,6 @@ pub ended-lawful : (P : Problem) (s : State) (c : Checked) (m : Masks) → ended
 ended-lawful P s (Records ts) m e = (ts, refl, ap (λ (x : TraceEnd). x .state) (sym e))
 ended-lawful P s (Faulty f) m e = let q = ap (λ (x : TraceEnd). x .check) e in let z : _≡_ {A = ℕ} 0 1 = cc in absurd (omega arith)
 
-pub ended-fault : (P : Problem) (s : State) (c : Checked) (x : TraceEnd) (f : ExtendRefusal) → x ≡ ended P s c → x .check ≡ Fault f → c ≡ Faulty f
+pub ended-fault : (P : Problem) (s : State) (c : Checked) (x : TraceEnd) (f : PutBackRefusal) → x ≡ ended P s c → x .check ≡ Fault f → c ≡ Faulty f
 ended-fault P s (Records ts) x f e h = let q = ap (λ (x : TraceEnd). x .check) e in let z : _≡_ {A = ℕ} 0 1 = cc in absurd (omega arith)
 ended-fault P s (Faulty g) x f e h = let q = ap (λ (x : TraceEnd). x .check) e in cc

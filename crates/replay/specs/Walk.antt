@@ -8,11 +8,11 @@ use Rattle.problem.specs.Reduce.{lawful, brokenCover, after, afterTrace}
 use Rattle.problem.specs.Masks.{masksOf, stateOf, emptyMasks}
 use Rattle.problem.specs.declared.Masks.{Masks}
 use Rattle.problem.specs.declared.Break.{Break}
-use Rattle.jobs.specs.declared.ExtendRefusal.{ExtendRefusal}
-use Rattle.jobs.specs.declared.ExtendRefusal.the-variants.{Malformed}
-use Rattle.jobs.specs.declared.RecordRead.{RecordRead}
-use Rattle.jobs.specs.declared.RecordRead.the-variants as record·
-use Rattle.jobs.specs.PutBack.{Checked, Lawful as Records, Fault as Faulty, unlawfulRecord, checkFrom}
+use Rattle.put_back.specs.declared.PutBackRefusal.{PutBackRefusal}
+use Rattle.put_back.specs.declared.PutBackRefusal.the-variants.{Malformed}
+use Rattle.trace.specs.declared.RecordRead.{RecordRead}
+use Rattle.trace.specs.declared.RecordRead.the-variants as record·
+use Rattle.put_back.specs.PutBack.{Checked, Lawful as Records, Fault as Faulty, unlawfulRecord, checkFrom}
 use Rattle.replay.specs.declared.TraceEnd.{TraceEnd}
 use Rattle.replay.specs.declared.Checking.{Checking}
 use Rattle.replay.specs.declared.TraceCheck.the-variants.{Lawful, Fault}
@@ -25,7 +25,7 @@ checkedFrom P t s k p = checkFrom (suc (length t - p)) P t s k p
 abbrev pub lawfulEnd : Masks → TraceEnd
 lawfulEnd m = record { check = Lawful; state = m }
 
-abbrev pub faulty : ExtendRefusal → TraceEnd
+abbrev pub faulty : PutBackRefusal → TraceEnd
 faulty e = record { check = Fault e; state = emptyMasks }
 
 abbrev pub ended : Problem → State → Checked → TraceEnd

@@ -9,17 +9,17 @@ ghost use Rattle.problem.specs.Held.{held, RowTable};
 ghost use Rattle.problem.specs.Masks.{stateOf, masksOf, sets};
 ghost use Rattle.problem.specs.declared.Record.the-variants.{Neighbourhood};
 ghost use Rattle.held.specs.Ready.{Ready};
-ghost use Rattle.jobs.specs.PutBack.{unlawfulRecord, checkTrace};
+ghost use Rattle.put_back.specs.PutBack.{unlawfulRecord, checkTrace};
 ghost use Rattle.replay.specs.Walk.{checkedFrom, ended, faulty, goingOn, stoppedWith, checkedTurn};
 use bounded::has32;
 use held::is_live;
-use jobs::ExtendRefusal;
-use jobs::RecordRead;
-use jobs::unlawful_record;
 use problem::Break;
 use problem::Masks;
 use problem::Record;
 use problem::empty_masks;
+use put_back::PutBackRefusal;
+use put_back::unlawful_record;
+use trace::RecordRead;
 use trace::moved;
 use trace::peek;
 use trace::placed;
@@ -29,7 +29,7 @@ use trace::placed;
 // What checking a trace finds.
 pub enum TraceCheck {
     Lawful,
-    Fault(ExtendRefusal),
+    Fault(PutBackRefusal),
 }
 
 // The check's answer. An enum holds no array, so the state that the records lead to stands beside it.
@@ -180,7 +180,7 @@ fn broken_cover(t: &[u16], active: u32, on: &[u16; 32], r: Record) -> Break
 // ---- the trace
 
 // The answer at a fault.
-fn fault(e: ExtendRefusal) -> TraceEnd
+fn fault(e: PutBackRefusal) -> TraceEnd
     ensures { λ r. ⌜ r ≡ faulty e ⌝ }
 {
     TraceEnd {
@@ -246,7 +246,7 @@ fn check_record(t: &[u16], c: Checking, x: RecordRead) -> Checking
             }
         }
         RecordRead::End => stopped(end),
-        RecordRead::Malformed => stopped(fault(ExtendRefusal::Malformed)),
+        RecordRead::Malformed => stopped(fault(PutBackRefusal::Malformed)),
     }
 }
 
@@ -270,10 +270,10 @@ pub fn check_trace(t: &[u16], trace: &[u8], first: Masks) -> TraceEnd
     ensures { λ r. ⌜ r ≡ ended (held (now (t .entry))) (full (held (now (t .entry)))) (checkTrace (held (now (t .entry))) (now (trace .entry))) ⌝ }
 {
     if trace.len() == 0 {
-        return fault(ExtendRefusal::TraceFront);
+        return fault(PutBackRefusal::TraceFront);
     }
     if trace[0] != 1 {
-        return fault(ExtendRefusal::TraceFront);
+        return fault(PutBackRefusal::TraceFront);
     }
     check_records(t, trace, first)
 }

@@ -11,9 +11,9 @@ use borrow.Author.Tests.{ltb-true, ltb-false}
 use Rattle.bounded.proofs.Truth.{split}
 use Rattle.sheet.specs.Bytes.{byteAt}
 use Rattle.problem.specs.declared.Record.{Record}
-use Rattle.jobs.specs.Trace.{recordBytes, recordsBytes, traceBytes, fronted, recordOf, isWhole, recordAt}
-use Rattle.jobs.specs.declared.RecordRead.{RecordRead}
-use Rattle.jobs.specs.declared.RecordRead.the-variants.{Read, End, Malformed}
+use Rattle.trace.specs.Trace.{recordBytes, recordsBytes, traceBytes, fronted, recordOf, isWhole, recordAt}
+use Rattle.trace.specs.declared.RecordRead.{RecordRead}
+use Rattle.trace.specs.declared.RecordRead.the-variants.{Read, End, Malformed}
 use Rattle.trace.specs.Written.{Small}
 use Rattle.trace.proofs.Read.{at-end, at-broken, at-whole}
 use Rattle.trace.proofs.Back.{record-back}

@@ -5,9 +5,9 @@ use Prim.Native.Nat.{ℕ, suc, _+_, _-_, _*_, _≤_, _<_}
 use native.Mathlib.Omega.{arith}
 use lib.ListN.{length}
 use Rattle.problem.specs.declared.Record.{Record}
-use Rattle.jobs.specs.Trace.{recordAt}
-use Rattle.jobs.specs.Print.{decimal, stepText, stepLines}
-use Rattle.jobs.specs.declared.RecordRead.the-variants.{Read, End, Malformed}
+use Rattle.trace.specs.Trace.{recordAt}
+use Rattle.fields.specs.Print.{decimal, stepText, stepLines}
+use Rattle.trace.specs.declared.RecordRead.the-variants.{Read, End, Malformed}
 use Rattle.trace.specs.Written.{written}
 use Rattle.trace.proofs.Written.{written-nil, length-written}
 use Rattle.fields.proofs.Laws.{Puts, after}

@@ -22,16 +22,17 @@ use Rattle.sheet.specs.Relation.{problemOf}
 use Rattle.sheet.specs.declared.SheetRead.{SheetRead}
 use Rattle.sheet.specs.declared.SheetRead.the-variants as read
 use Rattle.sheet.proofs.Accepted.{keeps, problem-bounded}
-use Rattle.jobs.specs.Numbers.{reduceNumber}
-use Rattle.jobs.specs.Trace.{traceBytes, fronted}
-use Rattle.jobs.specs.Run.{RunResult, runDone, runJob}
-use Rattle.jobs.specs.Print.{field, sheetWord, endWord, stepLines, refusedLine, runLines, sheetLines}
-use Rattle.jobs.specs.declared.Reduced.{Reduced}
-use Rattle.jobs.specs.declared.ReduceRefusal.{ReduceRefusal}
-use Rattle.jobs.specs.declared.ReduceRefusal.the-variants.{Sheet}
-use Rattle.jobs.specs.declared.ReduceOutcome.the-variants.{Done, Refused}
-use Rattle.jobs.proofs.Ran.{ran-iff}
-use Rattle.jobs.proofs.Opened.{sheet-refused, sheet-kept, run-sheet-refused, run-accepted}
+use Rattle.run.specs.Numbers.{runRefusalNumber}
+use Rattle.trace.specs.Trace.{traceBytes, fronted}
+use Rattle.run.specs.Run.{RunResult, runDone, runJob}
+use Rattle.fields.specs.Print.{field, sheetWord, endWord, stepLines, refusedLine, runLines, sheetLines}
+use Rattle.run.specs.declared.RunAnswer.{RunAnswer}
+use Rattle.run.specs.declared.RunRefusal.{RunRefusal}
+use Rattle.run.specs.declared.RunRefusal.the-variants.{Sheet}
+use Rattle.run.specs.declared.RunOutcome.the-variants.{Done, Refused}
+use Rattle.run.proofs.Ran.{ran-iff}
+use Rattle.jobs.proofs.Opened.{sheet-refused, sheet-kept}
+use Rattle.run.proofs.Opened.{run-sheet-refused, run-accepted}
 use Rattle.trace.specs.Written.{written}
 use Rattle.trace.proofs.Written.{written-front}
 use Rattle.fields.proofs.Laws.{Puts, after}
@@ -90,22 +91,22 @@ module _ (s b : List ℕ) (long : 2561 ≤ length b) where
   worked : Keeps layout s → runJob s b ≡ runDone (problemOf layout s) b
   worked K = run-accepted s b K (omega (arith, sizes-most (problemOf layout s) (problem-bounded s K)))
 
-  module _ (x : Reduced) (a : x ≡ (runJob s b) .answer) where
+  module _ (x : RunAnswer) (a : x ≡ (runJob s b) .answer) where
     pub done-keeps : (e : End) (k n : ℕ) → x .outcome ≡ Done e k n → Keeps layout s
-    done-keeps e k n o = ran-iff s b (Done e k n) .0 (ap (λ (y : Reduced). y .outcome) (sym a) ∙ o) .0
+    done-keeps e k n o = ran-iff s b (Done e k n) .0 (ap (λ (y : RunAnswer). y .outcome) (sym a) ∙ o) .0
 
-    pub refused-text : (r : ReduceRefusal) → x .outcome ≡ Refused r → refusedLine (reduceNumber r) ≡ sheetLines s
+    pub refused-text : (r : RunRefusal) → x .outcome ≡ Refused r → refusedLine (runRefusalNumber r) ≡ sheetLines s
     unfolding runDone
     refused-text r o = go (readSheet layout s) refl
       where
-        go : (y : SheetRead) → readSheet layout s ≡ y → refusedLine (reduceNumber r) ≡ sheetLines s
+        go : (y : SheetRead) → readSheet layout s ≡ y → refusedLine (runRefusalNumber r) ≡ sheetLines s
         go (read.Accepted i j) h =
             let q = ap (λ (y : RunResult). y .answer .outcome) (worked (keeps layout s i j h)) in
-            let z : _≡_ {A = ℕ} 0 1 = cc (ap (λ (y : Reduced). y .outcome) a) in absurd (omega arith)
+            let z : _≡_ {A = ℕ} 0 1 = cc (ap (λ (y : RunAnswer). y .outcome) a) in absurd (omega arith)
         go (read.Refused t) h =
             let q = ap (λ (y : RunResult). y .answer .outcome) (run-sheet-refused s b t h) in
-            let z : r ≡ Sheet t = cc (ap (λ (y : Reduced). y .outcome) a) in
-            ap (λ (y : ReduceRefusal). refusedLine (reduceNumber y)) z ∙ sym (refused-lines s t h)
+            let z : r ≡ Sheet t = cc (ap (λ (y : RunAnswer). y .outcome) a) in
+            ap (λ (y : RunRefusal). refusedLine (runRefusalNumber y)) z ∙ sym (refused-lines s t h)
 
     pub done-ran : (e : End) (k n : ℕ) → x .outcome ≡ Done e k n → (w : List ℕ) → w ≡ (runJob s b) .buffer → Ran (problemOf layout s) w e k (x .state)
     unfolding runDone
@@ -113,13 +114,13 @@ module _ (s b : List ℕ) (long : 2561 ≤ length b) where
         let K = done-keeps e k n o in
         let P = problemOf layout s in
         let q = ap (λ (y : RunResult). y .answer .outcome) (worked K) in
-        let f : Done e k n ≡ Done (endOf P (afterTrace P (full P) (run P (full P)))) (length (run P (full P))) (length (traceBytes (run P (full P)))) = cc (ap (λ (y : Reduced). y .outcome) a) in
+        let f : Done e k n ≡ Done (endOf P (afterTrace P (full P) (run P (full P)))) (length (run P (full P))) (length (traceBytes (run P (full P)))) = cc (ap (λ (y : RunAnswer). y .outcome) a) in
         let c : k ≡ length (run P (full P)) = cc in
         record {
           end = cc;
           count = c;
           few = omega (arith, run-short P, sizes-most P (problem-bounded s K));
-          last = ap (λ (y : Reduced). y .state) a ∙ ap (λ (y : RunResult). y .answer .state) (worked K);
+          last = ap (λ (y : RunAnswer). y .state) a ∙ ap (λ (y : RunResult). y .answer .state) (worked K);
           told = (λ i. recordsIn (c i) ((h ∙ ap (λ (y : RunResult). y .buffer) (worked K)) i) 1) ∙ trace-read (run P (full P)) b;
         }
 

@@ -2,9 +2,9 @@
 use mathlib.Core.List.{List, [], _∷_}
 use Prim.Native.Nat.{ℕ, zero, suc}
 use Rattle.problem.specs.declared.Record.{Record}
-use Rattle.jobs.specs.Trace.{recordAt}
-use Rattle.jobs.specs.declared.RecordRead.{RecordRead}
-use Rattle.jobs.specs.declared.RecordRead.the-variants.{Read, End, Malformed}
+use Rattle.trace.specs.Trace.{recordAt}
+use Rattle.trace.specs.declared.RecordRead.{RecordRead}
+use Rattle.trace.specs.declared.RecordRead.the-variants.{Read, End, Malformed}
 
 -- a record that was read, with those that `rest` finds from the place after it
 abbrev pub withRead : RecordRead → (ℕ → List Record) → List Record

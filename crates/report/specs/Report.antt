@@ -10,7 +10,7 @@ use Rattle.problem.specs.Reduce.{run, afterTrace, endOf}
 use Rattle.problem.specs.Masks.{masksOf}
 use Rattle.problem.specs.declared.End.{End}
 use Rattle.problem.specs.declared.Masks.{Masks}
-use Rattle.jobs.specs.Print.{sheetLines}
+use Rattle.fields.specs.Print.{sheetLines}
 use Rattle.report.specs.Records.{recordsIn}
 
 -- a buffer of this length has room for every text

@@ -9,17 +9,17 @@ ghost use Rattle.problem.specs.Masks.{stateOf};
 ghost use Rattle.sheet.specs.Bytes.{Is};
 ghost use Rattle.sheet.specs.Sheet.{layout, Keeps};
 ghost use Rattle.sheet.specs.Relation.{problemOf};
-ghost use Rattle.jobs.specs.Trace.{fronted};
-ghost use Rattle.jobs.specs.Print.{stepLines, runLines, sheetLines};
+ghost use Rattle.trace.specs.Trace.{fronted};
+ghost use Rattle.fields.specs.Print.{stepLines, runLines, sheetLines};
 ghost use Rattle.trace.specs.Written.{written};
 ghost use Rattle.report.specs.Records.{recordsIn};
 ghost use Rattle.report.specs.Report.{reportRoom, reportText, Ran};
 use bounded::has32;
-use jobs::RecordRead;
-use jobs::ReduceOutcome;
 use problem::End;
 use problem::Masks;
+use run::RunOutcome;
 use sheet::byte;
+use trace::RecordRead;
 
 // ---- counts of the last state
 
@@ -131,16 +131,12 @@ fn put_sheet(out: &mut [u8], s: &[u8]) -> usize
     let state = done.state;
     let outcome = done.outcome;
     match outcome {
-        ReduceOutcome::Done {
+        RunOutcome::Done {
             end,
             steps,
             written: _,
         } => put_run(out, s, &trace, end, steps, state),
-        ReduceOutcome::Refused(r) => text::put_refused_line(
-            out,
-            0,
-            jobs::reduce_number(r) as usize,
-        ),
+        RunOutcome::Refused(r) => text::put_refused_line(out, 0, run::run_number(r) as usize),
     }
 }
 

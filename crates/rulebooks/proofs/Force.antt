@@ -9,12 +9,12 @@ use Rattle.problem.specs.Problem.{Problem, State, full}
 use Rattle.problem.specs.Rulebook.{inForce}
 use Rattle.problem.specs.Reduce.{lawful, brokenCover, after}
 use Rattle.sheet.specs.Bytes.{byteAt}
-use Rattle.jobs.specs.Trace.{recordAt}
+use Rattle.trace.specs.Trace.{recordAt}
 use Rattle.jobs.specs.WithSheet.{withSheet}
-use Rattle.jobs.specs.Run.{runDone, runOver, runJob}
-use Rattle.jobs.specs.PutBack.{putBackRefused, unlawfulRecord, Lawful, Fault, withRecord, checkFrom, checkTrace, afterCheck, putBackOver, putBackJob}
-use Rattle.jobs.specs.declared.RecordRead.the-variants as record·
-use Rattle.jobs.specs.declared.ExtendRefusal.the-variants as back
+use Rattle.run.specs.Run.{runDone, runOver, runJob}
+use Rattle.put_back.specs.PutBack.{putBackRefused, unlawfulRecord, Lawful, Fault, withRecord, checkFrom, checkTrace, afterCheck, putBackOver, putBackJob}
+use Rattle.trace.specs.declared.RecordRead.the-variants as record·
+use Rattle.put_back.specs.declared.PutBackRefusal.the-variants as back
 use Rattle.rulebooks.specs.Under.{runOverUnder, runJobUnder, checkFromUnder, checkTraceUnder, putBackOverUnder, putBackJobUnder}
 
 pub run-in-force : (s b : List ℕ) → runJobUnder inForce s b ≡ runJob s b

@@ -12,7 +12,7 @@ use Rattle.problem.specs.Solutions as solutions
 use Rattle.sheet.specs.Sheet as sheet
 use Rattle.sheet.specs.Relation as relation
 use Rattle.jobs.specs.WithSheet.{withSheet}
-use Rattle.jobs.specs.Trace.{recordsBytes, traceBytes, recordAt}
+use Rattle.trace.specs.Trace.{recordsBytes, traceBytes, recordAt}
 use Rattle.rulebooks.specs.Under.{runOverUnder, runJobUnder, checkFromUnder, checkTraceUnder, putBackOverUnder, putBackJobUnder}
 use Rattle.rulebooks.specs.Samples.{Before}
 

@@ -27,18 +27,18 @@ use Rattle.problem.proofs.Wider.{lawful-widens, trace-stays, endBefore, Added, 
 use Rattle.sheet.specs.Sheet.{layout}
 use Rattle.sheet.specs.Bytes.{byteAt}
 use Rattle.sheet.specs.Relation.{problemOf}
-use Rattle.jobs.specs.Trace.{recordBytes, recordsBytes, traceBytes, fronted, recordAt}
-use Rattle.jobs.specs.Numbers.{putBackNumber}
-use Rattle.jobs.specs.Run.{RunResult, ranThrough, bufferShort}
-use Rattle.jobs.specs.PutBack.{PutBackResult, unlawfulRecord, Checked, Lawful, Fault, withRecord, afterCheck}
-use Rattle.jobs.specs.declared.RecordRead.{RecordRead}
-use Rattle.jobs.specs.declared.RecordRead.the-variants as record·
-use Rattle.jobs.specs.declared.ReduceOutcome.the-variants as reduced
-use Rattle.jobs.specs.declared.ExtendRefusal.the-variants as refusal
+use Rattle.trace.specs.Trace.{recordBytes, recordsBytes, traceBytes, fronted, recordAt}
+use Rattle.put_back.specs.Numbers.{putBackNumber}
+use Rattle.run.specs.Run.{RunResult, ranThrough, bufferShort}
+use Rattle.put_back.specs.PutBack.{PutBackResult, unlawfulRecord, Checked, Lawful, Fault, withRecord, afterCheck}
+use Rattle.trace.specs.declared.RecordRead.{RecordRead}
+use Rattle.trace.specs.declared.RecordRead.the-variants as record·
+use Rattle.run.specs.declared.RunOutcome.the-variants as reduced
+use Rattle.put_back.specs.declared.PutBackRefusal.the-variants as refusal
 use Rattle.jobs.proofs.Opened.{sheet-both}
 use Rattle.trace.proofs.Read.{at-end}
 use Rattle.trace.proofs.Back.{record-most, records-append}
-use Rattle.trace.proofs.Causes.{read-here}
+use Rattle.put_back.proofs.Checked.{read-here}
 use Rattle.rulebooks.specs.Under.{runOverUnder, runJobUnder, checkFromUnder, checkTraceUnder, putBackOverUnder, putBackJobUnder}
 
 -- ---- the run

@@ -5,9 +5,9 @@ use mathlib.Core.List.{List, [], _∷_, _++_}
 use Prim.Native.Nat.{ℕ, _-_}
 use lib.ListN.{length}
 use Rattle.problem.specs.Rulebook.{beforeFour}
-use Rattle.jobs.specs.Starred.{lent, sheetB, shortB, sheetK, shortK, sheetL, shortL}
-use Rattle.jobs.specs.declared.Extended.the-variants as extended
-use Rattle.jobs.specs.declared.ExtendRefusal.the-variants as refusal
+use Rattle.jobs.specs.Sheets.{lent, sheetB, shortB, sheetK, shortK, sheetL, shortL}
+use Rattle.put_back.specs.declared.PutBackOutcome.the-variants as extended
+use Rattle.put_back.specs.declared.PutBackRefusal.the-variants as refusal
 use Rattle.rulebooks.specs.Under.{runJobUnder, putBackJobUnder}
 
 -- the trace of a run of the sheet s with a buffer of b bytes

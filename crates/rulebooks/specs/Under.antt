@@ -9,13 +9,13 @@ use Rattle.problem.specs.Problem.{Problem, State, full}
 use Rattle.problem.specs.Rulebook.{Rulebook}
 use Rattle.problem.specs.Reduce.{lawfulBy, brokenCover, after, runBy}
 use Rattle.sheet.specs.Bytes.{byteAt}
-use Rattle.jobs.specs.Trace.{recordAt}
+use Rattle.trace.specs.Trace.{recordAt}
 use Rattle.jobs.specs.WithSheet.{withSheet}
-use Rattle.jobs.specs.Run.{RunResult, runRefused, ranThrough, bufferShort}
-use Rattle.jobs.specs.PutBack.{PutBackResult, putBackRefused, unlawfulRecord, Checked, Lawful, Fault, withRecord, afterCheck}
-use Rattle.jobs.specs.declared.RecordRead.the-variants as record·
-use Rattle.jobs.specs.declared.ReduceRefusal.the-variants as run
-use Rattle.jobs.specs.declared.ExtendRefusal.the-variants as back
+use Rattle.run.specs.Run.{RunResult, runRefused, ranThrough, bufferShort}
+use Rattle.put_back.specs.PutBack.{PutBackResult, putBackRefused, unlawfulRecord, Checked, Lawful, Fault, withRecord, afterCheck}
+use Rattle.trace.specs.declared.RecordRead.the-variants as record·
+use Rattle.run.specs.declared.RunRefusal.the-variants as run
+use Rattle.put_back.specs.declared.PutBackRefusal.the-variants as back
 
 -- ---- the run: `runOver` and `runJob`
 

@@ -1,4 +1,5 @@
 // docs/FORMAT.md, "Taking out by hand": the start, by sweeps over a filled table until one changes nothing.
+ghost use Rattle.hand.specs.Call.{startCall};
 ghost use mathlib.Core.Path.{_≡_};
 ghost use Prim.Native.Nat.{_<_};
 ghost use Rattle.problem.specs.Problem.{noneEmpty, maxVariables};
@@ -6,12 +7,12 @@ ghost use Rattle.problem.specs.Manual.{start as largest};
 ghost use Rattle.problem.specs.Masks.{stateOf, masksOf, sets};
 ghost use Rattle.problem.specs.Held.{held, RowTable};
 ghost use Rattle.held.specs.Ready.{Ready};
-ghost use Rattle.jobs.specs.Hand.{startRefused, startOver, startJob};
+ghost use Rattle.hand.specs.Hand.{startRefused, startOver, startJob};
 ghost use Rattle.support.specs.Words.{domainLeft};
 ghost use Rattle.start.specs.Parts.{pruneBelow, sameDomains};
-use jobs::ManualState;
-use jobs::StartAnswer;
-use jobs::StartOutcome;
+use hand::HandState;
+use hand::StartAnswer;
+use hand::StartOutcome;
 use problem::Masks;
 use sheet::SheetRead;
 use sheet::SheetRefusal;
@@ -88,7 +89,7 @@ pub fn start_over(t: &[u16]) -> StartAnswer
     ensures { λ r. ⌜ r ≡ startOver (held (now (t .entry))) ⌝ }
 {
     let masks = settle(t);
-    let state = ManualState { masks };
+    let state = HandState { masks };
     StartAnswer {
         outcome: StartOutcome::Started,
         state,
@@ -100,7 +101,7 @@ fn refused_start(r: SheetRefusal) -> StartAnswer
     ensures { λ a. ⌜ a ≡ startRefused r ⌝ }
 {
     let masks = problem::empty_masks();
-    let state = ManualState { masks };
+    let state = HandState { masks };
     StartAnswer {
         outcome: StartOutcome::Refused(r),
         state,
@@ -118,5 +119,30 @@ pub fn start(s: &[u8]) -> StartAnswer
             variables: _,
             blocks: _,
         } => start_over(&t),
+    }
+}
+
+// ---- from C
+
+// The bytes of a hand state, which holds a run's state and nothing else.
+const HAND_STATE_LENGTH: usize = 68;
+
+// The start of taking out by hand. The refusal's number, or 0 with the state written.
+pub fn start_call(sheet: &[u8], state: &mut [u8]) -> u64
+    ensures answer { λ r. ⌜ r ≡ (startCall (now (sheet .entry)) (now (state .entry))) .answer ⌝ }
+    ensures state { λ _. ⌜ now (state .exit) ≡ (startCall (now (sheet .entry)) (now (state .entry))) .state ⌝ }
+{
+    if state.len() != HAND_STATE_LENGTH {
+        return boundary::bad_hand_state();
+    }
+    let first = start(sheet);
+    let outcome = first.outcome;
+    match outcome {
+        StartOutcome::Refused(r) => sheet::sheet_number(r) as u64,
+        StartOutcome::Started => {
+            let st = first.state;
+            boundary::put_state(state, st.masks);
+            0
+        }
     }
 }

@@ -4,7 +4,7 @@ use mathlib.Core.List.{_++_}
 use Prim.Native.Nat.{_+_}
 use Rattle.problem.specs.declared.Record.{Record}
 use Rattle.problem.specs.declared.Record.the-variants.{Unsupported, Snake, Triangle, Neighbourhood, SnakeSubstitution}
-use Rattle.jobs.specs.Print.{stepText}
+use Rattle.fields.specs.Print.{stepText}
 use Rattle.text.specs.Parts.{stepWord}
 use Rattle.fields.specs.Parts.{stepFields}
 

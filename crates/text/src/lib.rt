@@ -3,7 +3,7 @@ ghost use mathlib.Core.Path.{_≡_};
 ghost use mathlib.Core.List.{_∷_, _++_, []};
 ghost use Prim.Native.Nat.{_+_, _<_, _≤_};
 ghost use lib.ListN.{length};
-ghost use Rattle.jobs.specs.Print.{decimal, field, sheetWord, stepText, endWord, refusedLine};
+ghost use Rattle.fields.specs.Print.{decimal, field, sheetWord, stepText, endWord, refusedLine};
 ghost use Rattle.trace.specs.Written.{written, Small};
 ghost use Rattle.text.specs.Parts.{stepWord};
 use fields::put_byte;

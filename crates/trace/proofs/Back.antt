@@ -11,8 +11,8 @@ use Rattle.bounded.proofs.Truth.{split}
 use Rattle.sheet.specs.Bytes.{byteAt}
 use Rattle.problem.specs.declared.Record.{Record}
 use Rattle.problem.specs.declared.Record.the-variants.{Unsupported, Snake, Triangle, Neighbourhood, SnakeSubstitution}
-use Rattle.jobs.specs.Trace.{recordBytes, recordsBytes, traceBytes, lengthByte, recordOf, isWhole, recordAt}
-use Rattle.jobs.specs.declared.RecordRead.the-variants.{Read}
+use Rattle.trace.specs.Trace.{recordBytes, recordsBytes, traceBytes, lengthByte, recordOf, isWhole, recordAt}
+use Rattle.trace.specs.declared.RecordRead.the-variants.{Read}
 use Rattle.trace.proofs.Read.{at-end, at-broken, at-whole, at-record, whole-parts}
 use lib.Dec.{ltb}
 use borrow.Author.Tests.{ltb-true, ltb-false}

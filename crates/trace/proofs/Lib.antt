@@ -2,7 +2,7 @@ pub mod Written
 pub mod Read
 pub mod Back
 pub mod Turns
-pub mod Causes
 pub mod Place
 pub mod Steps
 pub mod Moves
+pub mod Fronted

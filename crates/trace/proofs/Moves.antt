@@ -38,10 +38,10 @@ use denote.Triple.Call.{calls-at, calls-at-last}
 use denote.Triple.Entry.{Vals}
 use denote.Triple.Spec.{tripleOf}
 use denote.Triple.Clauses.{ensured, lasts}
-use Rattle.jobs.specs.Trace.{recordAt}
+use Rattle.trace.specs.Trace.{recordAt}
 use Rattle.trace.specs.Place.{placeAfter}
-use Rattle.jobs.specs.declared.RecordRead.{RecordRead}
-use Rattle.jobs.proofs.RecordRead as S
+use Rattle.trace.specs.declared.RecordRead.{RecordRead}
+use Rattle.trace.proofs.RecordRead as S
 use Rattle.trace.specs.declared.Reader.{Reader}
 use Rattle.trace.proofs.Reader as T
 use Rattle.trace.proofs.Reader.Laws as T′

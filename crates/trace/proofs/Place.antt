@@ -8,8 +8,8 @@ use lib.ListN.{length}
 use borrow.Author.Tests.{lt-ltb, le-ltb}
 use Rattle.sheet.specs.Bytes.{byteAt}
 use Rattle.problem.specs.declared.Record.{Record}
-use Rattle.jobs.specs.Trace.{recordAt}
-use Rattle.jobs.specs.declared.RecordRead.the-variants.{Read}
+use Rattle.trace.specs.Trace.{recordAt}
+use Rattle.trace.specs.declared.RecordRead.the-variants.{Read}
 use Rattle.trace.specs.Place.{placeAfter}
 use Rattle.trace.proofs.Back.{read-whole}
 

@@ -10,9 +10,9 @@ use borrow.Author.Tests.{ltb-true, lt-ltb, le-ltb, eq-eqb, eqb-true}
 use Rattle.bounded.proofs.Truth.{both}
 use Rattle.sheet.specs.Bytes.{byteAt}
 use Rattle.problem.specs.declared.Record.{Record}
-use Rattle.jobs.specs.Trace.{lengthByte, isKind, recordOf, isWhole, recordAt}
-use Rattle.jobs.specs.declared.RecordRead.{RecordRead}
-use Rattle.jobs.specs.declared.RecordRead.the-variants.{Read, End, Malformed}
+use Rattle.trace.specs.Trace.{lengthByte, isKind, recordOf, isWhole, recordAt}
+use Rattle.trace.specs.declared.RecordRead.{RecordRead}
+use Rattle.trace.specs.declared.RecordRead.the-variants.{Read, End, Malformed}
 
 -- ---- the length byte of a kind
 

@@ -1,4 +1,4 @@
--- One turn of the check of a trace, and the bytes that a record is read from. Assumes nothing.
+-- The bytes that a record is read from. Assumes nothing.
 use mathlib.Core.Path.{_≡_, refl, sym, ap, _∙_, subst}
 use mathlib.Core.Bool.{true, false}
 use mathlib.Core.List.{List, [], _∷_, _++_}
@@ -11,34 +11,11 @@ use borrow.Author.Tests.{ltb-true}
 use lib.ListN.{length, drop, drop-of-length-le}
 use lib.Seq.{drop-cons}
 use Rattle.bounded.proofs.Truth.{T-of, T-not, split, clash, both, lt-dec}
-use Rattle.problem.specs.Problem.{Problem, State}
-use Rattle.problem.specs.Reduce.{lawful, brokenCover, after}
 use Rattle.problem.specs.declared.Record.{Record}
 use Rattle.sheet.specs.Bytes.{byteAt}
-use Rattle.jobs.specs.Trace.{recordBytes, lengthByte, isKind, recordOf, isWhole, recordAt}
-use Rattle.jobs.specs.PutBack.{Lawful, Fault, unlawfulRecord, withRecord, checkFrom}
-use Rattle.jobs.specs.declared.RecordRead.the-variants.{Read, End, Malformed}
-use Rattle.jobs.specs.declared.ExtendRefusal.the-variants as refusal
+use Rattle.trace.specs.Trace.{recordBytes, lengthByte, isKind, recordOf, isWhole, recordAt}
+use Rattle.trace.specs.declared.RecordRead.the-variants.{Read, End}
 use Rattle.trace.proofs.Read.{whole-parts, at-end, at-broken, at-whole}
-
--- ---- one turn
-
-module _ (P : Problem) (w : List ℕ) where
-  pub turn-end : (f : ℕ) (s : State) (k p : ℕ) → recordAt w p ≡ End → checkFrom (suc f) P w s k p ≡ Lawful []
-  unfolding checkFrom
-  turn-end f s k p e = rw (e, checkFrom)
-
-  pub turn-malformed : (f : ℕ) (s : State) (k p : ℕ) → recordAt w p ≡ Malformed → checkFrom (suc f) P w s k p ≡ Fault refusal.Malformed
-  unfolding checkFrom
-  turn-malformed f s k p e = rw (e, checkFrom)
-
-  pub turn-lawful : (f : ℕ) (s : State) (k p : ℕ) (r : Record) (q : ℕ) → recordAt w p ≡ Read r q → lawful P s r ≡ true → checkFrom (suc f) P w s k p ≡ withRecord r (checkFrom f P w (after P s r) (k + 1) q)
-  unfolding checkFrom
-  turn-lawful f s k p r q e l = rw (e, l, checkFrom)
-
-  pub turn-unlawful : (f : ℕ) (s : State) (k p : ℕ) (r : Record) (q : ℕ) → recordAt w p ≡ Read r q → lawful P s r ≡ false → checkFrom (suc f) P w s k p ≡ Fault (unlawfulRecord k (brokenCover P s r))
-  unfolding checkFrom
-  turn-unlawful f s k p r q e l = rw (e, l, checkFrom)
 
 -- ---- the bytes that a record is read from
 

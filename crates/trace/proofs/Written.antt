@@ -8,7 +8,7 @@ use native.Mathlib.Omega.{arith}
 use lib.ListN.{length, take, drop, set, length-append, length-drop, take-append-drop}
 use lib.Seq.{sets, sets-eq, length-take-le, take-at, drop-at, drop-drop}
 use Rattle.sheet.specs.Bytes.{numberBytes}
-use Rattle.jobs.specs.Trace.{fronted}
+use Rattle.trace.specs.Trace.{fronted}
 use Rattle.trace.specs.Written.{written}
 
 -- stores one after the other are one list written

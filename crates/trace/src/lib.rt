@@ -4,11 +4,17 @@ ghost use mathlib.Core.List.{_∷_, []};
 ghost use Prim.Native.Nat.{_+_, _<_, _≤_};
 ghost use lib.ListN.{length};
 ghost use Rattle.sheet.specs.Bytes.{byteAt};
-ghost use Rattle.jobs.specs.Trace.{recordBytes, lengthByte, recordOf, recordAt};
+ghost use Rattle.trace.specs.Trace.{recordBytes, lengthByte, recordOf, recordAt};
 ghost use Rattle.trace.specs.Written.{written, Small};
 ghost use Rattle.trace.specs.Place.{placeAfter};
-use jobs::RecordRead;
 use problem::Record;
+
+// What stands at a place of a trace.
+pub enum RecordRead {
+    Read { record: Record, next: usize },
+    End,
+    Malformed,
+}
 
 // ---- reading
 

@@ -17,9 +17,9 @@ use Rattle.problem.specs.declared.Masks.{Masks}
 use Rattle.problem.specs.declared.Record.{Record}
 use Rattle.problem.specs.Sentences.{Solution}
 use Rattle.problem.proofs.Trace.{lawful-iff}
-use Rattle.jobs.specs.Trace.{recordAt}
-use Rattle.jobs.specs.PutBack.{Checked, Lawful as Records}
-use Rattle.jobs.specs.declared.RecordRead.the-variants as record·
+use Rattle.trace.specs.Trace.{recordAt}
+use Rattle.put_back.specs.PutBack.{Checked, Lawful as Records}
+use Rattle.trace.specs.declared.RecordRead.the-variants as record·
 use Rattle.held.specs.Ready.{Ready}
 use Rattle.replay.specs.Walk.{checkedFrom}
 use Rattle.undo.specs.Undone.{Undoable, UndoableFrom, undoneBy}

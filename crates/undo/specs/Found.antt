@@ -10,8 +10,8 @@ use Rattle.problem.specs.Extend.{undo, planOf}
 use Rattle.problem.specs.Held.{held}
 use Rattle.problem.specs.Masks.{stateOf, masksOf}
 use Rattle.problem.specs.declared.Masks.{Masks}
-use Rattle.jobs.specs.declared.RecordRead.{RecordRead}
-use Rattle.jobs.specs.declared.RecordRead.the-variants as record·
+use Rattle.trace.specs.declared.RecordRead.{RecordRead}
+use Rattle.trace.specs.declared.RecordRead.the-variants as record·
 use Rattle.undo.specs.Undone.{Undoable}
 
 abbrev pub isRecord : RecordRead → Bool

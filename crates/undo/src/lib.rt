@@ -19,11 +19,11 @@ ghost use Rattle.undo.specs.Undone.{mended as mendedAt, Left, Undoable, 
 ghost use Rattle.undo.specs.Found.{isRecord, LawfulFound, afterFound, UndoableFound, undoneFound};
 use bounded::has32;
 use bounded::lowest16;
-use jobs::RecordRead;
 use problem::Masks;
 use problem::Record;
 use replay::after_lawful;
 use trace::Reader;
+use trace::RecordRead;
 use trace::moved;
 use trace::peek;
 use trace::placed;

@@ -1,46 +1,19 @@
-// What C and Rust call: every job over numbers and byte slices. Each function is thin over the proved job and answers one number.
+// What C and Rust call: every job over numbers and byte slices, as one number. Each function is that of a crate below, exported.
 ghost use mathlib.Core.Path.{_≡_};
-ghost use Prim.Native.Nat.{_+_, _*_};
-ghost use Rattle.trace.specs.Written.{written};
-ghost use Rattle.boundary.specs.Calls.{readCall, runCall, startCall, handCall, putBackCall};
-ghost use Rattle.boundary_sheets.specs.Calls.{colourCall, moveCall};
-ghost use Rattle.boundary_pick.specs.Calls.{pickCall};
-use boundary::put_back_answer;
-use boundary::put_state;
-use boundary::read_state;
-use boundary_pick::picked_number;
-use boundary_pick::put_picked_state;
-use colour::Coloured;
-use jobs::CallOutcome;
-use jobs::Extended;
-use jobs::ManualState;
-use jobs::ReduceOutcome;
-use jobs::StartOutcome;
-use moved::Moved;
-use sheet::SheetRead;
-
-// The bytes of a run's state: the active variables in 4, then 32 domains in 2 each, big-endian.
-const STATE_LENGTH: usize = 68;
-
-// The bytes of a hand state, which holds a run's state and nothing else.
-const HAND_STATE_LENGTH: usize = 68;
-
-// The boundary's own refusals: a buffer for a run's state, or for a hand state, of another length.
-const BAD_STATE: u64 = 200;
-
-const BAD_HAND_STATE: u64 = 201;
-
-// ---- the jobs
+ghost use Rattle.read.specs.Read.{readCall};
+ghost use Rattle.run.specs.Call.{runCall};
+ghost use Rattle.hand.specs.Call.{startCall, handCall};
+ghost use Rattle.put_back.specs.Call.{putBackCall};
+ghost use Rattle.colour.specs.Call.{colourCall};
+ghost use Rattle.moved.specs.Call.{moveCall};
+ghost use Rattle.pick.specs.Call.{pickCall};
 
 // The read check. Bits 0-7: the refusal's number, 0 where the sheet is accepted; bits 8-15: its variables; bits 16-31: its blocks.
 #[no_mangle]
 pub extern "C" fn zomuwedli_read(sheet: &[u8]) -> u64
     ensures { λ r. ⌜ r ≡ readCall (now (sheet .entry)) ⌝ }
 {
-    match read_sheet::read_sheet(sheet) {
-        SheetRead::Refused(r) => sheet::sheet_number(r) as u64,
-        SheetRead::Accepted { variables, blocks } => 256 * (variables as u64 + 256 * blocks as u64),
-    }
+    read::read_call(sheet)
 }
 
 // The run. Bits 0-7: the refusal's number, 0 where there is none; bits 8-15: the end; bits 16-31: the steps; bits 32-47: the bytes
@@ -51,23 +24,7 @@ pub extern "C" fn zomuwedli_run(sheet: &[u8], trace: &mut [u8], state: &mut [u8]
     ensures trace { λ _. ⌜ now (trace .exit) ≡ (runCall (now (sheet .entry)) (now (trace .entry)) (now (state .entry))) .trace ⌝ }
     ensures state { λ _. ⌜ now (state .exit) ≡ (runCall (now (sheet .entry)) (now (trace .entry)) (now (state .entry))) .state ⌝ }
 {
-    if state.len() != STATE_LENGTH {
-        return BAD_STATE;
-    }
-    let done = reduce::reduce(sheet, trace);
-    let outcome = done.outcome;
-    match outcome {
-        ReduceOutcome::Refused(r) => jobs::reduce_number(r) as u64,
-        ReduceOutcome::Done {
-            end,
-            steps,
-            written,
-        } => {
-            let last = done.state;
-            put_state(state, last);
-            256 * (jobs::end_number(end) as u64 + 256 * (steps as u64 + 65536 * written as u64))
-        }
-    }
+    reduce::run_call(sheet, trace, state)
 }
 
 // The start of taking out by hand. The refusal's number, or 0 with the state written.
@@ -76,19 +33,7 @@ pub extern "C" fn zomuwedli_start(sheet: &[u8], state: &mut [u8]) -> u64
     ensures answer { λ r. ⌜ r ≡ (startCall (now (sheet .entry)) (now (state .entry))) .answer ⌝ }
     ensures state { λ _. ⌜ now (state .exit) ≡ (startCall (now (sheet .entry)) (now (state .entry))) .state ⌝ }
 {
-    if state.len() != HAND_STATE_LENGTH {
-        return BAD_HAND_STATE;
-    }
-    let first = start::start(sheet);
-    let outcome = first.outcome;
-    match outcome {
-        StartOutcome::Refused(r) => sheet::sheet_number(r) as u64,
-        StartOutcome::Started => {
-            let st = first.state;
-            put_state(state, st.masks);
-            0
-        }
-    }
+    start::start_call(sheet, state)
 }
 
 // One hand call, the state in and out in one buffer. Bits 0-7: the refusal's number, 0 where the item was taken out; bits 8-15: its
@@ -98,20 +43,7 @@ pub extern "C" fn zomuwedli_hand_call(sheet: &[u8], state: &mut [u8], item: u64)
     ensures answer { λ r. ⌜ r ≡ (handCall (now (sheet .entry)) (now (state .entry)) item) .answer ⌝ }
     ensures state { λ _. ⌜ now (state .exit) ≡ (handCall (now (sheet .entry)) (now (state .entry)) item) .state ⌝ }
 {
-    if state.len() != HAND_STATE_LENGTH {
-        return BAD_HAND_STATE;
-    }
-    let masks = read_state(state);
-    let called = hand::hand_call(sheet, ManualState { masks }, item);
-    let outcome = called.outcome;
-    match outcome {
-        CallOutcome::Refused(r) => jobs::manual_number(r) as u64,
-        CallOutcome::Eliminated(v) => {
-            let st = called.state;
-            put_state(state, st.masks);
-            256 * v as u64
-        }
-    }
+    hand_call::hand_call_bytes(sheet, state, item)
 }
 
 // Putting back. Bits 0-7: the refusal's number, 0 where the result was written. Where it is 17, bits 8-23: the number of the record that is
@@ -126,10 +58,7 @@ pub extern "C" fn zomuwedli_put_back(
     ensures answer { λ r. ⌜ r ≡ (putBackCall (now (sheet .entry)) (now (trace .entry)) (now (plan .entry)) (now (result .entry))) .answer ⌝ }
     ensures result { λ _. ⌜ now (result .exit) ≡ (putBackCall (now (sheet .entry)) (now (trace .entry)) (now (plan .entry)) (now (result .entry))) .result ⌝ }
 {
-    match extend::put_back(sheet, trace, plan, result) {
-        Extended::Refused(r) => put_back_answer(r),
-        Extended::Done => 0,
-    }
+    putting_back::put_back_call(sheet, trace, plan, result)
 }
 
 // The sheet of a colouring graph. Bits 0-7: the refusal's number, 0 where the sheet was written; bits 8-31: the bytes written. A refused
@@ -139,10 +68,7 @@ pub extern "C" fn zomuwedli_colour(file: &[u8], channels: u64, sheet: &mut [u8])
     ensures answer { λ r. ⌜ r ≡ (colourCall (now (file .entry)) channels (now (sheet .entry))) .answer ⌝ }
     ensures sheet { λ _. ⌜ now (sheet .exit) ≡ (colourCall (now (file .entry)) channels (now (sheet .entry))) .sheet ⌝ }
 {
-    match colour::colour(file, channels, sheet) {
-        Coloured::Refused(r) => colour::colour_number(r) as u64,
-        Coloured::Written(w) => 256 * w as u64,
-    }
+    colour::colour_call(file, channels, sheet)
 }
 
 // A sheet moved to the other version. Bits 0-7: the refusal's number, 0 where the moved sheet was written; bits 8-31: the bytes written. A
@@ -152,10 +78,7 @@ pub extern "C" fn zomuwedli_move(sheet: &[u8], target: &mut [u8]) -> u64
     ensures answer { λ r. ⌜ r ≡ (moveCall (now (sheet .entry)) (now (target .entry))) .answer ⌝ }
     ensures target { λ _. ⌜ now (target .exit) ≡ (moveCall (now (sheet .entry)) (now (target .entry))) .target ⌝ }
 {
-    match moved::move_sheet(sheet, target) {
-        Moved::Refused(r) => moved::move_number(r) as u64,
-        Moved::Written(w) => 256 * w as u64,
-    }
+    moved::move_call(sheet, target)
 }
 
 // Picking a plan. As the run's answer, and bit 48: whether a plan was written. The state is written with a plan and with none, the plan
@@ -172,12 +95,5 @@ pub extern "C" fn zomuwedli_pick(
     ensures plan { λ _. ⌜ now (plan .exit) ≡ (pickCall (now (sheet .entry)) (now (trace .entry)) (now (plan .entry)) (now (state .entry))) .plan ⌝ }
     ensures state { λ _. ⌜ now (state .exit) ≡ (pickCall (now (sheet .entry)) (now (trace .entry)) (now (plan .entry)) (now (state .entry))) .state ⌝ }
 {
-    if state.len() != STATE_LENGTH {
-        return BAD_STATE;
-    }
-    let done = pick::pick(sheet, trace, plan);
-    let outcome = done.outcome;
-    let last = done.state;
-    put_picked_state(state, outcome, last);
-    picked_number(outcome)
+    pick::pick_call(sheet, trace, plan, state)
 }

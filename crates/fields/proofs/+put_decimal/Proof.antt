@@ -2,7 +2,7 @@
 use borrow.Author.Needs.{needs}
 use native.Mathlib.Omega.{arith}
 use lib.ListN.{length}
-use Rattle.jobs.specs.Print.{decimal}
+use Rattle.fields.specs.Print.{decimal}
 use Rattle.fields.proofs.Decimal.{decimal-small, decimal-more, decimal-four, decimal-five}
 use Rattle.fields.proofs.Laws.{Puts, after}
 use Prim.Native.Nat.{ℕ, _+_, _/_, _<_, _≤_}

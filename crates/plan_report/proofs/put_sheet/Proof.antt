@@ -6,7 +6,7 @@ use lib.ListN.{length, replicate}
 use lib.Seq.{length-take-le}
 use Rattle.sheet.specs.Sheet.{layout}
 use Rattle.sheet.proofs.Accepted.{keeps}
-use Rattle.jobs.specs.Print.{refusedLine}
+use Rattle.fields.specs.Print.{refusedLine}
 use Rattle.trace.specs.Written.{written}
 use Rattle.plan_report.proofs.Text.{refused-lines, few-items, blank-plan}
 use borrow.Author.Needs.{needs}

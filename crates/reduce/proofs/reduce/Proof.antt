@@ -1,8 +1,9 @@
 -- `reduce::reduce`: what reading the sheet finds, and the table that it fills. Assumes nothing.
 use mathlib.Core.Path.{sym, ap, _∙_}
 use Rattle.problem.specs.Problem.{Problem}
-use Rattle.jobs.specs.Run.{RunResult, runOver}
-use Rattle.jobs.proofs.Opened.{sheet-table, run-sheet-refused, run-kept}
+use Rattle.run.specs.Run.{RunResult, runOver}
+use Rattle.jobs.proofs.Opened.{sheet-table}
+use Rattle.run.proofs.Opened.{run-sheet-refused, run-kept}
 use borrow.Author.Needs.{needs}
 use Rattle.reduce.proofs.reduce.Statement.{statement}
 use Rattle.reduce.proofs.reduce.Tie as tie

@@ -1,5 +1,5 @@
 -- `reduce::refused`. Assumes nothing.
-use Rattle.jobs.specs.declared.ReduceOutcome.the-variants.{Refused}
+use Rattle.run.specs.declared.RunOutcome.the-variants.{Refused}
 use borrow.Author.Needs.{needs}
 use Rattle.reduce.proofs.refused.Statement.{statement}
 use Rattle.reduce.proofs.refused.Tie as tie

@@ -2,8 +2,8 @@
 use mathlib.Core.Path.{ap, sym, _∙_}
 use native.Mathlib.Omega.{arith}
 use Rattle.problem.specs.Held.{held}
-use Rattle.jobs.specs.Run.{RunResult}
-use Rattle.jobs.proofs.Opened.{run-buffer-refused-over, run-accepted-over}
+use Rattle.run.specs.Run.{RunResult}
+use Rattle.run.proofs.Opened.{run-buffer-refused-over, run-accepted-over}
 use borrow.Author.Needs.{needs}
 use Rattle.reduce.proofs.run_over.Statement.{statement}
 use Rattle.reduce.proofs.run_over.Tie as tie

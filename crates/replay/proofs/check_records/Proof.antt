@@ -45,10 +45,10 @@ use denote.Triple.Walked.{says, needs, Stays, stay-none, stay-none-slice, walkOf
 use denote.Exit.{yes}
 use denote.Triple.Clauses.{ensured, lasts}
 use Rattle.bounded.proofs.Truth.{T-true, T-false, not-iff}
-use Rattle.jobs.specs.Trace.{recordAt}
-use Rattle.jobs.specs.declared.RecordRead.{RecordRead}
-use Rattle.jobs.proofs.RecordRead as S
-use Rattle.jobs.proofs.RecordRead.Laws as S′
+use Rattle.trace.specs.Trace.{recordAt}
+use Rattle.trace.specs.declared.RecordRead.{RecordRead}
+use Rattle.trace.proofs.RecordRead as S
+use Rattle.trace.proofs.RecordRead.Laws as S′
 use Rattle.problem.specs.Held.{held}
 use Rattle.problem.specs.Masks.{stateOf}
 use Rattle.problem.specs.declared.Masks.{Masks}

@@ -1,6 +1,6 @@
 -- `replay::unlawful`. Assumes nothing.
 use mathlib.Core.Path.{ap, _∙_}
-use Rattle.jobs.specs.PutBack.{unlawfulRecord}
+use Rattle.put_back.specs.PutBack.{unlawfulRecord}
 use Rattle.replay.specs.Walk.{faulty}
 use borrow.Author.Needs.{needs}
 use Rattle.replay.proofs.unlawful.Statement.{statement}

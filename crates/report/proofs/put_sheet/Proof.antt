@@ -3,7 +3,7 @@ use mathlib.Core.Path.{ap, _∙_}
 use native.Mathlib.Nat.{zero-add}
 use native.Mathlib.Omega.{arith}
 use lib.ListN.{length}
-use Rattle.jobs.specs.Print.{refusedLine}
+use Rattle.fields.specs.Print.{refusedLine}
 use Rattle.trace.specs.Written.{written}
 use Rattle.report.proofs.Text.{done-keeps, done-ran, read-lines, refused-text}
 use borrow.Author.Needs.{needs}
@@ -32,8 +32,8 @@ put-run-requires c κs =
 enum-known-outcome-2 : tie.Need-enum-known-outcome-2
 enum-known-outcome-2 c = search needs
 
-reduce-number-requires : tie.Need-reduce-number-requires
-reduce-number-requires c κs = search needs
+run-number-requires : tie.Need-run-number-requires
+run-number-requires c κs = search needs
 
 cast-put-refused-line : tie.Need-cast-put-refused-line
 cast-put-refused-line c = search needs
@@ -60,7 +60,7 @@ returns-2 c =
     let r = c .before .before .before .before .before .before .before .before .before .before .reduce in
     let e = refused-text (a .s .now) _ (omega arith) _ (r .ensures .0) _ (c .before .before .before .before .before .before .outcome2 .given .1) in
     let p = c .before .before .put-refused-line .ensures in
-    let n = ap refusedLine (c .before .before .before .reduce-number .ensures) ∙ e in
+    let n = ap refusedLine (c .before .before .before .run-number .ensures) ∙ e in
     ((p .0 .0 ∙ ap (written (a .out .now) 0) n, p .0 .1 ∙ zero-add _ ∙ ap length n), omega arith)
 
 pub put-sheet-spec : {M : Type 1} → statement M
@@ -73,7 +73,7 @@ put-sheet-spec =
     slice-aggregate-put-run
     put-run-requires
     enum-known-outcome-2
-    reduce-number-requires
+    run-number-requires
     cast-put-refused-line
     put-refused-line-requires
     same-length

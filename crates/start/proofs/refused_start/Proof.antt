@@ -1,8 +1,8 @@
 -- `start::refused_start`. Assumes nothing.
 use mathlib.Core.Path.{ap}
 use Rattle.problem.specs.declared.Masks.{Masks}
-use Rattle.jobs.specs.declared.StartAnswer.{StartAnswer}
-use Rattle.jobs.specs.declared.StartOutcome.the-variants.{Refused}
+use Rattle.hand.specs.declared.StartAnswer.{StartAnswer}
+use Rattle.hand.specs.declared.StartOutcome.the-variants.{Refused}
 use borrow.Author.Needs.{needs}
 use Rattle.start.proofs.refused_start.Statement.{statement}
 use Rattle.start.proofs.refused_start.Tie as tie

@@ -1,7 +1,8 @@
 -- `start::start`: what reading the sheet finds, and the table that it fills. Assumes nothing.
 use mathlib.Core.Path.{sym, ap, _∙_}
-use Rattle.jobs.specs.Hand.{startOver}
-use Rattle.jobs.proofs.Opened.{sheet-table, start-refused, start-kept}
+use Rattle.hand.specs.Hand.{startOver}
+use Rattle.jobs.proofs.Opened.{sheet-table}
+use Rattle.hand.proofs.Opened.{start-refused, start-kept}
 use borrow.Author.Needs.{needs}
 use Rattle.start.proofs.start.Statement.{statement}
 use Rattle.start.proofs.start.Tie as tie

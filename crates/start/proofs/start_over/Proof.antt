@@ -1,8 +1,8 @@
 -- `start::start_over`. Assumes nothing.
 use mathlib.Core.Path.{ap}
 use Rattle.problem.specs.declared.Masks.{Masks}
-use Rattle.jobs.specs.declared.StartAnswer.{StartAnswer}
-use Rattle.jobs.specs.declared.StartOutcome.the-variants.{Started}
+use Rattle.hand.specs.declared.StartAnswer.{StartAnswer}
+use Rattle.hand.specs.declared.StartOutcome.the-variants.{Started}
 use borrow.Author.Needs.{needs}
 use Rattle.start.proofs.start_over.Statement.{statement}
 use Rattle.start.proofs.start_over.Tie as tie

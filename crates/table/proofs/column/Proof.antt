@@ -5,9 +5,8 @@ use native.Mathlib.Omega.{arith}
 use lib.ListN.{getD}
 use borrow.Author.Needs.{needs}
 use Rattle.bounded.specs.Mask.{bit, maskOf}
-use Rattle.bounded.proofs.Mask.{mask-none}
+use Rattle.bounded.proofs.Mask.{mask-none, mask-or}
 use Rattle.table.specs.Parts.{turnedRow}
-use Rattle.bounded.proofs.Mask.{mask-or}
 use Rattle.table.proofs.column.Statement.{statement}
 use Rattle.table.proofs.column.Tie as tie
 

@@ -43,13 +43,13 @@ use denote.Triple.Table.{entered, cited}
 use denote.Triple.Walked.{says, Stays, stay-none, walkOf, goes-none, Walks, ends-at, walked, walk-meets}
 use denote.Exit.{yes}
 use denote.Triple.Clauses.{ensured, lasts}
-use Rattle.jobs.specs.Trace.{recordAt}
+use Rattle.trace.specs.Trace.{recordAt}
 use Rattle.trace.specs.declared.Reader.{Reader}
-use Rattle.jobs.specs.declared.RecordRead.{RecordRead}
+use Rattle.trace.specs.declared.RecordRead.{RecordRead}
 use Rattle.trace.proofs.Reader as T
 use Rattle.trace.proofs.Reader.Laws as T′
-use Rattle.jobs.proofs.RecordRead as S
-use Rattle.jobs.proofs.RecordRead.Laws as S′
+use Rattle.trace.proofs.RecordRead as S
+use Rattle.trace.proofs.RecordRead.Laws as S′
 use Rattle.trace.proofs.record_at as step
 use Rattle.trace.proofs.record_at.Symbol as step-def
 use Rattle.trace.proofs.record_at.Symbol.{name as #trace·record-at}

@@ -3,8 +3,8 @@ use mathlib.Core.Path.{_≡_, ap, sym, _∙_}
 use Prim.Native.Nat.{ℕ, _+_, _≤_}
 use native.Mathlib.Omega.{arith}
 use Rattle.sheet.specs.Bytes.{byteAt}
-use Rattle.jobs.specs.Trace.{lengthByte, recordOf}
-use Rattle.jobs.specs.declared.RecordRead.the-variants.{Read}
+use Rattle.trace.specs.Trace.{lengthByte, recordOf}
+use Rattle.trace.specs.declared.RecordRead.the-variants.{Read}
 use Rattle.trace.proofs.Read.{known, at-end, at-cut, at-short, at-wrong, at-record}
 use borrow.Author.Needs.{needs}
 use Rattle.trace.proofs.record_at.Statement.{statement}

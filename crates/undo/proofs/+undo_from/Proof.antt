@@ -57,10 +57,10 @@ use Rattle.problem.specs.Masks.{stateOf}
 use Rattle.problem.specs.declared.Masks.{Masks}
 use Rattle.problem.proofs.Masks as N
 use Rattle.problem.proofs.Masks.Laws as N′
-use Rattle.jobs.specs.Trace.{recordAt}
-use Rattle.jobs.specs.declared.RecordRead.{RecordRead}
-use Rattle.jobs.proofs.RecordRead as S
-use Rattle.jobs.proofs.RecordRead.Laws as S′
+use Rattle.trace.specs.Trace.{recordAt}
+use Rattle.trace.specs.declared.RecordRead.{RecordRead}
+use Rattle.trace.proofs.RecordRead as S
+use Rattle.trace.proofs.RecordRead.Laws as S′
 use Rattle.held.specs.Ready.{Ready}
 use Rattle.trace.specs.Place.{placeAfter}
 use Rattle.trace.proofs.Reader as T

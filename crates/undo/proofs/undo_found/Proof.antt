@@ -2,7 +2,7 @@
 use mathlib.Core.Path.{sym, ap, _∙_, subst}
 use Rattle.problem.specs.Held.{held}
 use Rattle.problem.specs.Masks.{stateOf}
-use Rattle.jobs.specs.declared.RecordRead.{RecordRead}
+use Rattle.trace.specs.declared.RecordRead.{RecordRead}
 use Rattle.undo.specs.Found.{UndoableFound, undoneFound}
 use borrow.Author.Needs.{needs}
 use Rattle.undo.proofs.undo_found.Statement.{statement}

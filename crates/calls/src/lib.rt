@@ -1,0 +1,1 @@
+// What calls of several jobs come to together, as laws: proofs/Demands.antt.

@@ -1,6 +1,0 @@
-pub mod Plan
-pub mod Job
-pub mod Demands
-pub mod Ends
-pub mod Causes
-pub mod Unlawful

@@ -1,0 +1,4 @@
+pub mod Numbers
+pub mod PutBack
+pub mod Call
+pub mod Refusals

@@ -1,0 +1,35 @@
+-- What the exported run answers, as one number, and what it leaves in the buffers lent to it.
+-- The low byte of the answer is the number of the refusal, from 1 to 255, or 0 where there is none. Above it stand the parts of what was done.
+use mathlib.Core.Bool.{true, false}
+use mathlib.Core.List.{List}
+use Prim.Native.Nat.{ℕ, _+_, _*_}
+use lib.Dec.{eqb}
+use lib.ListN.{length}
+use Rattle.problem.specs.declared.Masks.{Masks}
+use Rattle.run.specs.Numbers.{runRefusalNumber, endNumber}
+use Rattle.run.specs.Run.{runJob}
+use Rattle.run.specs.declared.RunOutcome.{RunOutcome}
+use Rattle.run.specs.declared.RunOutcome.the-variants as run
+use Rattle.boundary.specs.State.{stateLength, masksBytes}
+use Rattle.boundary.specs.Numbers.{badState}
+
+-- the answer and the two buffers
+pub record RunCall : Type 0 where
+  pub answer : ℕ
+  pub trace : List ℕ
+  pub state : List ℕ
+
+-- from what the job answers, its last state m and the trace t as it leaves it; the state's buffer was b.
+-- Bits 0-7 the refusal, bits 8-15 the end, bits 16-31 the steps, bits 32-47 the bytes written.
+abbrev pub runCrossed : RunOutcome → Masks → (t b : List ℕ) → RunCall
+runCrossed (run.Refused r) m t b = record { answer = runRefusalNumber r; trace = t; state = b }
+runCrossed (run.Done end steps written) m t b =
+    record { answer = 256 * (endNumber end + 256 * (steps + 65536 * written)); trace = t; state = masksBytes m }
+
+-- the sheet s, the trace's buffer t and the state's buffer b: the length of b first, then the job
+unfoldable pub runCall : (s t b : List ℕ) → RunCall
+runCall s t b =
+    elim (eqb (length b) stateLength) [
+      | false ↦ record { answer = badState; trace = t; state = b }
+      | true ↦ runCrossed ((runJob s t) .answer .outcome) ((runJob s t) .answer .state) ((runJob s t) .buffer) b
+    ]

@@ -1,0 +1,4 @@
+pub mod Numbers
+pub mod Run
+pub mod Call
+pub mod Refusals
