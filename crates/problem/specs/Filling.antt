@@ -22,7 +22,8 @@ pub record Entered (t : List ℕ) (i j : ℕ) (rows : List ℕ) (u : List ℕ) :
   pub front : (q : ℕ) → q < farStart → getD u q 0 ≡ getD t q 0
   pub here : Shows u i j (λ a b. bit (getD rows a 0) b)
   pub else : (k l : ℕ) (f : ℕ → ℕ → Bool) → k < l → l < 32 → ((k ≡ i) × (l ≡ j) → ⊥) → Shows t k l f → Shows u k l f
-  -- and of the values that the others have: what each row of theirs says is as it was, and no bit comes in that says two have no block
+  -- the same bit by bit, also where a table shows nothing beyond the sizes: each row of another pair is as it was, and no two are without a
+  -- block that were not so before
   pub kept : (k l : ℕ) → k < l → l < 32 → ((k ≡ i) × (l ≡ j) → ⊥) → (a b : ℕ) → a < 16 → b < 16
       → (rowAllows u k a l b ≡ rowAllows t k a l b) × (rowAllows u l b k a ≡ rowAllows t l b k a)
   pub less : (k l : ℕ) → k < 32 → l < 32 → farFrom u k l ≡ true → farFrom t k l ≡ true

@@ -35,7 +35,7 @@ wrote-more n t u p f x l e w =
 pub wrote-places : (t u q : List ℕ) → length t ≡ tableLength → q ≡ placeList → Wrote 1024 t u 32 (λ k. getD q k 0) → HasPlaces t u
 wrote-places t u q e p w =
     record {
-      located = record { long = w .long ∙ e; places = λ i j li lj. w .there (32 * i + j) (omega arith) ∙ ap (λ (x : List ℕ). getD x (32 * i + j) 0) p ∙ places-right .entry i j li lj };
+      located = record { long = w .long ∙ e; places = λ i j li lj. w .there (32 * i + j) (omega arith) ∙ ap (λ (x : List ℕ). getD x (32 * i + j) 0) p ∙ places-right i j li lj };
       sizes = λ k m. w .below k m;
       rest = λ k m. w .above k m;
     }
