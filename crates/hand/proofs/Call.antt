@@ -134,7 +134,7 @@ module _ (s : List ℕ) (st : HandState) (i : ℕ) (x : CallAnswer) (a : x ≡ c
 -- ---- what the numbers tell
 
 -- a number of the format's table
-hand-listed : (r : HandRefusal) → Listed (handRefusalNumber r)
+pub hand-listed : (r : HandRefusal) → Listed (handRefusalNumber r)
 hand-listed (refusal.Sheet r) = sheet-listed r
 hand-listed refusal.State = (omega arith, omega arith)
 hand-listed refusal.Item = (omega arith, omega arith)

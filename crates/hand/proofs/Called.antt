@@ -27,7 +27,9 @@ use Rattle.hand.specs.declared.CallAnswer.{CallAnswer}
 use Rattle.hand.specs.declared.CallOutcome.{CallOutcome}
 use Rattle.hand.specs.declared.CallOutcome.the-variants.{Eliminated, Refused}
 use Rattle.hand.specs.declared.HandRefusal.the-variants as refusal
-use Rattle.jobs.proofs.SheetCause.{Whose, Sheets, Own, SheetCause, Told, sheet-iff}
+use Rattle.hand.specs.Causes.{CauseOver, whoseCall, Cause}
+use Rattle.jobs.proofs.SheetCause.{Told, sheet-iff}
+use Rattle.jobs.specs.Causes.{Whose, Sheets, Own, SheetCause}
 
 -- ---- over a problem
 
@@ -36,20 +38,6 @@ module _ (P : Problem) (st : HandState) (i : ℕ) where
   abbrev given : State
   given = handState st
 
-  -- Why a hand call over a problem answers as it does.
-  abbrev pub CauseOver : CallOutcome → Type 0
-  CauseOver (Refused (refusal.Sheet r)) = ⊥
-  -- 11: "an item in is not below n, an item out has a setting on, or a setting on is not below its size"
-  CauseOver (Refused refusal.State) = Misfits P given
-  -- 12: "named item not below n or not in"
-  CauseOver (Refused refusal.Item) = Fits P given × ((P .n ≤ i) ⊎ (Active given i → ⊥))
-  -- 13: "some item in has no setting on"
-  CauseOver (Refused refusal.Emptied) = Fits P given × Named P given i × SomeEmpty P given
-  -- 14: "the snake rule holds for no v"
-  CauseOver (Refused refusal.Rule) = Fits P given × Named P given i × NoneEmpty P given × ((v : ℕ) → T (snake P given i v) → ⊥)
-  -- accepted: no cause speaks, and v is the lowest for which the snake rule holds
-  CauseOver (Eliminated v) = Fits P given × Named P given i × NoneEmpty P given × LowestSnake P given i v
-
   module _ (R : Proper (st .masks)) where
     says : (c : Call) → (call P given i ≡ c) ↔ CallCause P given i c
     says = call-iff P given (fits-iff P (st .masks) R .0) i
@@ -57,7 +45,7 @@ module _ (P : Problem) (st : HandState) (i : ℕ) where
     answers : (c : Call) → CallCause P given i c → (callOver P st i) .outcome ≡ (callAnswer P st i c) .outcome
     answers c x = ap (λ (y : Call). (callAnswer P st i y) .outcome) (says c .1 x)
 
-    cause-answers : (o : CallOutcome) → CauseOver o → (callOver P st i) .outcome ≡ o
+    cause-answers : (o : CallOutcome) → CauseOver P st i o → (callOver P st i) .outcome ≡ o
     cause-answers (Refused (refusal.Sheet r)) x = absurd x
     cause-answers (Refused refusal.State) x = answers outcome.Misfit x
     cause-answers (Refused refusal.Item) x = answers outcome.NotActive x
@@ -65,10 +53,10 @@ module _ (P : Problem) (st : HandState) (i : ℕ) where
     cause-answers (Refused refusal.Rule) x = answers outcome.NoSnake x
     cause-answers (Eliminated v) x = answers (outcome.Eliminated v) x
 
-    some-cause : (o : CallOutcome) × CauseOver o
+    some-cause : (o : CallOutcome) × CauseOver P st i o
     some-cause = by-call (call P given i) (says (call P given i) .0 refl)
       where
-        by-call : (c : Call) → CallCause P given i c → (o : CallOutcome) × CauseOver o
+        by-call : (c : Call) → CallCause P given i c → (o : CallOutcome) × CauseOver P st i o
         by-call outcome.Misfit x = (Refused refusal.State, x)
         by-call outcome.NotActive x = (Refused refusal.Item, x)
         by-call outcome.Emptied x = (Refused refusal.Emptied, x)
@@ -76,18 +64,10 @@ module _ (P : Problem) (st : HandState) (i : ℕ) where
         by-call (outcome.Eliminated v) x = (Eliminated v, x)
 
     -- A hand call over a problem answers as it does for its cause and for no other.
-    pub called-iff-over : (o : CallOutcome) → ((callOver P st i) .outcome ≡ o) ↔ CauseOver o
-    called-iff-over = cause-iff ((callOver P st i) .outcome) CauseOver cause-answers some-cause
+    pub called-iff-over : (o : CallOutcome) → ((callOver P st i) .outcome ≡ o) ↔ CauseOver P st i o
+    called-iff-over = cause-iff ((callOver P st i) .outcome) (CauseOver P st i) cause-answers some-cause
 
 -- ---- over a sheet
-
-abbrev pub whoseCall : CallOutcome → Whose
-whoseCall (Refused (refusal.Sheet r)) = Sheets r
-whoseCall (Refused refusal.State) = Own
-whoseCall (Refused refusal.Item) = Own
-whoseCall (Refused refusal.Emptied) = Own
-whoseCall (Refused refusal.Rule) = Own
-whoseCall (Eliminated v) = Own
 
 told : (o : CallOutcome) → Told (λ r. Refused (refusal.Sheet r)) (whoseCall o) o
 told (Refused (refusal.Sheet r)) = refl
@@ -114,18 +94,14 @@ module _ (s : List ℕ) (st : HandState) (i : ℕ) where
   abbrev problem : Problem
   problem = problemOf layout s
 
-  -- Why a hand call answers as it does: the sheet's own fault, or the cause over its problem.
-  abbrev pub Cause : CallOutcome → Type 0
-  Cause o = SheetCause s (whoseCall o) (λ P. CauseOver P st i o)
-
   module _ (R : Proper (st .masks)) where
     -- A hand call answers as it does for its cause and for no other.
-    pub called-iff : (o : CallOutcome) → ((callJob s st i) .outcome ≡ o) ↔ Cause o
+    pub called-iff : (o : CallOutcome) → ((callJob s st i) .outcome ≡ o) ↔ Cause s st i o
     unfolding callJob
     called-iff = sheet-iff s _ _ (λ (y : CallAnswer). y .outcome) whoseCall told (λ r. refl) (λ P. CauseOver P st i) (λ P r x. x) (λ _. called-iff-over (problemOf layout s) st i R)
 
-    by-number : (o : CallOutcome) → 10 ≤ callNumber o → (callNumber ((callJob s st i) .outcome) ≡ callNumber o) ↔ Cause o
-    by-number = number-iff ((callJob s st i) .outcome) Cause called-iff callNumber numbered (λ k. 10 ≤ k) number-back
+    by-number : (o : CallOutcome) → 10 ≤ callNumber o → (callNumber ((callJob s st i) .outcome) ≡ callNumber o) ↔ Cause s st i o
+    by-number = number-iff ((callJob s st i) .outcome) (Cause s st i) called-iff callNumber numbered (λ k. 10 ≤ k) number-back
 
     pub called-11 : (callNumber ((callJob s st i) .outcome) ≡ 11) ↔ (Keeps layout s × Misfits problem (handState st))
     called-11 = by-number (Refused refusal.State) (omega arith)

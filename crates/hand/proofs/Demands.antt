@@ -23,15 +23,11 @@ use Rattle.hand.specs.declared.CallOutcome.the-variants as called
 use Rattle.hand.proofs.HandOrder.{order-does-not-matter, start-meets}
 use Rattle.hand.proofs.Started.{started-iff}
 use Rattle.boundary.specs.State.{wordsBytes, masksBytes, masksIn}
-use Rattle.hand.specs.Call.{handStateLength, handBytes, handIn, HandCall, startCall, handCall, handCalls}
+use Rattle.hand.specs.Call.{OfBytes, handStateLength, handBytes, handIn, HandCall, startCall, handCall, handCalls}
 use Rattle.boundary.proofs.Crossing.{state-length}
 use Rattle.hand.proofs.Call.{hand-bytes-crossed, start-says, hand-says, start-state, Held, call-held, call-state}
 
 -- ---- the bytes of a state
-
--- numbers that a buffer can hold
-abbrev pub Below : List ℕ → Type 0
-Below b = (k : ℕ) → k < handStateLength → getD b k 0 < 256
 
 words-below : (l : List ℕ) (k : ℕ) → getD (wordsBytes l) k 0 < 256
 unfolding wordsBytes
@@ -49,7 +45,7 @@ state-below m (suc (suc (suc zero))) = omega arith
 state-below m (suc (suc (suc (suc k)))) = words-below (m .domains) k
 
 -- the state that bytes say is one that the struct can hold
-in-proper : (b : List ℕ) → Below b → Proper (masksIn b)
+in-proper : (b : List ℕ) → OfBytes b → Proper (masksIn b)
 unfolding masksIn
 in-proper b h =
     record {
@@ -61,7 +57,7 @@ in-proper b h =
     }
 
 -- buffers that say alike states are the same
-bytes-same : (b c : List ℕ) → length b ≡ handStateLength → Below b → length c ≡ handStateLength → Below c
+bytes-same : (b c : List ℕ) → length b ≡ handStateLength → OfBytes b → length c ≡ handStateLength → OfBytes c
     → stateOf (masksIn b) ≡ stateOf (masksIn c) → b ≡ c
 bytes-same b c lb hb lc hc e =
     let m : masksIn b ≡ masksIn c = sym (masks-back (masksIn b) (in-proper b hb)) ∙ ap masksOf e ∙ masks-back (masksIn c) (in-proper c hc) in
@@ -80,8 +76,8 @@ call-leaves Q s b i l q f = go ((callJob s (handIn b) i) .outcome) refl (call-he
 call-length : (s b : List ℕ) (i : ℕ) → length b ≡ handStateLength → length ((handCall s b i) .state) ≡ handStateLength
 call-length s b i l = call-leaves (λ c. length c ≡ handStateLength) s b i l l (λ m R. state-length m (R .length-is))
 
-call-below : (s b : List ℕ) (i : ℕ) → length b ≡ handStateLength → Below b → Below ((handCall s b i) .state)
-call-below s b i l h = call-leaves Below s b i l h (λ m R k _. state-below m k)
+call-below : (s b : List ℕ) (i : ℕ) → length b ≡ handStateLength → OfBytes b → OfBytes ((handCall s b i) .state)
+call-below s b i l h = call-leaves OfBytes s b i l h (λ m R k _. state-below m k)
 
 -- ---- lists of hand calls
 
@@ -91,7 +87,7 @@ unfolding handCalls
 calls-length s b [] e = e
 calls-length s b (i ∷ l) e = calls-length s ((handCall s b i) .state) l (call-length s b i e)
 
-calls-below : (s b : List ℕ) (l : List ℕ) → length b ≡ handStateLength → Below b → Below (handCalls s b l)
+calls-below : (s b : List ℕ) (l : List ℕ) → length b ≡ handStateLength → OfBytes b → OfBytes (handCalls s b l)
 unfolding handCalls
 calls-below s b [] e h = h
 calls-below s b (i ∷ l) e h = calls-below s ((handCall s b i) .state) l (call-length s b i e) (call-below s b i e h)
@@ -112,7 +108,7 @@ alike-same A = λ t. record { active = fun-ext (A .variables) t; live = fun-ext 
 -- list the rule holds for no item, the items left, their settings and the pairs allowed among them are alike in both. And no list of such
 -- calls from that state, finished or not, takes out an item that a finished one leaves." From one buffer, finished lists leave one buffer,
 -- byte for byte.
-pub same-bytes : (s : List ℕ) → Keeps layout s → (b : List ℕ) → length b ≡ handStateLength → Below b
+pub same-bytes : (s : List ℕ) → Keeps layout s → (b : List ℕ) → length b ≡ handStateLength → OfBytes b
     → T (handFits (problemOf layout s) (handIn b)) → T (arcConsistent (problemOf layout s) (handState (handIn b)))
     → ((k l : List ℕ)
     → T (finished (problemOf layout s) (handState (handIn (handCalls s b k)))) → T (finished (problemOf layout s) (handState (handIn (handCalls s b l))))
@@ -157,6 +153,6 @@ module _ (s b : List ℕ) (K : Keeps layout s) (e : length b ≡ handStateLength
   start-then-calls =
       let M = start-meets s K in
       let q = sym (start-state s b e started-is) in
-      same-bytes s K ((startCall s b) .state) (ap length start-leaves ∙ state-length _ (M .0 .length-is)) (subst Below (sym start-leaves) (λ k _. state-below _ k))
+      same-bytes s K ((startCall s b) .state) (ap length start-leaves ∙ state-length _ (M .0 .length-is)) (subst OfBytes (sym start-leaves) (λ k _. state-below _ k))
       (subst (λ (st : HandState). T (handFits (problemOf layout s) st)) q (M .1))
       (subst (λ (st : HandState). T (arcConsistent (problemOf layout s) (handState st))) q (M .2))

@@ -11,20 +11,16 @@ use Rattle.hand.specs.declared.StartAnswer.{StartAnswer}
 use Rattle.hand.specs.declared.StartOutcome.{StartOutcome}
 use Rattle.hand.specs.declared.StartOutcome.the-variants as started
 use Rattle.jobs.proofs.Opened.{sheet-or}
+use Rattle.hand.specs.Causes.{StartCause}
 use Rattle.hand.proofs.Opened.{start-refused, start-kept}
 
 module _ (s : List ℕ) where
-  -- Why a start answers as it does: it is refused for its sheet only.
-  abbrev pub StartCause : StartOutcome → Type 0
-  StartCause (started.Refused r) = readSheet layout s ≡ read.Refused r
-  StartCause started.Started = Keeps layout s
-
-  cause-starts : (o : StartOutcome) → StartCause o → (startJob s) .outcome ≡ o
+  cause-starts : (o : StartOutcome) → StartCause s o → (startJob s) .outcome ≡ o
   cause-starts (started.Refused r) e = ap (λ (y : StartAnswer). y .outcome) (start-refused s r e)
   cause-starts started.Started K = ap (λ (y : StartAnswer). y .outcome) (start-kept s K)
 
-  some-start : (o : StartOutcome) × StartCause o
+  some-start : (o : StartOutcome) × StartCause s o
   some-start = elim (sheet-or s) [ inl x ↦ (started.Refused (x .0), x .1) | inr K ↦ (started.Started, K) ]
 
-  pub started-iff : (o : StartOutcome) → ((startJob s) .outcome ≡ o) ↔ StartCause o
-  started-iff = cause-iff ((startJob s) .outcome) StartCause cause-starts some-start
+  pub started-iff : (o : StartOutcome) → ((startJob s) .outcome ≡ o) ↔ StartCause s o
+  started-iff = cause-iff ((startJob s) .outcome) (StartCause s) cause-starts some-start

@@ -2,9 +2,9 @@
 -- The low byte of the answer is the number of the refusal, from 1 to 255, or 0 where there is none. Above it stand the parts of what was done.
 use mathlib.Core.Bool.{true, false}
 use mathlib.Core.List.{List, [], _∷_}
-use Prim.Native.Nat.{ℕ, _*_}
+use Prim.Native.Nat.{ℕ, _*_, _<_}
 use lib.Dec.{eqb}
-use lib.ListN.{length}
+use lib.ListN.{length, getD}
 use Rattle.sheet.specs.Sheet.{sheetNumber}
 use Rattle.hand.specs.Numbers.{handRefusalNumber}
 use Rattle.hand.specs.Hand.{startJob, callJob}
@@ -26,6 +26,10 @@ handBytes st = masksBytes (st .masks)
 
 abbrev pub handIn : List ℕ → HandState
 handIn b = record { masks = masksIn b }
+
+-- numbers that a buffer can hold
+abbrev pub OfBytes : List ℕ → Type 0
+OfBytes b = (k : ℕ) → k < handStateLength → getD b k 0 < 256
 
 -- ---- the calls
 

@@ -10,18 +10,8 @@ use Rattle.sheet.specs.Relation.{problemOf}
 use Rattle.sheet.specs.declared.SheetRefusal.{SheetRefusal}
 use Rattle.sheet.specs.declared.SheetRead.the-variants as read
 use Rattle.jobs.specs.WithSheet.{withSheet}
+use Rattle.jobs.specs.Causes.{Whose, Sheets, Own, SheetCause}
 use Rattle.jobs.proofs.Opened.{sheet-or, sheet-refused, sheet-kept}
-
--- whose an answer is: a refusal of the sheet, or the job's own
-pub data Whose : Type 0 where
-  Sheets : SheetRefusal → Whose
-  Own : Whose
-
--- The cause of an answer over the sheet s: of a sheet's refusal, that reading answers it; of another, that the sheet keeps the layout, and
--- the cause over its problem.
-abbrev pub SheetCause : List ℕ → Whose → (Problem → Type 0) → Type 0
-SheetCause s (Sheets r) Over = readSheet layout s ≡ read.Refused r
-SheetCause s Own Over = Keeps layout s × Over (problemOf layout s)
 
 -- a sheet's refusal is answered as `refused` of it
 abbrev pub Told : {O : Type 0} → (SheetRefusal → O) → Whose → O → Type 0

@@ -1,2 +1,3 @@
 pub mod WithSheet
 pub mod Sheets
+pub mod Causes

@@ -13,7 +13,8 @@ use Rattle.sheet.specs.Relation.{problemOf}
 use Rattle.sheet.proofs.Refusals.{sheet-number}
 use Rattle.trace.specs.Trace.{fronted}
 use Rattle.trace.proofs.Fronted.{AtFront, fronted-bytes}
-use Rattle.jobs.proofs.SheetCause.{Whose, Sheets, Own, SheetCause, Told, sheet-iff}
+use Rattle.jobs.proofs.SheetCause.{Told, sheet-iff}
+use Rattle.jobs.specs.Causes.{Whose, Sheets, Own, SheetCause}
 use Rattle.compose.specs.Compose.{sheetBytes}
 use Rattle.compose.proofs.Over.{sheet-stands}
 use Rattle.moved.specs.Move.{movedNumber, otherVersion, movedBytes, MoveResult, moveRefused, moveDone, moveOver, moveJob}

@@ -21,7 +21,8 @@ use Rattle.sheet.specs.declared.SheetRead.the-variants as read
 use Rattle.sheet.proofs.Accepted.{problem-bounded}
 use Rattle.sheet.proofs.Refusals.{sheet-number}
 use Rattle.jobs.proofs.Opened.{sheet-refused, sheet-kept}
-use Rattle.jobs.proofs.SheetCause.{Whose, Sheets, Own, SheetCause, Told, sheet-iff}
+use Rattle.jobs.proofs.SheetCause.{Told, sheet-iff}
+use Rattle.jobs.specs.Causes.{Whose, Sheets, Own, SheetCause}
 use Rattle.pick.specs.Pick.{pickedNumber, leftBy, runTrace, firstLeft, PickResult, pickRefused, outcomeOf, pickDone, pickOver, pickJob}
 use Rattle.pick.specs.declared.PickRefusal.{PickRefusal}
 use Rattle.pick.specs.declared.PickRefusal.the-variants as refusal

@@ -20,7 +20,8 @@ use Rattle.run.specs.declared.RunOutcome.the-variants.{Done, Refused}
 use Rattle.run.specs.declared.RunRefusal.{RunRefusal}
 use Rattle.run.specs.declared.RunRefusal.the-variants.{Sheet, Buffer}
 use Rattle.run.proofs.Opened.{run-accepted-over}
-use Rattle.run.proofs.Ran.{RunCauseOver, ran-iff-over}
+use Rattle.run.proofs.Ran.{ran-iff-over}
+use Rattle.run.specs.Causes.{RunCauseOver}
 use Rattle.run.proofs.Worked.{run-worked-over}
 use Rattle.trace.proofs.Written.{length-fronted}
 use Rattle.first_plan.specs.First.{firstPlan}

@@ -325,7 +325,7 @@ module _ (P : Problem) (s : State) where
 
 module _ (P : Problem) {s : State} (F : Fits P s) where
   -- where a variable is without a value, one is found
-  emptied : (T (noneEmpty P s) → ⊥) → EndSays s Impossible
+  pub emptied : (T (noneEmpty P s) → ⊥) → EndSays s Impossible
   unfolding noneEmpty
   emptied n = go (allActive-or P s (λ l. anyLive P s l (λ c. true)))
     where

@@ -23,6 +23,7 @@ use Rattle.problem.proofs.Spoiler.{names-iff}
 use Rattle.problem.specs.Causes.{CoverAlone, BreaksAt}
 use Rattle.sheet.specs.Bytes.{byteAt}
 use Rattle.trace.specs.Trace.{recordBytes, recordsBytes, traceBytes, recordAt}
+use Rattle.put_back.specs.Causes.{NoRecord, Carried}
 use Rattle.put_back.specs.PutBack.{Checked, Lawful, Fault, unnamed, unlawfulRecord, withRecord, checkFrom, checkTrace}
 use Rattle.trace.specs.declared.RecordRead.{RecordRead}
 use Rattle.trace.specs.declared.RecordRead.the-variants.{Read, End, Malformed}
@@ -34,10 +35,6 @@ use Rattle.put_back.proofs.Turns.{turn-end, turn-malformed, turn-lawful
 use Rattle.trace.proofs.Turns.{read-bytes, end-bytes, drop-more}
 
 -- ---- what stands at a place
-
--- bytes are left, and they begin with no record's
-abbrev pub NoRecord : List ℕ → Type 0
-NoRecord d = (d ≢ []) × ((r : Record) (more : List ℕ) → d ≡ recordBytes r ++ more → ⊥)
 
 module _ (t : List ℕ) (p : ℕ) where
   -- the bytes of a record are read as that record
@@ -78,11 +75,6 @@ module _ (t : List ℕ) (p : ℕ) where
       go (Read r q) e = absurd (n .1 r (drop q t) (read-bytes t p r q e))
 
 -- ---- what 17 names
-
--- Of a record r that is not lawful in the state q: "for a kind 4 record with i in, a and b different and on, and no item in left without a
--- setting, the lowest item where the cover breaks and the lowest setting that spoils it there; for every other cause both are 255."
-abbrev pub Carried : Problem → State → Record → (l c : ℕ) → Type 0
-Carried P q r l c = (CoverAlone P q r × BreaksAt P q r l c) ⊎ ((CoverAlone P q r → ⊥) × (l ≡ unnamed) × (c ≡ unnamed))
 
 -- what the definition answers is what is named, and nothing else
 carried-iff : {P : Problem} {q : State} → Fits P q → (r : Record) → (T (lawful P q r) → ⊥) → (j k l c : ℕ)

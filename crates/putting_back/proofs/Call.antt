@@ -24,7 +24,8 @@ use Rattle.problem.specs.Extend.{solvesWhole, planOf}
 use Rattle.problem.specs.declared.Record.{Record}
 use Rattle.trace.specs.Trace.{traceBytes}
 use Rattle.jobs.proofs.Opened.{variables-of}
-use Rattle.putting_back.proofs.Causes.{BackCause, put-back-iff, put-back-17}
+use Rattle.putting_back.proofs.Causes.{put-back-iff, put-back-17}
+use Rattle.put_back.specs.Causes.{BackCause}
 use Rattle.putting_back.proofs.Demands.{put-back-accepted, put-back-plan}
 use Rattle.boundary.proofs.Answers.{Refuses, refused-keeps, taken-iff}
 use Rattle.put_back.proofs.Call.{back-says, put-back-listed}

@@ -29,20 +29,15 @@ use Rattle.put_back.specs.declared.PutBackOutcome.{PutBackOutcome}
 use Rattle.put_back.specs.declared.PutBackOutcome.the-variants.{Done, Refused}
 use Rattle.put_back.specs.declared.PutBackRefusal.the-variants as refusal
 use Rattle.put_back.proofs.Opened.{put-back-plan-length-over, put-back-result-length-over, put-back-checked-over}
-use Rattle.jobs.proofs.SheetCause.{Whose, Sheets, Own, SheetCause, Told, sheet-iff}
-use Rattle.put_back.proofs.Checked.{NoRecord, Carried, TraceCause, checked-iff}
+use Rattle.jobs.proofs.SheetCause.{Told, sheet-iff}
+use Rattle.jobs.specs.Causes.{Whose, Sheets, Own, SheetCause}
+use Rattle.put_back.proofs.Checked.{TraceCause, checked-iff}
+use Rattle.put_back.specs.Causes.{PlanFault, Sized, BackCauseOver, whoseBack, BackCause, NoRecord, Carried}
 
 -- ---- the plan
 
 module _ (P : Problem) (q : State) (p : List ℕ) where
-  -- 19: "an item out not 255, a setting not on, or a barred pair among items left"
-  abbrev pub PlanFault : Type 0
-  PlanFault =
-      ((i : ℕ) × (i < P .n) × (Active q i → ⊥) × (planOf p i ≢ 255))
-      ⊎ (((i : ℕ) × Active q i × (Live q i (planOf p i) → ⊥))
-      ⊎ ((i : ℕ) × (j : ℕ) × Active q i × Active q j × (i ≢ j) × (Allowed P i (planOf p i) j (planOf p j) → ⊥)))
-
-  entry-or : T (allBelow (P .n) (λ i. q .active i || eqb (planOf p i) 255)) ⊎ PlanFault
+  entry-or : T (allBelow (P .n) (λ i. q .active i || eqb (planOf p i) 255)) ⊎ PlanFault P q p
   entry-or =
       elim (all-or (P .n) (λ i. q .active i || eqb (planOf p i) 255)) [
         | inl t ↦ inl t
@@ -51,11 +46,11 @@ module _ (P : Problem) (q : State) (p : List ℕ) where
             inr (inl (x .0, x .1, λ a. x .2 (o (inl a)), λ e. x .2 (o (inr (eqb-iff (planOf p (x .0)) 255 .1 e)))))
       ]
 
-  solves-or : T (solves P q (planOf p)) ⊎ PlanFault
+  solves-or : T (solves P q (planOf p)) ⊎ PlanFault P q p
   unfolding solves allOther
   solves-or = go (allActive-or P q (λ i. q .live i (planOf p i) && allOther P q i (λ j. P .allowed i (planOf p i) j (planOf p j))))
     where
-      by-pair : (i : ℕ) → Active q i → (T (allOther P q i (λ j. P .allowed i (planOf p i) j (planOf p j))) → ⊥) → PlanFault
+      by-pair : (i : ℕ) → Active q i → (T (allOther P q i (λ j. P .allowed i (planOf p i) j (planOf p j))) → ⊥) → PlanFault P q p
       by-pair i a n =
           elim (allActive-or P q (λ j. imp (not (eqb j i)) (P .allowed i (planOf p i) j (planOf p j)))) [
             | inl t ↦ absurd (n t)
@@ -64,32 +59,32 @@ module _ (P : Problem) (q : State) (p : List ℕ) where
                 inr (inr (i, x .0, a, x .1, λ e. not-iff (eqb (x .0) i) .0 (y .0) (eqb-iff (x .0) i .1 (sym e)), y .1))
           ]
 
-      by-live : (i : ℕ) → Active q i → (T (q .live i (planOf p i) && allOther P q i (λ j. P .allowed i (planOf p i) j (planOf p j))) → ⊥) → T (q .live i (planOf p i)) ⊎ (T (q .live i (planOf p i)) → ⊥) → PlanFault
+      by-live : (i : ℕ) → Active q i → (T (q .live i (planOf p i) && allOther P q i (λ j. P .allowed i (planOf p i) j (planOf p j))) → ⊥) → T (q .live i (planOf p i)) ⊎ (T (q .live i (planOf p i)) → ⊥) → PlanFault P q p
       by-live i a n (inl l) = by-pair i a (λ t. n (and-iff (q .live i (planOf p i)) (allOther P q i (λ j. P .allowed i (planOf p i) j (planOf p j))) .1 (l, t)))
       by-live i a n (inr l) = inr (inl (i, a, l))
 
-      go : T (solves P q (planOf p)) ⊎ ((i : ℕ) × Active q i × (T (q .live i (planOf p i) && allOther P q i (λ j. P .allowed i (planOf p i) j (planOf p j))) → ⊥)) → T (solves P q (planOf p)) ⊎ PlanFault
+      go : T (solves P q (planOf p)) ⊎ ((i : ℕ) × Active q i × (T (q .live i (planOf p i) && allOther P q i (λ j. P .allowed i (planOf p i) j (planOf p j))) → ⊥)) → T (solves P q (planOf p)) ⊎ PlanFault P q p
       go (inl t) = inl t
       go (inr x) = inr (by-live (x .0) (x .1) (x .2) (T-dec (q .live (x .0) (planOf p (x .0)))))
 
   -- a plan fits, or its fault is found
-  plan-or : T (planFits P q p) ⊎ PlanFault
+  plan-or : T (planFits P q p) ⊎ PlanFault P q p
   unfolding planFits
   plan-or = go entry-or solves-or
     where
-      go : T (allBelow (P .n) (λ i. q .active i || eqb (planOf p i) 255)) ⊎ PlanFault → T (solves P q (planOf p)) ⊎ PlanFault → T (planFits P q p) ⊎ PlanFault
+      go : T (allBelow (P .n) (λ i. q .active i || eqb (planOf p i) 255)) ⊎ PlanFault P q p → T (solves P q (planOf p)) ⊎ PlanFault P q p → T (planFits P q p) ⊎ PlanFault P q p
       go (inr x) y = inr x
       go (inl t) (inr x) = inr x
       go (inl t) (inl u) = inl (and-iff (allBelow (P .n) (λ i. q .active i || eqb (planOf p i) 255)) (solves P q (planOf p)) .1 (t, u))
 
-  plan-not : Fits P q → PlanFault → T (planFits P q p) → ⊥
+  plan-not : Fits P q → PlanFault P q p → T (planFits P q p) → ⊥
   unfolding planFits
   plan-not F x t =
       let h = and-iff (allBelow (P .n) (λ i. q .active i || eqb (planOf p i) 255)) (solves P q (planOf p)) .0 t in
       let e = all-iff (P .n) (λ i. q .active i || eqb (planOf p i) 255) .0 (h .0) in
       go x e (solves-iff F (planOf p) .0 (h .1))
     where
-      go : PlanFault → ((i : ℕ) → i < P .n → T (q .active i || eqb (planOf p i) 255)) → Solution P q (planOf p) → ⊥
+      go : PlanFault P q p → ((i : ℕ) → i < P .n → T (q .active i || eqb (planOf p i) 255)) → Solution P q (planOf p) → ⊥
       go (inl x) e A = elim (or-iff (q .active (x .0)) (eqb (planOf p (x .0)) 255) .0 (e (x .0) (x .1))) [ inl a ↦ x .2 a | inr o ↦ x .3 (eqb-iff (planOf p (x .0)) 255 .0 o) ]
       go (inr (inl x)) e A = x .2 (A .live (x .0) (x .1))
       go (inr (inr x)) e A = x .5 (A .ok (x .0) (x .1) (x .2) (x .3) (x .4))
@@ -102,39 +97,13 @@ module _ (P : Problem) (t p b : List ℕ) where
   abbrev left : List Record → State
   left u = afterTrace P (full P) u
 
-  -- plan and result have a byte an item
-  abbrev pub Sized : Type 0
-  Sized = (length p ≡ P .n) × (length b ≡ P .n)
-
-  -- Why putting back over a problem answers as it does.
-  abbrev pub BackCauseOver : PutBackOutcome → Type 0
-  BackCauseOver (Refused (refusal.Sheet r)) = ⊥
-  -- 18: "plan is not n bytes"
-  BackCauseOver (Refused refusal.PlanLength) = length p ≢ P .n
-  -- 20: "result buffer is not n bytes"
-  BackCauseOver (Refused refusal.ResultLength) = (length p ≡ P .n) × (length b ≢ P .n)
-  -- 15: "no byte, or byte 0 is not 1"
-  BackCauseOver (Refused refusal.TraceFront) = Sized × ((t ≡ []) ⊎ (byteAt t 0 ≢ 1))
-  -- 16: after the bytes of lawful records u, bytes that begin with no record's
-  BackCauseOver (Refused refusal.Malformed) =
-      Sized × ((u : List Record) × (more : List ℕ) × (t ≡ traceBytes u ++ more) × T (lawfulTrace P (full P) u) × NoRecord more)
-  -- 17: after the bytes of k lawful records u, those of a record that is not lawful in the state reached, and of it l and c are named
-  BackCauseOver (Refused (refusal.Unlawful k l c)) =
-      Sized
-      × ((u : List Record) × (r : Record) × (more : List ℕ) × (t ≡ traceBytes u ++ (recordBytes r ++ more)) × T (lawfulTrace P (full P) u)
-      × (T (lawful P (left u) r) → ⊥) × (length u ≡ k) × Carried P (left u) r l c)
-  -- 19: the trace is lawful, and the plan is not one of what it leaves
-  BackCauseOver (Refused refusal.Plan) = Sized × ((u : List Record) × (t ≡ traceBytes u) × T (lawfulTrace P (full P) u) × PlanFault P (left u) p)
-  -- accepted: the trace is lawful, and the plan is one of what it leaves
-  BackCauseOver Done = Sized × ((u : List Record) × (t ≡ traceBytes u) × T (lawfulTrace P (full P) u) × T (planFits P (left u) p))
-
   abbrev planned : List Record → Bool → PutBackResult
   planned u x = elim x [ true ↦ putBackDone P u p | false ↦ putBackRefused refusal.Plan b ]
 
-  checks : Sized → (c : Checked) → TraceCause P t c → (putBackOver P t p b) .answer ≡ (afterCheck P p b c) .answer
+  checks : Sized P t p b → (c : Checked) → TraceCause P t c → (putBackOver P t p b) .answer ≡ (afterCheck P p b c) .answer
   checks Z c x = ap (λ (y : PutBackResult). y .answer) (put-back-checked-over P t p b (Z .0) (Z .1)) ∙ ap (λ (y : Checked). (afterCheck P p b y) .answer) (checked-iff P t c .1 x)
 
-  cause-answers : (o : PutBackOutcome) → BackCauseOver o → (putBackOver P t p b) .answer ≡ o
+  cause-answers : (o : PutBackOutcome) → BackCauseOver P t p b o → (putBackOver P t p b) .answer ≡ o
   cause-answers (Refused (refusal.Sheet r)) x = absurd x
   cause-answers (Refused refusal.PlanLength) d = ap (λ (y : PutBackResult). y .answer) (put-back-plan-length-over P t p b d)
   cause-answers (Refused refusal.ResultLength) (e, d) = ap (λ (y : PutBackResult). y .answer) (put-back-result-length-over P t p b e d)
@@ -146,10 +115,10 @@ module _ (P : Problem) (t p b : List ℕ) where
       ∙ ap (λ (y : Bool). (planned u y) .answer) (T-false (planFits P (left u) p) (plan-not P (left u) p (trace-fits P (full-fits P) u) x))
   cause-answers Done (Z, (u, e, l, x)) = checks Z (Lawful u) (e, l) ∙ ap (λ (y : Bool). (planned u y) .answer) (T-true (planFits P (left u) p) x)
 
-  some-cause : (o : PutBackOutcome) × BackCauseOver o
+  some-cause : (o : PutBackOutcome) × BackCauseOver P t p b o
   some-cause = by-plan (eq-dec (length p) (P .n))
     where
-      by-check : Sized → (c : Checked) → TraceCause P t c → (o : PutBackOutcome) × BackCauseOver o
+      by-check : Sized P t p b → (c : Checked) → TraceCause P t c → (o : PutBackOutcome) × BackCauseOver P t p b o
       by-check Z (Lawful u) x = elim (plan-or P (left u) p) [ inl y ↦ (Done, (Z, (u, x .0, x .1, y))) | inr y ↦ (Refused refusal.Plan, (Z, (u, x .0, x .1, y))) ]
       by-check Z (Fault refusal.TraceFront) x = (Refused refusal.TraceFront, (Z, x))
       by-check Z (Fault refusal.Malformed) x = (Refused refusal.Malformed, (Z, x))
@@ -159,29 +128,19 @@ module _ (P : Problem) (t p b : List ℕ) where
       by-check Z (Fault refusal.ResultLength) x = absurd x
       by-check Z (Fault refusal.Plan) x = absurd x
 
-      by-result : length p ≡ P .n → (length b ≡ P .n) ⊎ (length b ≢ P .n) → (o : PutBackOutcome) × BackCauseOver o
+      by-result : length p ≡ P .n → (length b ≡ P .n) ⊎ (length b ≢ P .n) → (o : PutBackOutcome) × BackCauseOver P t p b o
       by-result e (inl f) = by-check (e, f) (checkTrace P t) (checked-iff P t (checkTrace P t) .0 refl)
       by-result e (inr d) = (Refused refusal.ResultLength, (e, d))
 
-      by-plan : (length p ≡ P .n) ⊎ (length p ≢ P .n) → (o : PutBackOutcome) × BackCauseOver o
+      by-plan : (length p ≡ P .n) ⊎ (length p ≢ P .n) → (o : PutBackOutcome) × BackCauseOver P t p b o
       by-plan (inl e) = by-result e (eq-dec (length b) (P .n))
       by-plan (inr d) = (Refused refusal.PlanLength, d)
 
   -- Putting back over a problem answers as it does for its cause and for no other.
-  pub put-back-iff-over : (o : PutBackOutcome) → ((putBackOver P t p b) .answer ≡ o) ↔ BackCauseOver o
-  put-back-iff-over = cause-iff ((putBackOver P t p b) .answer) BackCauseOver cause-answers some-cause
+  pub put-back-iff-over : (o : PutBackOutcome) → ((putBackOver P t p b) .answer ≡ o) ↔ BackCauseOver P t p b o
+  put-back-iff-over = cause-iff ((putBackOver P t p b) .answer) (BackCauseOver P t p b) cause-answers some-cause
 
 -- ---- over a sheet
-
-abbrev pub whoseBack : PutBackOutcome → Whose
-whoseBack (Refused (refusal.Sheet r)) = Sheets r
-whoseBack (Refused refusal.PlanLength) = Own
-whoseBack (Refused refusal.ResultLength) = Own
-whoseBack (Refused refusal.TraceFront) = Own
-whoseBack (Refused refusal.Malformed) = Own
-whoseBack (Refused (refusal.Unlawful k l c)) = Own
-whoseBack (Refused refusal.Plan) = Own
-whoseBack Done = Own
 
 told : (o : PutBackOutcome) → Told (λ r. Refused (refusal.Sheet r)) (whoseBack o) o
 told (Refused (refusal.Sheet r)) = refl
@@ -227,35 +186,31 @@ unlawful-back (Refused (refusal.Unlawful k l c)) e = (k, l, c, refl)
 unlawful-back (Refused refusal.Plan) e = absurd (omega arith)
 
 module _ (s t p b : List ℕ) where
-  -- Why putting back answers as it does: the sheet's own fault, or the cause over its problem.
-  abbrev pub BackCause : PutBackOutcome → Type 0
-  BackCause o = SheetCause s (whoseBack o) (λ P. BackCauseOver P t p b o)
-
   -- Putting back answers as it does for its cause and for no other.
-  pub put-back-iff : (o : PutBackOutcome) → ((putBackJob s t p b) .answer ≡ o) ↔ BackCause o
+  pub put-back-iff : (o : PutBackOutcome) → ((putBackJob s t p b) .answer ≡ o) ↔ BackCause s t p b o
   unfolding putBackJob
   put-back-iff = sheet-iff s _ _ (λ (y : PutBackResult). y .answer) whoseBack told (λ r. refl) (λ P. BackCauseOver P t p b) (λ P r x. x) (λ _. put-back-iff-over _ t p b)
 
-  by-number : (o : PutBackOutcome) → Single (putBackNumber o) → (putBackNumber ((putBackJob s t p b) .answer) ≡ putBackNumber o) ↔ BackCause o
-  by-number = number-iff ((putBackJob s t p b) .answer) BackCause put-back-iff putBackNumber numbered Single number-back
+  by-number : (o : PutBackOutcome) → Single (putBackNumber o) → (putBackNumber ((putBackJob s t p b) .answer) ≡ putBackNumber o) ↔ BackCause s t p b o
+  by-number = number-iff ((putBackJob s t p b) .answer) (BackCause s t p b) put-back-iff putBackNumber numbered Single number-back
 
-  pub put-back-18 : (putBackNumber ((putBackJob s t p b) .answer) ≡ 18) ↔ BackCause (Refused refusal.PlanLength)
+  pub put-back-18 : (putBackNumber ((putBackJob s t p b) .answer) ≡ 18) ↔ BackCause s t p b (Refused refusal.PlanLength)
   put-back-18 = by-number (Refused refusal.PlanLength) (omega arith, λ e. omega arith)
 
-  pub put-back-20 : (putBackNumber ((putBackJob s t p b) .answer) ≡ 20) ↔ BackCause (Refused refusal.ResultLength)
+  pub put-back-20 : (putBackNumber ((putBackJob s t p b) .answer) ≡ 20) ↔ BackCause s t p b (Refused refusal.ResultLength)
   put-back-20 = by-number (Refused refusal.ResultLength) (omega arith, λ e. omega arith)
 
-  pub put-back-15 : (putBackNumber ((putBackJob s t p b) .answer) ≡ 15) ↔ BackCause (Refused refusal.TraceFront)
+  pub put-back-15 : (putBackNumber ((putBackJob s t p b) .answer) ≡ 15) ↔ BackCause s t p b (Refused refusal.TraceFront)
   put-back-15 = by-number (Refused refusal.TraceFront) (omega arith, λ e. omega arith)
 
-  pub put-back-16 : (putBackNumber ((putBackJob s t p b) .answer) ≡ 16) ↔ BackCause (Refused refusal.Malformed)
+  pub put-back-16 : (putBackNumber ((putBackJob s t p b) .answer) ≡ 16) ↔ BackCause s t p b (Refused refusal.Malformed)
   put-back-16 = by-number (Refused refusal.Malformed) (omega arith, λ e. omega arith)
 
-  pub put-back-17 : (putBackNumber ((putBackJob s t p b) .answer) ≡ 17) ↔ ((k : ℕ) × (l : ℕ) × (c : ℕ) × BackCause (Refused (refusal.Unlawful k l c)))
+  pub put-back-17 : (putBackNumber ((putBackJob s t p b) .answer) ≡ 17) ↔ ((k : ℕ) × (l : ℕ) × (c : ℕ) × BackCause s t p b (Refused (refusal.Unlawful k l c)))
   put-back-17 = (
     λ e. let x = unlawful-back ((putBackJob s t p b) .answer) e in (x .0, x .1, x .2, put-back-iff (Refused (refusal.Unlawful (x .0) (x .1) (x .2))) .0 (x .3)),
     λ (k, l, c, x). ap putBackNumber (put-back-iff (Refused (refusal.Unlawful k l c)) .1 x),
   )
 
-  pub put-back-19 : (putBackNumber ((putBackJob s t p b) .answer) ≡ 19) ↔ BackCause (Refused refusal.Plan)
+  pub put-back-19 : (putBackNumber ((putBackJob s t p b) .answer) ≡ 19) ↔ BackCause s t p b (Refused refusal.Plan)
   put-back-19 = by-number (Refused refusal.Plan) (omega arith, λ e. omega arith)

@@ -28,6 +28,7 @@ use Rattle.put_back.specs.declared.PutBackOutcome.the-variants.{Done}
 use Rattle.jobs.proofs.Opened.{variables-of}
 use Rattle.put_back.proofs.Opened.{put-back-checked-over, put-back-kept}
 use Rattle.put_back.proofs.Checked.{taken-iff}
+use Rattle.put_back.specs.Causes.{PutBack}
 use Rattle.putting_back.proofs.Causes.{put-back-iff-over, put-back-iff}
 
 -- ---- what an accepted call shows
@@ -35,18 +36,6 @@ use Rattle.putting_back.proofs.Causes.{put-back-iff-over, put-back-iff}
 -- the plan of a lawful trace is judged last
 fits-done : (P : Problem) (u : List Record) (p b : List ℕ) → T (planFits P (afterTrace P (full P) u) p) → afterCheck P p b (Lawful u) ≡ putBackDone P u p
 fits-done P u p b h = rw (T-true (planFits P (afterTrace P (full P) u) p) h, afterCheck)
-
-pub record PutBack (P : Problem) (t p : List ℕ) (x : PutBackResult) : Type 0 where
-  -- the trace's records: the bytes lent are theirs, and each is lawful in the state reached
-  pub records : List Record
-  pub bytes : t ≡ traceBytes records
-  pub lawful : T (lawfulTrace P (full P) records)
-  -- under the published rules: each is published in the state that it was taken in
-  pub published : (before : List Record) (r : Record) (rest : List Record) → records ≡ before ++ (r ∷ rest) → Published P (afterTrace P (full P) before) r
-  -- the plan is one of what is left, with 255 for each item out
-  pub plan : T (planFits P (afterTrace P (full P) records) p)
-  -- the result: the records undone last first
-  pub result : x ≡ putBackDone P records p
 
 -- ---- over a problem
 

@@ -29,8 +29,9 @@ use Rattle.run.specs.declared.RunOutcome.the-variants as reduced
 use Rattle.put_back.specs.declared.PutBackOutcome.the-variants.{Done}
 use Rattle.run.proofs.Opened.{run-kept}
 use Rattle.put_back.proofs.Opened.{put-back-kept}
-use Rattle.run.proofs.Ran.{RunCauseOver, ran-iff-over, ran-iff}
-use Rattle.run.proofs.Worked.{Worked, run-worked-over}
+use Rattle.run.proofs.Ran.{ran-iff-over, ran-iff}
+use Rattle.run.specs.Causes.{RunCauseOver, Worked}
+use Rattle.run.proofs.Worked.{run-worked-over}
 use Rattle.putting_back.proofs.Demands.{put-back-accepted-over, put-back-plan, run-put-back-over}
 
 -- ---- over a problem

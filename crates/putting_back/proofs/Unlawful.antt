@@ -25,8 +25,8 @@ use Rattle.put_back.specs.PutBack.{putBackJob}
 use Rattle.put_back.specs.declared.PutBackOutcome.the-variants.{Refused}
 use Rattle.put_back.specs.declared.PutBackRefusal.the-variants.{Unlawful}
 use Rattle.jobs.proofs.Opened.{variables-of}
-use Rattle.put_back.proofs.Checked.{Carried}
-use Rattle.putting_back.proofs.Causes.{BackCauseOver, put-back-iff}
+use Rattle.put_back.specs.Causes.{Carried, BackCauseOver}
+use Rattle.putting_back.proofs.Causes.{put-back-iff}
 
 -- the state that records lead to
 abbrev pub reached : Problem → List Record → State

@@ -71,7 +71,7 @@ end-small end.Solved = omega arith
 end-small end.Rest = omega arith
 
 -- a number of the format's table
-run-listed : (r : RunRefusal) → Listed (runRefusalNumber r)
+pub run-listed : (r : RunRefusal) → Listed (runRefusalNumber r)
 run-listed (refusal.Sheet r) = sheet-listed r
 run-listed refusal.Buffer = (omega arith, omega arith)
 

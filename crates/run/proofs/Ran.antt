@@ -18,37 +18,24 @@ use Rattle.run.specs.Run.{RunResult, runDone, runOver, runJob}
 use Rattle.run.specs.declared.RunOutcome.{RunOutcome}
 use Rattle.run.specs.declared.RunOutcome.the-variants.{Done, Refused}
 use Rattle.run.specs.declared.RunRefusal.the-variants as refusal
+use Rattle.run.specs.Causes.{RunCauseOver, whoseRun, RunCause}
 use Rattle.run.proofs.Opened.{run-buffer-refused-over, run-accepted-over}
-use Rattle.jobs.proofs.SheetCause.{Whose, Sheets, Own, SheetCause, Told, sheet-iff}
+use Rattle.jobs.proofs.SheetCause.{Told, sheet-iff}
+use Rattle.jobs.specs.Causes.{Whose, Sheets, Own, SheetCause}
 
 module _ (P : Problem) (b : List ℕ) where
-  -- Why a run over a problem answers as it does.
-  abbrev pub RunCauseOver : RunOutcome → Type 0
-  RunCauseOver (Refused (refusal.Sheet r)) = ⊥
-  -- 10: "shorter than 1 + 5 × the sum of the sizes"
-  RunCauseOver (Refused refusal.Buffer) = length b < 1 + 5 * sizeSum P
-  -- accepted: the end, the steps and the bytes are the run's
-  RunCauseOver (Done e k w) =
-      (1 + 5 * sizeSum P ≤ length b)
-      × ((e ≡ endOf P (afterTrace P (full P) (run P (full P)))) × ((k ≡ length (run P (full P))) × (w ≡ length (traceBytes (run P (full P))))))
-
-  cause-runs : (o : RunOutcome) → RunCauseOver o → (runOver P b) .answer .outcome ≡ o
+  cause-runs : (o : RunOutcome) → RunCauseOver P b o → (runOver P b) .answer .outcome ≡ o
   unfolding runDone
   cause-runs (Refused (refusal.Sheet r)) x = absurd x
   cause-runs (Refused refusal.Buffer) l = ap (λ (y : RunResult). y .answer .outcome) (run-buffer-refused-over P b l)
   cause-runs (Done e k w) (l, (p, (q, r))) = ap (λ (y : RunResult). y .answer .outcome) (run-accepted-over P b l) ∙ (λ t. Done (sym p t) (sym q t) (sym r t))
 
-  some-cause : (o : RunOutcome) × RunCauseOver o
+  some-cause : (o : RunOutcome) × RunCauseOver P b o
   some-cause = elim (lt-dec (length b) (1 + 5 * sizeSum P)) [ inl l ↦ (Refused refusal.Buffer, l) | inr l ↦ (Done _ _ _, (l, (refl, (refl, refl)))) ]
 
   -- A run over a problem answers as it does for its cause and for no other.
-  pub ran-iff-over : (o : RunOutcome) → ((runOver P b) .answer .outcome ≡ o) ↔ RunCauseOver o
-  ran-iff-over = cause-iff ((runOver P b) .answer .outcome) RunCauseOver cause-runs some-cause
-
-abbrev pub whoseRun : RunOutcome → Whose
-whoseRun (Refused (refusal.Sheet r)) = Sheets r
-whoseRun (Refused refusal.Buffer) = Own
-whoseRun (Done e k w) = Own
+  pub ran-iff-over : (o : RunOutcome) → ((runOver P b) .answer .outcome ≡ o) ↔ RunCauseOver P b o
+  ran-iff-over = cause-iff ((runOver P b) .answer .outcome) (RunCauseOver P b) cause-runs some-cause
 
 told : (o : RunOutcome) → Told (λ r. Refused (refusal.Sheet r)) (whoseRun o) o
 told (Refused (refusal.Sheet r)) = refl
@@ -56,12 +43,8 @@ told (Refused refusal.Buffer) = tt
 told (Done e k w) = tt
 
 module _ (s b : List ℕ) where
-  -- Why a run answers as it does: the sheet's own fault, or the cause over its problem.
-  abbrev pub RunCause : RunOutcome → Type 0
-  RunCause o = SheetCause s (whoseRun o) (λ P. RunCauseOver P b o)
-
   -- A run answers as it does for its cause and for no other.
-  pub ran-iff : (o : RunOutcome) → ((runJob s b) .answer .outcome ≡ o) ↔ RunCause o
+  pub ran-iff : (o : RunOutcome) → ((runJob s b) .answer .outcome ≡ o) ↔ RunCause s b o
   unfolding runJob
   ran-iff = sheet-iff s _ _ (λ (y : RunResult). y .answer .outcome) whoseRun told (λ r. refl) (λ P. RunCauseOver P b) (λ P r x. x) (λ _. ran-iff-over (problemOf layout s) b)
 
@@ -71,4 +54,4 @@ module _ (s b : List ℕ) where
   number-back (Refused refusal.Buffer) h = refl
 
   pub ran-10 : (runNumber ((runJob s b) .answer .outcome) ≡ 10) ↔ (Keeps layout s × (length b < 1 + 5 * sizeSum (problemOf layout s)))
-  ran-10 = number-iff ((runJob s b) .answer .outcome) RunCause ran-iff runNumber (λ k. Refused refusal.Buffer) (λ k. 10 ≤ k) number-back (Refused refusal.Buffer) (omega arith)
+  ran-10 = number-iff ((runJob s b) .answer .outcome) (RunCause s b) ran-iff runNumber (λ k. Refused refusal.Buffer) (λ k. 10 ≤ k) number-back (Refused refusal.Buffer) (omega arith)

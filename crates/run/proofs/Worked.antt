@@ -29,6 +29,7 @@ use Rattle.trace.specs.Trace.{recordBytes, recordsBytes, traceBytes, fronted}
 use Rattle.run.specs.Run.{RunResult, runDone, runOver, runJob}
 use Rattle.run.specs.declared.RunAnswer.{RunAnswer}
 use Rattle.run.specs.declared.RunOutcome.the-variants.{Done}
+use Rattle.run.specs.Causes.{Worked}
 use Rattle.run.proofs.Opened.{run-accepted-over, run-kept}
 
 -- ---- a trace's length
@@ -50,31 +51,6 @@ unfolding traceBytes
 trace-length t = omega (arith, records-length t)
 
 -- ---- what an accepted run shows
-
--- P is the problem, t the run's records, and last the state that they lead to
-pub record Worked (P : Problem) (t : List Record) (last : State) (b : List ℕ) (x : RunResult) : Type 0 where
-  -- the answer: the end, the number of steps, the bytes written and the last state; and the buffer, the old bytes after the trace
-  pub answer : x .answer ≡ record { outcome = Done (endOf P last) (length t) (length (traceBytes t)); state = masksOf last }
-  pub buffer : x .buffer ≡ fronted (traceBytes t) b
-  -- demand 1: in no more steps than the sheet lists settings, and within the buffer
-  pub few : length t ≤ sizeSum P
-  pub room : length (traceBytes t) ≤ length b
-  -- demand 2: each step is lawful in the state reached
-  pub reached : last ≡ afterTrace P (full P) t
-  pub lawful : T (lawfulTrace P (full P) t)
-  -- under the published rules: each record is published in the state that it was taken in, and is the first lawful one there in the order
-  -- of the steps
-  pub published : (before : List Record) (r : Record) (rest : List Record) → t ≡ before ++ (r ∷ rest) → Published P (afterTrace P (full P) before) r
-  pub least : (before : List Record) (r : Record) (rest : List Record) → t ≡ before ++ (r ∷ rest) → FirstLawful P (afterTrace P (full P) before) r
-  -- the end is what the format says of it, and "at the end no rule holds or some item has no setting left"
-  pub end : EndSays last (endOf P last)
-  pub rest : T (noneEmpty P last) → (r : Record) → T (holds P last r) → ⊥
-  -- no rule of the papers holds there
-  pub settled : T (noneEmpty P last) → (r : Record) → Published P last r → ⊥
-  -- "The sheet left has a plan exactly when the full sheet has one"
-  pub plan : Solvable P last ↔ Solvable P (full P)
-  -- "each plan of what is left is put back into a plan of the full sheet"
-  pub back : (p : ℕ → ℕ) → Solution P last p → Solution P (full P) (undoTrace P (full P) t p)
 
 -- every problem, with a buffer as long as the format asks, is worked to its end
 pub run-worked-over : (P : Problem) (b : List ℕ) → 1 + 5 * sizeSum P ≤ length b → Worked P (run P (full P)) (afterTrace P (full P) (run P (full P))) b (runOver P b)

@@ -1,16 +1,21 @@
 -- What the exported run answers, as one number, and what it leaves in the buffers lent to it.
 -- The low byte of the answer is the number of the refusal, from 1 to 255, or 0 where there is none. Above it stand the parts of what was done.
+use mathlib.Core.Path.{_≡_}
 use mathlib.Core.Bool.{true, false}
 use mathlib.Core.List.{List}
-use Prim.Native.Nat.{ℕ, _+_, _*_}
+use Prim.Native.Nat.{ℕ, _+_, _*_, _/_, _%_, _≤_}
 use lib.Dec.{eqb}
-use lib.ListN.{length}
+use lib.ListN.{length, take}
+use Rattle.problem.specs.Problem.{State, sizeSum}
+use Rattle.problem.specs.Masks.{stateOf}
 use Rattle.problem.specs.declared.Masks.{Masks}
+use Rattle.sheet.specs.Sheet.{layout, Keeps}
+use Rattle.sheet.specs.Relation.{problemOf}
 use Rattle.run.specs.Numbers.{runRefusalNumber, endNumber}
 use Rattle.run.specs.Run.{runJob}
 use Rattle.run.specs.declared.RunOutcome.{RunOutcome}
 use Rattle.run.specs.declared.RunOutcome.the-variants as run
-use Rattle.boundary.specs.State.{stateLength, masksBytes}
+use Rattle.boundary.specs.State.{stateLength, masksBytes, masksIn}
 use Rattle.boundary.specs.Numbers.{badState}
 
 -- the answer and the two buffers
@@ -33,3 +38,17 @@ runCall s t b =
       | false ↦ record { answer = badState; trace = t; state = b }
       | true ↦ runCrossed ((runJob s t) .answer .outcome) ((runJob s t) .answer .state) ((runJob s t) .buffer) b
     ]
+
+-- ---- what it is lent, and what is left
+
+-- the trace that a run leaves: as many bytes from the front of its buffer as its answer says, in bits 32-47
+abbrev pub traceLeft : RunCall → List ℕ
+traceLeft x = take (x .answer / 4294967296 % 65536) (x .trace)
+
+-- the sheet that a run leaves: the items and settings that the state's buffer says
+abbrev pub sheetLeft : RunCall → State
+sheetLeft x = stateOf (masksIn (x .state))
+
+-- what a run is lent: "Every sheet that keeps the layout, [..], lent with a trace as long as the format asks", and a buffer for its state
+abbrev pub Asked : (s t b : List ℕ) → Type 0
+Asked s t b = Keeps layout s × (1 + 5 * sizeSum (problemOf layout s) ≤ length t) × (length b ≡ stateLength)

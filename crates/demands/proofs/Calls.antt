@@ -26,26 +26,15 @@ use Rattle.run.specs.declared.RunAnswer.{RunAnswer}
 use Rattle.run.specs.declared.RunOutcome.the-variants as run·
 use Rattle.put_back.specs.declared.PutBackOutcome.the-variants as back
 use Rattle.run.proofs.Ran.{ran-iff}
-use Rattle.run.proofs.Worked.{Worked, run-worked, run-left}
+use Rattle.run.proofs.Worked.{run-worked, run-left}
+use Rattle.run.specs.Causes.{Worked}
 use Rattle.putting_back.proofs.Demands.{put-back-accepted, put-back-plan, run-put-back}
 use Rattle.putting_back.proofs.Ends.{impossible-none, solved-fits}
 use Rattle.boundary.specs.State.{stateLength, masksIn}
-use Rattle.run.specs.Call.{RunCall, runCall}
+use Rattle.run.specs.Call.{traceLeft, sheetLeft, Asked, RunCall, runCall}
 use Rattle.put_back.specs.Call.{putBackCall}
 use Rattle.run.proofs.Call.{run-small, run-says, run-unpacked, run-taken, run-state}
 use Rattle.putting_back.proofs.Call.{put-back-zero}
-
--- the trace that a run leaves: as many bytes from the front of its buffer as its answer says, in bits 32-47
-abbrev pub traceLeft : RunCall → List ℕ
-traceLeft x = take (x .answer / 4294967296 % 65536) (x .trace)
-
--- the sheet that a run leaves: the items and settings that the state's buffer says
-abbrev pub sheetLeft : RunCall → State
-sheetLeft x = stateOf (masksIn (x .state))
-
--- what a run is lent: "Every sheet that keeps the layout, [..], lent with a trace as long as the format asks", and a buffer for its state
-abbrev pub Asked : (s t b : List ℕ) → Type 0
-Asked s t b = Keeps layout s × (1 + 5 * sizeSum (problemOf layout s) ≤ length t) × (length b ≡ stateLength)
 
 only-impossible : (x : End) → endNumber x ≡ endNumber end·.Impossible → x ≡ end·.Impossible
 only-impossible end·.Impossible e = refl
@@ -81,7 +70,7 @@ module _ (s t b : List ℕ) where
     written-small : length (traceBytes records) ≤ 2561
     written-small = run-small s t _ refl _ _ _ done .1
 
-    trace-left : traceLeft (runCall s t b) ≡ traceBytes records
+    pub trace-left : traceLeft (runCall s t b) ≡ traceBytes records
     trace-left =
         let w = run-unpacked s t b (A .2) _ _ _ done .3 in
         let l = written-small in
@@ -89,7 +78,7 @@ module _ (s t b : List ℕ) where
         let q : (runCall s t b) .trace ≡ fronted (traceBytes records) t = sym (ap (λ (y : RunCall). y .trace) (run-says s t b (A .2) _ _ refl refl _ done)) ∙ worked .buffer in
         (λ j. take (n j) (q j)) ∙ take-append-seam (traceBytes records) _
 
-    sheet-left : sheetLeft (runCall s t b) ≡ last
+    pub sheet-left : sheetLeft (runCall s t b) ≡ last
     sheet-left = ap stateOf (run-state s t b (A .2) _ _ _ done) ∙ run-left s t (A .0) (A .1)
 
     -- "each plan of what is left is put back into a plan of the full sheet": the trace and the state that a run left, whatever bytes were

@@ -1,1 +1,0 @@
-// What calls of several jobs come to together, as laws: proofs/Demands.antt.
