@@ -1,5 +1,5 @@
 -- Texts one after the other. Assumes nothing.
-use mathlib.Core.Path.{_≡_, sym, ap, _∙_}
+use mathlib.Core.Path.{_≡_, sym, ap, _∙_, subst}
 use mathlib.Core.List.{List, _++_, append-assoc}
 use Prim.Native.Nat.{ℕ, _+_, _≤_, _<_}
 use native.Mathlib.Omega.{arith}
@@ -12,6 +12,10 @@ use Rattle.trace.proofs.Written.{written-more}
 -- w is written at p, and q is the place after it
 abbrev pub Puts : List ℕ → ℕ → List ℕ → List ℕ → ℕ → Type 0
 Puts b p w b′ q = (b′ ≡ written b p w) × (q ≡ p + length w)
+
+-- a text, said otherwise
+pub same-text : (b b′ : List ℕ) (p q : ℕ) (w v : List ℕ) → w ≡ v → Puts b p w b′ q → Puts b p v b′ q
+same-text b b′ p q w v e f = subst (λ (u : List ℕ). Puts b p u b′ q) e f
 
 -- a text, and another at the place after it
 pub after : (b b′ b″ : List ℕ) (p q r : ℕ) (w v : List ℕ) → Puts b p w b′ q → Puts b′ q v b″ r → q ≤ length b → Puts b p (w ++ v) b″ r

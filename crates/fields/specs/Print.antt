@@ -7,6 +7,7 @@ use lib.ListN.{take, length}
 use Rattle.bounded.specs.Bounded.{countBelow}
 use Rattle.problem.specs.Problem.{Problem, State, full, sizeSum, liveCount}
 use Rattle.problem.specs.Reduce.{run, afterTrace, endOf}
+use Rattle.problem.specs.Record.{fieldsOf}
 use Rattle.problem.specs.declared.Record.{Record}
 use Rattle.problem.specs.declared.Record.the-variants.{Unsupported, Snake, Triangle, Neighbourhood, SnakeSubstitution}
 use Rattle.problem.specs.declared.End.{End}
@@ -33,13 +34,22 @@ sheetWord = 115 ∷ 104 ∷ 101 ∷ 101 ∷ 116 ∷ []
 abbrev pub refusedWord : List ℕ
 refusedWord = 114 ∷ 101 ∷ 102 ∷ 117 ∷ 115 ∷ 101 ∷ 100 ∷ []
 
--- a step's word, "bare", "snake", "fold", "cover" or "slide", and "the fields after the kind"
+-- a step's word: "bare", "snake", "fold", "cover" or "slide"
+abbrev pub stepWord : Record → List ℕ
+stepWord (Unsupported i b k) = 98 ∷ 97 ∷ 114 ∷ 101 ∷ []
+stepWord (Snake i v) = 115 ∷ 110 ∷ 97 ∷ 107 ∷ 101 ∷ []
+stepWord (Triangle i j) = 102 ∷ 111 ∷ 108 ∷ 100 ∷ []
+stepWord (Neighbourhood i b a) = 99 ∷ 111 ∷ 118 ∷ 101 ∷ 114 ∷ []
+stepWord (SnakeSubstitution i b a) = 115 ∷ 108 ∷ 105 ∷ 100 ∷ 101 ∷ []
+
+-- numbers one after the other, each after a space
+unfoldable pub fieldsText : List ℕ → List ℕ
+fieldsText [] = []
+fieldsText (x ∷ t) = field x ++ fieldsText t
+
+-- "word, the fields after the kind"
 abbrev pub stepText : Record → List ℕ
-stepText (Unsupported i b k) = (98 ∷ 97 ∷ 114 ∷ 101 ∷ []) ++ (field i ++ (field b ++ field k))
-stepText (Snake i v) = (115 ∷ 110 ∷ 97 ∷ 107 ∷ 101 ∷ []) ++ (field i ++ field v)
-stepText (Triangle i j) = (102 ∷ 111 ∷ 108 ∷ 100 ∷ []) ++ (field i ++ field j)
-stepText (Neighbourhood i b a) = (99 ∷ 111 ∷ 118 ∷ 101 ∷ 114 ∷ []) ++ (field i ++ (field b ++ field a))
-stepText (SnakeSubstitution i b a) = (115 ∷ 108 ∷ 105 ∷ 100 ∷ 101 ∷ []) ++ (field i ++ (field b ++ field a))
+stepText r = stepWord r ++ fieldsText (fieldsOf r)
 
 -- "impossible", "solved", "rest"
 abbrev pub endWord : End → List ℕ

@@ -4,10 +4,11 @@ ghost use mathlib.Core.Path.{_≡_};
 ghost use mathlib.Core.List.{_∷_, _++_, []};
 ghost use Prim.Native.Nat.{_+_, _<_, _≤_};
 ghost use lib.ListN.{length};
-ghost use Rattle.fields.specs.Print.{decimal, field};
+ghost use Rattle.problem.specs.Record.{fieldsOf};
+ghost use Rattle.fields.specs.Print.{decimal, field, fieldsText};
 ghost use Rattle.trace.specs.Written.{written, Small};
-ghost use Rattle.fields.specs.Parts.{stepFields};
 use problem::Record;
+use problem::parts_of;
 
 // ---- bytes
 
@@ -58,26 +59,6 @@ pub fn put_field(out: &mut [u8], at: usize, x: usize) -> usize
     put_decimal(out, p, x)
 }
 
-// Two fields.
-fn put_two(out: &mut [u8], at: usize, x: usize, y: usize) -> usize
-    requires { ⌜ (x < 100000) × ((y < 100000) × (at + 12 ≤ length (now out))) ⌝ }
-    ensures text { λ r. ⌜ (now (out .exit) ≡ written (now (out .entry)) at (field x ++ field y)) × (r ≡ at + length (field x ++ field y)) ⌝ }
-    ensures within { λ r. ⌜ r ≤ at + 12 ⌝ }
-{
-    let p = put_field(out, at, x);
-    put_field(out, p, y)
-}
-
-// Three fields.
-fn put_three(out: &mut [u8], at: usize, x: usize, y: usize, z: usize) -> usize
-    requires { ⌜ (x < 100000) × ((y < 100000) × ((z < 100000) × (at + 18 ≤ length (now out)))) ⌝ }
-    ensures text { λ r. ⌜ (now (out .exit) ≡ written (now (out .entry)) at (field x ++ (field y ++ field z))) × (r ≡ at + length (field x ++ (field y ++ field z))) ⌝ }
-    ensures within { λ r. ⌜ r ≤ at + 18 ⌝ }
-{
-    let p = put_field(out, at, x);
-    put_two(out, p, y, z)
-}
-
 // Three fields and the end of the line.
 pub fn put_three_end(out: &mut [u8], at: usize, x: usize, y: usize, z: usize) -> usize
     requires { ⌜ (x < 100000) × ((y < 100000) × ((z < 100000) × (at + 19 ≤ length (now out)))) ⌝ }
@@ -95,14 +76,14 @@ pub fn put_three_end(out: &mut [u8], at: usize, x: usize, y: usize, z: usize) ->
 // The fields of a step after its kind.
 pub fn put_step_fields(out: &mut [u8], at: usize, r: Record) -> usize
     requires { ⌜ (at + 18 ≤ length (now out)) × Small r ⌝ }
-    ensures text { λ q. ⌜ (now (out .exit) ≡ written (now (out .entry)) at (stepFields r)) × (q ≡ at + length (stepFields r)) ⌝ }
+    ensures text { λ q. ⌜ (now (out .exit) ≡ written (now (out .entry)) at (fieldsText (fieldsOf r))) × (q ≡ at + length (fieldsText (fieldsOf r))) ⌝ }
     ensures within { λ q. ⌜ q ≤ at + 18 ⌝ }
 {
-    match r {
-        Record::Unsupported(i, b, k) => put_three(out, at, i, b, k),
-        Record::Snake(i, v) => put_two(out, at, i, v),
-        Record::Triangle(i, j) => put_two(out, at, i, j),
-        Record::Neighbourhood(i, b, a) => put_three(out, at, i, b, a),
-        Record::SnakeSubstitution(i, b, a) => put_three(out, at, i, b, a),
+    let parts = parts_of(r);
+    let p = put_field(out, at, parts.item);
+    let q = put_field(out, p, parts.third);
+    if parts.count == 2 {
+        return q;
     }
+    put_field(out, q, parts.fourth)
 }

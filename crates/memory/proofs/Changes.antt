@@ -6,13 +6,17 @@ use native.Mathlib.Omega.{arith}
 use lib.Dec.{T}
 use Rattle.bounded.proofs.Truth.{T-dec, T-true, eq-dec}
 use Rattle.problem.specs.Problem.{Problem, State, noneEmpty, anyLive, unsupported, remove, eliminate}
-use Rattle.problem.specs.Reduce.{kindOf, after, first, nextUnsupported, kindBound, nextOfKindBy, nextOfKind, next, holdsBy, holds}
+use Rattle.problem.specs.Reduce.{afterEffect, after, first, nextUnsupported, kindBound, nextOfKindBy, nextOfKind, next}
+use Rattle.problem.specs.Record.{kindOf, effectOf, variableOf}
 use Rattle.problem.specs.declared.Record.{Record}
-use Rattle.problem.specs.declared.Record.the-variants.{Unsupported, Snake, Triangle, Neighbourhood, SnakeSubstitution}
+use Rattle.problem.specs.declared.Record.the-variants.{Unsupported}
+use Rattle.problem.specs.declared.Effect.{Effect}
+use Rattle.problem.specs.declared.Effect.the-variants.{Removes, Eliminates}
 use Rattle.problem.specs.declared.Next.the-variants.{Step, Nothing}
-use Rattle.problem.proofs.Reflect.{turn, anyLive-iff, unsupported-iff, snake-iff, triangle-iff, remove-live, eliminate-active, eliminate-live}
+use Rattle.problem.proofs.Apart.{eliminates-later}
+use Rattle.problem.proofs.Reflect.{turn, anyLive-iff, unsupported-iff, remove-live, eliminate-active, eliminate-live}
 use Rattle.problem.specs.Sentences.{Active, Live, Allowed, Fits, ArcConsistent, Neighbourhood as Covers}
-use Rattle.problem.proofs.Trace.{lawful-iff}
+use Rattle.problem.proofs.Trace.{Present, lawful-iff, holds-present}
 use Rattle.problem.proofs.Run.{never, first-each, first-found, first-where, stepIf-found, stepIf-none, next-open, next-lawful}
 use Rattle.memory.specs.Rests.{Below, Kept, Elsewhere}
 use Rattle.memory.specs.Memory.{changedBy}
@@ -31,13 +35,13 @@ module _ {P : Problem} {s : State} (F : Fits P s) where
   pub eliminate-below : (i : ℕ) → Below (eliminate P s i) s
   eliminate-below i = record { active = λ l h. eliminate-active P s i l .0 h .0; live = λ l c o. eliminate-live P s F i l c .0 o .0 }
 
+  effect-below : (x : Effect) → Below (afterEffect P s x) s
+  effect-below (Removes i b) = remove-below P s i b
+  effect-below (Eliminates i) = eliminate-below i
+
   pub after-below : (r : Record) → Below (after P s r) s
   unfolding after
-  after-below (Unsupported i b k) = remove-below P s i b
-  after-below (Snake i v) = eliminate-below i
-  after-below (Triangle i j) = eliminate-below i
-  after-below (Neighbourhood i b a) = remove-below P s i b
-  after-below (SnakeSubstitution i b a) = remove-below P s i b
+  after-below r = effect-below (effectOf r)
 
   -- in an arc consistent state every value elsewhere has a support at i
   pub eliminate-keeps : ArcConsistent P s → (i : ℕ) → Active s i → Kept s (eliminate P s i) (Elsewhere i)
@@ -97,12 +101,9 @@ module _ {P : Problem} {s : State} (F : Fits P s) where
 
   -- the next step takes no value from another variable: a variable is eliminated in an arc consistent state only
   pub step-keeps : (r : Record) → next P s ≡ Step r → Kept s (after P s r) (Elsewhere (changedBy r))
-  unfolding after holdsBy
-  step-keeps r e = by r (lawful-iff P s r .0 (next-lawful P s r e) .1) (later-arc r e)
+  unfolding after
+  step-keeps r e = by (effectOf r) (holds-present P F r (lawful-iff P s r .0 (next-lawful P s r e) .1)) (λ i h. later-arc r e (eliminates-later r i h))
     where
-      by : (r : Record) → T (holds P s r) → (1 < kindOf r → ArcConsistent P s) → Kept s (after P s r) (Elsewhere (changedBy r))
-      by (Unsupported i b k) t C = remove-keeps P s i b
-      by (Snake i v) t C = eliminate-keeps (C (omega arith)) i (F .live-active i v (snake-iff F i v .0 t .0))
-      by (Triangle i j) t C = eliminate-keeps (C (omega arith)) i (triangle-iff F i j .0 t .0)
-      by (Neighbourhood i b a) t C = remove-keeps P s i b
-      by (SnakeSubstitution i b a) t C = remove-keeps P s i b
+      by : (x : Effect) → Present s x → ((i : ℕ) → x ≡ Eliminates i → ArcConsistent P s) → Kept s (afterEffect P s x) (Elsewhere (variableOf x))
+      by (Removes i b) h C = remove-keeps P s i b
+      by (Eliminates i) h C = eliminate-keeps (C i refl) i h

@@ -9,7 +9,7 @@ use lib.ListN.{length, getD}
 use Rattle.bounded.specs.Mask.{bit}
 use Rattle.problem.specs.Problem.{Problem, State, slideSpares}
 use Rattle.problem.specs.declared.Record.{Record}
-use Rattle.problem.specs.Order.{itemOf}
+use Rattle.problem.specs.Record.{effectOf, variableOf}
 use Rattle.problem.specs.Sentences.{Snake, Triangle, Neighbourhood, SnakeSubstitution}
 use Rattle.memory.specs.Rests.{Rests}
 
@@ -84,7 +84,7 @@ pub record Learned (rests row c : ℕ) (p w q x : List ℕ) : Type 0 where
 
 -- the variable that a step changes
 abbrev pub changedBy : Record → ℕ
-changedBy = itemOf
+changedBy r = variableOf (effectOf r)
 
 -- what waits for l is pending, and need not wait for it any longer
 pub record Woken (l : ℕ) (p w q x : List ℕ) : Type 0 where

@@ -10,39 +10,20 @@ use native.Mathlib.Omega.{arith}
 use lib.Dec.{T}
 use Rattle.bounded.proofs.Truth.{T-true, lt-dec}
 use Rattle.problem.specs.Problem.{Problem, State, noneEmpty, slideSpares, liveCount}
-use Rattle.problem.specs.Reduce.{kindOf, holdsBy, holds, lawful, afterTrace, stepIf, first, nextUnsupported, nextSnake, nextTriangle, nextNeighbourhood, nextSnakeSubstitutionBy, kindBound, nextOfKindBy, nextOfKind, next, runFrom, runBy, run}
-use Rattle.problem.specs.Order.{itemOf, thirdOf, fourthOf, Before, FirstLawful}
+use Rattle.problem.specs.Reduce.{holdsBy, holds, lawful, afterTrace, stepIf, first, nextUnsupported, nextSnake, nextTriangle, nextNeighbourhood, nextSnakeSubstitutionBy, kindBound, nextOfKindBy, nextOfKind, next, runFrom, runBy, run}
+use Rattle.problem.specs.Record.{kindOf, itemOf, thirdOf, fourthOf}
+use Rattle.problem.specs.Order.{Before, FirstLawful}
 use Rattle.problem.specs.declared.Record.{Record}
 use Rattle.problem.specs.declared.Record.the-variants.{Unsupported, Snake, Triangle, Neighbourhood, SnakeSubstitution}
 use Rattle.problem.specs.declared.Next.{Next}
 use Rattle.problem.specs.declared.Next.the-variants.{Step, Nothing}
+use Rattle.problem.proofs.Apart.{same-record, kind-within}
 use Rattle.problem.proofs.Reflect.{unsupported-iff, snake-iff, triangle-iff, neighbourhood-iff, snakeSubstitution-iff}
 use Rattle.problem.specs.Sentences.{Fits}
 use Rattle.problem.proofs.Trace.{after-fits, lawful-iff, step-falls, trace-fits}
 use Rattle.problem.proofs.Run.{never, first-each, first-where, stepIf-found, stepIf-none, next-open, next-lawful, next-complete, run-step, run-stop, run-next}
 
 -- ---- it is an order of all records
-
--- the record of a kind with given fields
-unfoldable make : ℕ → ℕ → ℕ → ℕ → Record
-make zero i b c = Unsupported i b c
-make (suc zero) i b c = Unsupported i b c
-make (suc (suc zero)) i b c = Snake i b
-make (suc (suc (suc zero))) i b c = Triangle i b
-make (suc (suc (suc (suc zero)))) i b c = Neighbourhood i b c
-make (suc (suc (suc (suc (suc k))))) i b c = SnakeSubstitution i b c
-
-made : (x : Record) → make (kindOf x) (itemOf x) (thirdOf x) (fourthOf x) ≡ x
-unfolding make
-made (Unsupported i b k) = refl
-made (Snake i v) = refl
-made (Triangle i j) = refl
-made (Neighbourhood i b a) = refl
-made (SnakeSubstitution i b a) = refl
-
--- a record is its kind and its fields
-same-record : (x y : Record) → kindOf x ≡ kindOf y → itemOf x ≡ itemOf y → thirdOf x ≡ thirdOf y → fourthOf x ≡ fourthOf y → x ≡ y
-same-record x y k i b c = cc (made x, made y)
 
 compare : (m n : ℕ) → (m < n) ⊎ ((m ≡ n) ⊎ (n < m))
 compare m n = go (lt-dec m n) (lt-dec n m)
@@ -128,14 +109,6 @@ ByThird x y = (thirdOf x < thirdOf y) ⊎ ((thirdOf x ≡ thirdOf y) × ByFourth
 abbrev ByItem : Record → Record → Type 0
 ByItem x y = (itemOf x < itemOf y) ⊎ ((itemOf x ≡ itemOf y) × ByThird x y)
 
--- the kinds that the search goes through
-kind-within : (x : Record) → (0 < kindOf x) × (kindOf x < kindBound)
-kind-within (Unsupported i b k) = (omega arith, omega arith)
-kind-within (Snake i v) = (omega arith, omega arith)
-kind-within (Triangle i j) = (omega arith, omega arith)
-kind-within (Neighbourhood i b a) = (omega arith, omega arith)
-kind-within (SnakeSubstitution i b a) = (omega arith, omega arith)
-
 module _ {P : Problem} {s : State} (F : Fits P s) where
   -- the records that hold: all of them, those of a kind, and those with given fields
   abbrev OfKind : ℕ → Record → Type 0
@@ -176,6 +149,18 @@ module _ {P : Problem} {s : State} (F : Fits P s) where
   within (Triangle i j) t = let x = triangle-iff F i j .0 t in (F .active-lt i (x .0), F .active-lt j (x .1 .0), omega arith)
   within (Neighbourhood i b a) t = let x = neighbourhood-iff F i b a .0 t in (live-item i b (x .0), F .live-lt i b (x .0), F .live-lt i a (x .1 .0))
   within (SnakeSubstitution i b a) t = let x = snakeSubstitution-iff F slideSpares i b a .0 t in (live-item i b (x .0), F .live-lt i b (x .0), F .live-lt i a (x .1 .0))
+
+  -- they are below whatever no size and no number of variables is above
+  pub holds-below : (m : ℕ) → P .n ≤ m → ((i : ℕ) → P .size i ≤ m) → (x : Record) → T (holds P s x) → (itemOf x < m) × (thirdOf x < m) × (fourthOf x < m)
+  unfolding thirdBound fourthBound
+  holds-below m few narrow x t = let w = within x t in let y = most x (omega (arith, w .0)) in (omega (arith, w .0), omega (arith, w .1, y .0), omega (arith, w .2, y .1))
+    where
+      most : (x : Record) → 1 ≤ m → (thirdBound (kindOf x) (itemOf x) ≤ m) × (fourthBound (kindOf x) (itemOf x) ≤ m)
+      most (Unsupported i b k) l = (narrow i, few)
+      most (Snake i v) l = (narrow i, l)
+      most (Triangle i j) l = (few, l)
+      most (Neighbourhood i b a) l = (narrow i, narrow i)
+      most (SnakeSubstitution i b a) l = (narrow i, narrow i)
 
   item-lt : (k : ℕ) (x : Record) → OfKind k x → itemOf x < P .n
   item-lt k x o = within x (o .0) .0

@@ -1,3 +1,4 @@
+pub mod Apart
 pub mod Reflect
 pub mod Spoiler
 pub mod Published

@@ -8,7 +8,8 @@ use native.Mathlib.Omega.{arith}
 use lib.Dec.{T}
 use Rattle.problem.specs.Problem.{Problem, State, noneEmpty, unsupported, snake, triangle, neighbourhood, snakeSubstitution, slideKeeps, firstBreak}
 use Rattle.problem.specs.Rulebook.{beforeFour}
-use Rattle.problem.specs.Reduce.{kindOf, nextUnsupported, nextSnake, nextTriangle, nextNeighbourhood, nextSnakeSubstitutionBy, kindBound, nextOfKindBy, nextBy, runBy}
+use Rattle.problem.specs.Reduce.{nextUnsupported, nextSnake, nextTriangle, nextNeighbourhood, nextSnakeSubstitutionBy, kindBound, nextOfKindBy, nextBy, runBy}
+use Rattle.problem.specs.Record.{kindOf}
 use Rattle.problem.specs.declared.Record.{Record}
 use Rattle.problem.specs.declared.Record.the-variants.{Unsupported, Snake, Triangle, Neighbourhood, SnakeSubstitution}
 use Rattle.problem.specs.declared.Break.{Break}
@@ -76,7 +77,8 @@ module _ (P : Problem) {s : State} (F : Fits P s) where
       at (suc (suc zero)) l f h = omega arith
       at (suc (suc (suc zero))) l f h = omega arith
       at (suc (suc (suc (suc zero)))) l f h = omega arith
-      at (suc (suc (suc (suc (suc k))))) l f h = absurd (slide-never (h 4 (omega arith)) r f)
+      at (suc (suc (suc (suc (suc zero))))) l f h = absurd (slide-never (h 4 (omega arith)) r f)
+      at (suc (suc (suc (suc (suc (suc k)))))) l f h = absurd (never f)
 
       by-empty : (b : Bool) → noneEmpty P s ≡ b → (noneEmpty P s ≡ true) × ((k : ℕ) × (k < 5) × (nextOfKindBy beforeFour P s k ≡ Step r) × ((j : ℕ) → j < k → nextOfKindBy beforeFour P s j ≡ Nothing))
       by-empty true p = let x = first-where kindBound (nextOfKindBy beforeFour P s) r (sym (next-by-open beforeFour P s p) ∙ e) in (p, (x .0, at (x .0) (x .1) (x .2) (x .3), x .2, x .3))

@@ -8,8 +8,11 @@ use Prim.Native.Nat.{ℕ}
 use lib.Dec.{T}
 use Rattle.bounded.proofs.Truth.{T-ext, eq-dec}
 use Rattle.problem.specs.Problem.{Problem, State, unsupported, snake, triangle, neighbourhood, snakeSubstitution, slideSpares, remove, eliminate}
-use Rattle.problem.specs.Reduce.{holds, holdsBy, lawful, after, lawfulTrace, afterTrace, run}
-use Rattle.problem.specs.Published.{HasSupport, NoSupport, DeSnakeBy, DeSnake, TriangleBy, TriangleProperty, Arrow, NeighbourhoodSubstitutable, WavyArrow, SnakeSubstitutable, TwoValues, Published, Related, VariableEliminated, ValueEliminated, StepPublished}
+use Rattle.problem.specs.Reduce.{holds, holdsBy, lawful, afterEffect, after, lawfulTrace, afterTrace, run}
+use Rattle.problem.specs.Published.{HasSupport, NoSupport, DeSnakeBy, DeSnake, TriangleBy, TriangleProperty, Arrow, NeighbourhoodSubstitutable, WavyArrow, SnakeSubstitutable, TwoValues, Published, Related, VariableEliminated, ValueEliminated, EffectPublished, StepPublished}
+use Rattle.problem.specs.Record.{effectOf}
+use Rattle.problem.specs.declared.Effect.{Effect}
+use Rattle.problem.specs.declared.Effect.the-variants.{Removes, Eliminates}
 use Rattle.problem.specs.declared.Record.{Record}
 use Rattle.problem.specs.declared.Record.the-variants.{Unsupported, Snake, Triangle, Neighbourhood, SnakeSubstitution}
 use Rattle.problem.proofs.Reflect.{turn, noneEmpty-iff, unsupported-iff, snake-iff, triangle-iff, neighbourhood-iff, snakeSubstitution-iff, remove-live, eliminate-active, eliminate-live}
@@ -160,13 +163,13 @@ module _ {P : Problem} {s : State} (F : Fits P s) where
       }
 
   -- what the step of a record does is what the papers have it do
+  effect-published : (x : Effect) → EffectPublished P s x (afterEffect P s x)
+  effect-published (Removes i b) = remove-published i b
+  effect-published (Eliminates i) = eliminate-published i
+
   pub after-published : (r : Record) → StepPublished P s r (after P s r)
   unfolding after
-  after-published (Unsupported i b k) = remove-published i b
-  after-published (Snake i v) = eliminate-published i
-  after-published (Triangle i j) = eliminate-published i
-  after-published (Neighbourhood i b a) = remove-published i b
-  after-published (SnakeSubstitution i b a) = remove-published i b
+  after-published r = effect-published (effectOf r)
 
   -- and no other state is what the papers describe
   variable-only : (i : ℕ) (q : State) → VariableEliminated P s i q → q ≡ eliminate P s i
@@ -201,10 +204,10 @@ module _ {P : Problem} {s : State} (F : Fits P s) where
       lives : q .live ≡ (remove P s i b) .live
       lives = fun-ext λ j. fun-ext λ w. T-ext (at j w (eq-dec j i))
 
+  effect-only : (x : Effect) (q : State) → EffectPublished P s x q → q ≡ afterEffect P s x
+  effect-only (Removes i b) q E = value-only i b q E
+  effect-only (Eliminates i) q E = variable-only i q E
+
   pub after-only : (r : Record) (q : State) → StepPublished P s r q → q ≡ after P s r
   unfolding after
-  after-only (Unsupported i b k) q E = value-only i b q E
-  after-only (Snake i v) q E = variable-only i q E
-  after-only (Triangle i j) q E = variable-only i q E
-  after-only (Neighbourhood i b a) q E = value-only i b q E
-  after-only (SnakeSubstitution i b a) q E = value-only i b q E
+  after-only r = effect-only (effectOf r)

@@ -156,7 +156,8 @@ module _ (book : Rulebook) (P : Problem) (s : State) where
   kind-by-found (suc (suc zero)) r e = snake-found r e
   kind-by-found (suc (suc (suc zero))) r e = triangle-found r e
   kind-by-found (suc (suc (suc (suc zero)))) r e = neighbourhood-found r e
-  kind-by-found (suc (suc (suc (suc (suc k))))) r e = slide-found r e
+  kind-by-found (suc (suc (suc (suc (suc zero))))) r e = slide-found r e
+  kind-by-found (suc (suc (suc (suc (suc (suc k)))))) r e = absurd (never e)
 
   -- what `next` is, by whether some active variable is without a value
   pub next-by-open : noneEmpty P s ≡ true → nextBy book P s ≡ first kindBound (nextOfKindBy book P s)

@@ -10,25 +10,33 @@ use lib.ListN.{length}
 use Rattle.bounded.proofs.Truth.{and-iff}
 use Rattle.problem.specs.Problem.{Problem, State, full, noneEmpty, slideSpares, remove, eliminate, liveCount, sizeSum}
 use Rattle.problem.specs.Rulebook.{Rulebook, inForce}
-use Rattle.problem.specs.Reduce.{holdsBy, holds, lawfulBy, lawful, after, lawfulTraceBy, lawfulTrace, afterTrace}
+use Rattle.problem.specs.Record.{effectOf}
+use Rattle.problem.specs.Reduce.{holdsBy, holds, lawfulBy, lawful, afterEffect, after, lawfulTraceBy, lawfulTrace, afterTrace}
 use Rattle.problem.specs.Extend.{undo, undoTrace}
+use Rattle.problem.specs.declared.Effect.{Effect}
+use Rattle.problem.specs.declared.Effect.the-variants.{Removes, Eliminates}
 use Rattle.problem.specs.declared.Record.{Record}
 use Rattle.problem.specs.declared.Record.the-variants.{Unsupported, Snake, Triangle, Neighbourhood, SnakeSubstitution}
 use Rattle.problem.proofs.Reflect.{full-fits, noneEmpty-iff, unsupported-iff, snake-iff, triangle-iff, neighbourhood-iff, snakeSubstitution-iff, remove-live, eliminate-live, remove-fits, eliminate-fits}
-use Rattle.problem.specs.Sentences.{Live, Fits, NoneEmpty, Solution, Solvable}
+use Rattle.problem.specs.Sentences.{Active, Live, Fits, NoneEmpty, Solution, Solvable}
 use Rattle.problem.proofs.Sound.{remove-undone, triangle-undone, snake-undone, unsupported-kept, eliminate-kept, neighbourhood-kept, slide-kept}
 use Rattle.problem.proofs.Count.{count-falls, full-count}
+
+-- what a step removes is there: the value is live, or the variable active
+abbrev pub Present : State → Effect → Type 0
+Present s (Removes i b) = Live s i b
+Present s (Eliminates i) = Active s i
 
 module _ (P : Problem) where
   -- ---- one record
 
+  effect-fits : {s : State} → Fits P s → (x : Effect) → Fits P (afterEffect P s x)
+  effect-fits {s} F (Removes i b) = remove-fits P s F i b
+  effect-fits {s} F (Eliminates i) = eliminate-fits P s F i
+
   pub after-fits : {s : State} → Fits P s → (r : Record) → Fits P (after P s r)
   unfolding after
-  after-fits {s} F (Unsupported i b k) = remove-fits P s F i b
-  after-fits {s} F (Snake i v) = eliminate-fits P s F i
-  after-fits {s} F (Triangle i j) = eliminate-fits P s F i
-  after-fits {s} F (Neighbourhood i b a) = remove-fits P s F i b
-  after-fits {s} F (SnakeSubstitution i b a) = remove-fits P s F i b
+  after-fits F r = effect-fits F (effectOf r)
 
   -- a solution after, undone with the lowest choices, is a solution before
   pub step-undone : {s : State} → Fits P s → (r : Record) → T (holds P s r) → (p : ℕ → ℕ) → Solution P (after P s r) p → Solution P s (undo P s r p)
@@ -58,24 +66,31 @@ module _ (P : Problem) where
       count-falls P s (eliminate P s i) (λ j w x. eliminate-live P s F i j w .0 x .0) i a (F .active-lt i (F .live-active i a o)) (F .live-lt i a o) o
       (λ x. eliminate-live P s F i i a .0 x .1 .0 refl)
 
+  -- where no active variable is without a value
+  effect-falls : {s : State} → Fits P s → NoneEmpty P s → (x : Effect) → Present s x → liveCount P (afterEffect P s x) < liveCount P s
+  effect-falls F e (Removes i b) o = remove-falls F i b o
+  effect-falls F e (Eliminates i) h = let x = e i h in eliminate-falls F i (x .0) (x .1)
+
 -- ---- by either rulebook
 
 module _ (book : Rulebook) (P : Problem) where
-  -- "Each step uses up at least one setting that was on", where no item in is without one
-  holds-by-falls : {s : State} → Fits P s → NoneEmpty P s → (r : Record) → T (holdsBy book P s r) → liveCount P (after P s r) < liveCount P s
-  unfolding after holdsBy
-  holds-by-falls F e (Unsupported i b k) t = remove-falls P F i b (unsupported-iff F i b k .0 t .0)
-  holds-by-falls F e (Snake i v) t = eliminate-falls P F i v (snake-iff F i v .0 t .0)
-  holds-by-falls F e (Triangle i j) t = let x = e i (triangle-iff F i j .0 t .0) in eliminate-falls P F i (x .0) (x .1)
-  holds-by-falls F e (Neighbourhood i b a) t = remove-falls P F i b (neighbourhood-iff F i b a .0 t .0)
-  holds-by-falls F e (SnakeSubstitution i b a) t = remove-falls P F i b (snakeSubstitution-iff F (book .spares) i b a .0 t .0)
+  -- a step whose rule holds has something to do
+  pub holds-by-present : {s : State} → Fits P s → (r : Record) → T (holdsBy book P s r) → Present s (effectOf r)
+  unfolding holdsBy
+  holds-by-present F (Unsupported i b k) t = unsupported-iff F i b k .0 t .0
+  holds-by-present F (Snake i v) t = F .live-active i v (snake-iff F i v .0 t .0)
+  holds-by-present F (Triangle i j) t = triangle-iff F i j .0 t .0
+  holds-by-present F (Neighbourhood i b a) t = neighbourhood-iff F i b a .0 t .0
+  holds-by-present F (SnakeSubstitution i b a) t = snakeSubstitution-iff F (book .spares) i b a .0 t .0
 
   pub lawful-by-iff : (s : State) (r : Record) → T (lawfulBy book P s r) ↔ (T (noneEmpty P s) × T (holdsBy book P s r))
   unfolding lawfulBy
   lawful-by-iff s r = and-iff (noneEmpty P s) (holdsBy book P s r)
 
+  -- "Each step uses up at least one setting that was on", where no item in is without one
   pub step-by-falls : {s : State} → Fits P s → (r : Record) → T (lawfulBy book P s r) → liveCount P (after P s r) < liveCount P s
-  step-by-falls {s} F r t = let x = lawful-by-iff s r .0 t in holds-by-falls F (noneEmpty-iff F .0 (x .0)) r (x .1)
+  unfolding after
+  step-by-falls {s} F r t = let x = lawful-by-iff s r .0 t in effect-falls P F (noneEmpty-iff F .0 (x .0)) (effectOf r) (holds-by-present F r (x .1))
 
   pub trace-by-iff : (s : State) (r : Record) (t : List Record)
       → T (lawfulTraceBy book P s (r ∷ t)) ↔ (T (lawfulBy book P s r) × T (lawfulTraceBy book P (after P s r) t))
@@ -91,6 +106,9 @@ module _ (book : Rulebook) (P : Problem) where
 module _ (P : Problem) where
   pub lawful-iff : (s : State) (r : Record) → T (lawful P s r) ↔ (T (noneEmpty P s) × T (holds P s r))
   lawful-iff = lawful-by-iff inForce P
+
+  pub holds-present : {s : State} → Fits P s → (r : Record) → T (holds P s r) → Present s (effectOf r)
+  holds-present = holds-by-present inForce P
 
   pub step-falls : {s : State} → Fits P s → (r : Record) → T (lawful P s r) → liveCount P (after P s r) < liveCount P s
   step-falls = step-by-falls inForce P

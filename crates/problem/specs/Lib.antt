@@ -1,5 +1,6 @@
 pub mod Problem
 pub mod Rulebook
+pub mod Record
 pub mod Reduce
 pub mod Manual
 pub mod Extend

@@ -4,6 +4,9 @@ use mathlib.Core.Logic.{_≢_, _↔_}
 use Prim.Native.Nat.{ℕ}
 use Rattle.problem.specs.Problem.{Problem, State}
 use Rattle.problem.specs.Sentences.{Active, Live, Allowed}
+use Rattle.problem.specs.Record.{effectOf}
+use Rattle.problem.specs.declared.Effect.{Effect}
+use Rattle.problem.specs.declared.Effect.the-variants.{Removes, Eliminates}
 use Rattle.problem.specs.declared.Record.{Record}
 use Rattle.problem.specs.declared.Record.the-variants.{Unsupported, Snake, Triangle, Neighbourhood, SnakeSubstitution}
 
@@ -114,10 +117,10 @@ pub record ValueEliminated (s : State) (i b : ℕ) (q : State) : Type 0 where
   pub domain : (w : ℕ) → Live q i w ↔ (Live s i w × (w ≢ b))
   pub domains : (j w : ℕ) → j ≢ i → Live q j w ↔ Live s j w
 
--- kinds 1, 4 and 5 eliminate the value b, and kinds 2 and 3 the variable x_i
+-- what a step is published to do: to eliminate the value, or the variable
+abbrev pub EffectPublished : Problem → State → Effect → State → Type 0
+EffectPublished P s (Removes i b) q = ValueEliminated s i b q
+EffectPublished P s (Eliminates i) q = VariableEliminated P s i q
+
 abbrev pub StepPublished : Problem → State → Record → State → Type 0
-StepPublished P s (Unsupported i b k) q = ValueEliminated s i b q
-StepPublished P s (Snake i v) q = VariableEliminated P s i q
-StepPublished P s (Triangle i j) q = VariableEliminated P s i q
-StepPublished P s (Neighbourhood i b a) q = ValueEliminated s i b q
-StepPublished P s (SnakeSubstitution i b a) q = ValueEliminated s i b q
+StepPublished P s r q = EffectPublished P s (effectOf r) q

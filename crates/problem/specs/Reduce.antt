@@ -6,8 +6,11 @@ use Prim.Native.Nat.{ℕ, zero, suc}
 use Rattle.bounded.specs.Bounded.{anyBelow}
 use Rattle.problem.specs.Problem.{Problem, State, noneEmpty, unsupported, snake, triangle, neighbourhood, snakeSubstitution, firstBreak, coverAsked, remove, eliminate, liveCount}
 use Rattle.problem.specs.Rulebook.{Rulebook, inForce}
+use Rattle.problem.specs.Record.{effectOf}
 use Rattle.problem.specs.declared.Record.{Record}
 use Rattle.problem.specs.declared.Record.the-variants.{Unsupported, Snake, Triangle, Neighbourhood, SnakeSubstitution}
+use Rattle.problem.specs.declared.Effect.{Effect}
+use Rattle.problem.specs.declared.Effect.the-variants.{Removes, Eliminates}
 use Rattle.problem.specs.declared.Break.{Break}
 use Rattle.problem.specs.declared.Break.the-variants.{Nowhere}
 use Rattle.problem.specs.declared.Next.{Next}
@@ -16,14 +19,6 @@ use Rattle.problem.specs.declared.End.{End}
 use Rattle.problem.specs.declared.End.the-variants.{Impossible, Solved, Rest}
 
 -- ---- one record
-
--- the kind of a record, as the table of the rules numbers it
-abbrev pub kindOf : Record → ℕ
-kindOf (Unsupported i b k) = 1
-kindOf (Snake i v) = 2
-kindOf (Triangle i j) = 3
-kindOf (Neighbourhood i b a) = 4
-kindOf (SnakeSubstitution i b a) = 5
 
 -- the rule of the record's kind holds for its fields
 unfoldable pub holdsBy : (book : Rulebook) → Problem → State → Record → Bool
@@ -52,13 +47,14 @@ brokenCover P s (Snake i v) = Nowhere
 brokenCover P s (Triangle i j) = Nowhere
 brokenCover P s (SnakeSubstitution i b a) = Nowhere
 
+-- the state after a step that does this
+abbrev pub afterEffect : Problem → State → Effect → State
+afterEffect P s (Removes i b) = remove P s i b
+afterEffect P s (Eliminates i) = eliminate P s i
+
 -- the state after the step
 unfoldable pub after : Problem → State → Record → State
-after P s (Unsupported i b k) = remove P s i b
-after P s (Snake i v) = eliminate P s i
-after P s (Triangle i j) = eliminate P s i
-after P s (Neighbourhood i b a) = remove P s i b
-after P s (SnakeSubstitution i b a) = remove P s i b
+after P s r = afterEffect P s (effectOf r)
 
 -- ---- a trace
 
@@ -116,14 +112,15 @@ module _ (book : Rulebook) (P : Problem) (s : State) where
   nextSnakeSubstitutionBy =
       first (P .n) (λ i. first (P .size i) (λ b. first (P .size i) (λ a. stepIf (snakeSubstitution P s (book .spares) i b a) (SnakeSubstitution i b a))))
 
-  -- the kinds in their order
+  -- the kinds in their order; no step is of another number
   unfoldable pub nextOfKindBy : ℕ → Next
   nextOfKindBy zero = Nothing
   nextOfKindBy (suc zero) = nextUnsupported P s
   nextOfKindBy (suc (suc zero)) = nextSnake P s
   nextOfKindBy (suc (suc (suc zero))) = nextTriangle P s
   nextOfKindBy (suc (suc (suc (suc zero)))) = nextNeighbourhood P s
-  nextOfKindBy (suc (suc (suc (suc (suc k))))) = nextSnakeSubstitutionBy
+  nextOfKindBy (suc (suc (suc (suc (suc zero))))) = nextSnakeSubstitutionBy
+  nextOfKindBy (suc (suc (suc (suc (suc (suc k)))))) = Nothing
 
   unfoldable pub nextBy : Next
   nextBy = elim (noneEmpty P s) [ true ↦ first kindBound nextOfKindBy | false ↦ Nothing ]

@@ -14,12 +14,12 @@ use Rattle.problem.specs.Held.{held, RowTable}
 use Rattle.problem.specs.Masks.{stateOf, masksOf}
 use Rattle.problem.specs.declared.Masks.{Masks}
 use Rattle.problem.specs.declared.Record.{Record}
-use Rattle.problem.specs.declared.Record.the-variants.{Unsupported, Snake, Triangle, Neighbourhood, SnakeSubstitution}
 use Rattle.problem.specs.declared.Next.the-variants.{Step, Nothing}
 use Rattle.problem.proofs.Reflect.{full-fits, noneEmpty-iff}
 use Rattle.problem.specs.Sentences.{Fits}
-use Rattle.problem.proofs.HeldTable.{held-bounded}
+use Rattle.problem.proofs.HeldTable.{held-few, held-narrow, held-bounded}
 use Rattle.problem.proofs.Trace.{after-fits, lawful-iff, step-falls, trace-iff, trace-falls}
+use Rattle.problem.proofs.Least.{holds-below}
 use Rattle.problem.proofs.Count.{full-count}
 use Rattle.problem.proofs.Run.{next-lawful, run-step, run-stop, run-enough}
 use Rattle.problem.proofs.Bridge.{masks-back}
@@ -31,9 +31,8 @@ use Rattle.trace.specs.Written.{written, Small}
 use Rattle.trace.proofs.Written.{fronted-more, length-fronted}
 use Rattle.trace.proofs.Back.{trace-more, record-most}
 use Rattle.held.specs.Ready.{Ready}
-use Rattle.steps.specs.Steps.{Within}
 use Rattle.held.proofs.Full.{full-ready, full-says}
-use Rattle.steps.proofs.States.{after-state, after-ready, holds-within}
+use Rattle.steps.proofs.States.{after-state, after-ready}
 
 -- ---- the run, one step at a time
 
@@ -135,8 +134,9 @@ module _ (t d : List ℕ) where
       pub step-counts : steps < length b
       step-counts = omega (arith, falls, few, W .long, same-length)
 
-      pub record-within : Within r
-      record-within = holds-within (W .ready) r (lawful-iff (held t) (stateOf m) r .0 holds-here .1)
+      -- its fields fit a byte
+      pub record-small : Small r
+      record-small = holds-below (W .ready .fits) 256 (omega (arith, held-few t)) (λ i. omega (arith, held-narrow (W .ready .table) i)) r (lawful-iff (held t) (stateOf m) r .0 holds-here .1)
 
       pub running-next : Running t d (written b at (recordBytes r)) (masksOf (after (held t) (stateOf m) r)) (at + length (recordBytes r)) (steps + 1)
       running-next =
@@ -189,11 +189,3 @@ module _ (t d : List ℕ) where
       pub done-answer : (d₀ : List ℕ) → record { outcome = Done (endOf (held t) (stateOf m)) steps at; state = m } ≡ (runDone (held t) d₀) .answer
       unfolding runDone
       done-answer d₀ = λ i. record { outcome = Done (done-end i) (done-count i) (done-place i); state = done-state i }
-
--- fields below 32 fit a byte
-pub within-small : (r : Record) → Within r → Small r
-within-small (Unsupported i b k) h = (omega arith, (omega arith, omega arith))
-within-small (Snake i v) h = (omega arith, omega arith)
-within-small (Triangle i j) h = (omega arith, omega arith)
-within-small (Neighbourhood i b a) h = (omega arith, (omega arith, omega arith))
-within-small (SnakeSubstitution i b a) h = (omega arith, (omega arith, omega arith))

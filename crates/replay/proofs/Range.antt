@@ -8,15 +8,15 @@ use lib.Dec.{ltb}
 use borrow.Author.Tests.{ltb-true}
 use Rattle.bounded.proofs.Truth.{T-of, T-not, T-false, both, and-iff, ltb-iff}
 use Rattle.problem.specs.Problem.{Problem, State, noneEmpty, unsupported, snake, triangle, neighbourhood, snakeSubstitution, slideSpares, coverAsked}
-use Rattle.problem.specs.Reduce.{holdsBy, holds, lawfulBy, lawful, after}
+use Rattle.problem.specs.Reduce.{holds, lawfulBy, lawful, after}
 use Rattle.problem.specs.Held.{held}
 use Rattle.problem.specs.Masks.{stateOf, masksOf}
 use Rattle.problem.specs.declared.Masks.{Masks}
 use Rattle.problem.specs.declared.Record.{Record}
-use Rattle.problem.specs.declared.Record.the-variants.{Unsupported, Snake, Triangle, Neighbourhood, SnakeSubstitution}
+use Rattle.problem.proofs.Reflect.{unsupported-iff, snake-iff, triangle-iff, neighbourhood-iff, snakeSubstitution-iff}
 use Rattle.held.specs.Ready.{Ready, Value}
 use Rattle.held.proofs.Laws.{live-value, active-32}
-use Rattle.steps.proofs.States.{after-state, after-ready, holds-within}
+use Rattle.steps.proofs.States.{after-state, after-ready, live-within}
 
 -- two and three tests of range
 pub range2 : (i m j n : ℕ) → (ltb i m && ltb j n) ≡ true → (i < m) × (j < n)
@@ -38,24 +38,19 @@ module _ {t : List ℕ} {m : Masks} (R : Ready t m) where
   -- ---- out of range no rule holds
 
   pub unsupported-out : (i b k : ℕ) → (ltb i 32 && (ltb b 16 && ltb k 32)) ≡ false → unsupported (held t) (stateOf m) i b k ≡ false
-  unfolding holdsBy
-  unsupported-out i b k e = T-false _ (λ h. out3 i 32 b 16 k 32 e (holds-within R (Unsupported i b k) h))
+  unsupported-out i b k e = T-false _ (λ h. out3 i 32 b 16 k 32 e (let x = unsupported-iff (R .fits) i b k .0 h in let y = live-within R i b (x .0) in (y .0, (y .1, active-32 R k (x .1)))))
 
   pub snake-out : (i v : ℕ) → (ltb i 32 && ltb v 16) ≡ false → snake (held t) (stateOf m) i v ≡ false
-  unfolding holdsBy
-  snake-out i v e = T-false _ (λ h. out2 i 32 v 16 e (holds-within R (Snake i v) h))
+  snake-out i v e = T-false _ (λ h. out2 i 32 v 16 e (live-within R i v (snake-iff (R .fits) i v .0 h .0)))
 
   pub triangle-out : (i j : ℕ) → (ltb i 32 && ltb j 32) ≡ false → triangle (held t) (stateOf m) i j ≡ false
-  unfolding holdsBy
-  triangle-out i j e = T-false _ (λ h. out2 i 32 j 32 e (holds-within R (Triangle i j) h))
+  triangle-out i j e = T-false _ (λ h. out2 i 32 j 32 e (let x = triangle-iff (R .fits) i j .0 h in (active-32 R i (x .0), active-32 R j (x .1 .0))))
 
   pub neighbourhood-out : (i b a : ℕ) → (ltb i 32 && (ltb b 16 && ltb a 16)) ≡ false → neighbourhood (held t) (stateOf m) i b a ≡ false
-  unfolding holdsBy
-  neighbourhood-out i b a e = T-false _ (λ h. out3 i 32 b 16 a 16 e (holds-within R (Neighbourhood i b a) h))
+  neighbourhood-out i b a e = T-false _ (λ h. out3 i 32 b 16 a 16 e (let x = neighbourhood-iff (R .fits) i b a .0 h in let y = live-within R i b (x .0) in (y .0, (y .1, live-within R i a (x .1 .0) .1))))
 
   pub slide-out : (i b a : ℕ) → (ltb i 32 && (ltb b 16 && ltb a 16)) ≡ false → snakeSubstitution (held t) (stateOf m) slideSpares i b a ≡ false
-  unfolding holdsBy
-  slide-out i b a e = T-false _ (λ h. out3 i 32 b 16 a 16 e (holds-within R (SnakeSubstitution i b a) h))
+  slide-out i b a e = T-false _ (λ h. out3 i 32 b 16 a 16 e (let x = snakeSubstitution-iff (R .fits) slideSpares i b a .0 h in let y = live-within R i b (x .0) in (y .0, (y .1, live-within R i a (x .1 .0) .1))))
 
   -- ---- what is named of a record
 

@@ -1,21 +1,18 @@
 -- The records of a trace are read back, and one that is read fits bytes. Assumes nothing.
 use mathlib.Core.Path.{_≡_, refl, sym, ap, subst, _∙_}
-use mathlib.Core.Bool.{true, false}
 use mathlib.Core.List.{List, [], _∷_, _++_, append-assoc}
-use mathlib.Core.Logic.{_⊎_, ⊎-elim}
+use mathlib.Core.Logic.{inl, inr}
 use Prim.Native.Nat.{ℕ, zero, suc, _+_, _<_}
 use native.Mathlib.Omega.{arith}
-use lib.Dec.{ltb}
-use lib.ListN.{length, drop, length-append}
-use borrow.Author.Tests.{ltb-true, ltb-false}
-use Rattle.bounded.proofs.Truth.{split}
+use lib.ListN.{length, drop, getD, length-append}
 use Rattle.sheet.specs.Bytes.{byteAt}
 use Rattle.problem.specs.declared.Record.{Record}
-use Rattle.trace.specs.Trace.{recordBytes, recordsBytes, traceBytes, fronted, recordOf, isWhole, recordAt}
+use Rattle.problem.proofs.Apart.{Made, record-made}
+use Rattle.trace.specs.Trace.{recordBytes, recordsBytes, traceBytes, fronted, recordAt}
 use Rattle.trace.specs.declared.RecordRead.{RecordRead}
 use Rattle.trace.specs.declared.RecordRead.the-variants.{Read, End, Malformed}
 use Rattle.trace.specs.Written.{Small}
-use Rattle.trace.proofs.Read.{at-end, at-broken, at-whole}
+use Rattle.trace.proofs.Read.{read-from}
 use Rattle.trace.proofs.Back.{record-back}
 use Rattle.report.specs.Records.{withRead, recordsIn}
 
@@ -63,30 +60,11 @@ trace-read t d = records-back t (1 ∷ []) (drop (length (1 ∷ recordsBytes t))
 
 -- ---- the fields of a record that is read
 
-of-small : (k i x y : ℕ) → i < 256 → x < 256 → y < 256 → Small (recordOf k i x y)
-of-small zero i x y a b c = (a, (b, c))
-of-small (suc zero) i x y a b c = (a, (b, c))
-of-small (suc (suc zero)) i x y a b c = (a, b)
-of-small (suc (suc (suc zero))) i x y a b c = (a, b)
-of-small (suc (suc (suc (suc zero)))) i x y a b c = (a, (b, c))
-of-small (suc (suc (suc (suc (suc k))))) i x y a b c = (a, (b, c))
+made-small : (k i x y : ℕ) (r : Record) → Made k i x y r → i < 256 → x < 256 → y < 256 → Small r
+made-small k i x y r (e, inl f) a b c = subst (λ (l : List ℕ). (getD l 0 0 < 256) × (getD l 1 0 < 256) × (getD l 2 0 < 256)) (sym f) (a, b, omega arith)
+made-small k i x y r (e, inr f) a b c = subst (λ (l : List ℕ). (getD l 0 0 < 256) × (getD l 1 0 < 256) × (getD l 2 0 < 256)) (sym f) (a, b, c)
 
 module _ (s : List ℕ) (bytes : (k : ℕ) → byteAt s k < 256) (p : ℕ) (r : Record) (q : ℕ) (e : recordAt s p ≡ Read r q) where
   -- they are bytes of the trace
   pub read-small : Small r
-  read-small = ⊎-elim inside beyond (split (ltb p (length s)))
-    where
-      beyond : ltb p (length s) ≡ false → Small r
-      beyond f = let a = at-end s p (ltb-false _ _ f) in let z : _≡_ {A = ℕ} 0 1 = cc in absurd (omega arith)
-
-      whole : ltb p (length s) ≡ true → isWhole s p ≡ true → Small r
-      whole f w =
-          let a = at-whole s p (ltb-true _ _ f) w in
-          let x : recordOf (byteAt s (p + 1)) (byteAt s (p + 2)) (byteAt s (p + 3)) (byteAt s (p + 4)) ≡ r = cc in
-          subst Small x (of-small (byteAt s (p + 1)) (byteAt s (p + 2)) (byteAt s (p + 3)) (byteAt s (p + 4)) (bytes (p + 2)) (bytes (p + 3)) (bytes (p + 4)))
-
-      broken : ltb p (length s) ≡ true → isWhole s p ≡ false → Small r
-      broken f w = let a = at-broken s p (ltb-true _ _ f) (λ x. let z : true ≡ false = sym x ∙ w in let y : _≡_ {A = ℕ} 0 1 = cc in omega arith) in let z : _≡_ {A = ℕ} 0 1 = cc in absurd (omega arith)
-
-      inside : ltb p (length s) ≡ true → Small r
-      inside f = ⊎-elim (whole f) (broken f) (split (isWhole s p))
+  read-small = made-small _ _ _ _ r (record-made _ _ _ _ r (read-from s p r q e .made)) (bytes (p + 2)) (bytes (p + 3)) (bytes (p + 4))

@@ -12,7 +12,7 @@ use Rattle.problem.specs.Held.{Bounded}
 use Rattle.problem.specs.Masks.{stateOf, masksOf}
 use Rattle.problem.specs.Extend.{undoTrace}
 use Rattle.problem.specs.declared.Record.{Record}
-use Rattle.problem.specs.declared.Record.the-variants.{Unsupported, Snake, Triangle, Neighbourhood, SnakeSubstitution}
+use Rattle.problem.proofs.Apart.{fields-few}
 use Rattle.problem.proofs.Reflect.{full-fits}
 use Rattle.problem.proofs.Published.{holds-published, run-published}
 use Rattle.problem.specs.Published.{Published}
@@ -34,17 +34,10 @@ use Rattle.run.proofs.Opened.{run-accepted-over, run-kept}
 
 -- ---- a trace's length
 
-record-length : (r : Record) → length (recordBytes r) ≤ 5
-record-length (Unsupported i b k) = omega arith
-record-length (Snake i v) = omega arith
-record-length (Triangle i j) = omega arith
-record-length (Neighbourhood i b a) = omega arith
-record-length (SnakeSubstitution i b a) = omega arith
-
 records-length : (t : List Record) → length (recordsBytes t) ≤ 5 * length t
 unfolding recordsBytes
 records-length [] = omega arith
-records-length (r ∷ t) = omega (arith, length-append (recordBytes r) (recordsBytes t), record-length r, records-length t)
+records-length (r ∷ t) = omega (arith, length-append (recordBytes r) (recordsBytes t), fields-few r, records-length t)
 
 pub trace-length : (t : List Record) → length (traceBytes t) ≤ 1 + 5 * length t
 unfolding traceBytes

@@ -8,16 +8,19 @@ use lib.Dec.{T}
 use Rattle.bounded.specs.Mask.{bit}
 use Rattle.bounded.proofs.Truth.{T-true}
 use Rattle.problem.specs.Problem.{Problem, State, noneEmpty, slideSpares, remove, eliminate}
-use Rattle.problem.specs.Reduce.{kindOf, holdsBy, holds, after, next}
+use Rattle.problem.specs.Reduce.{holdsBy, holds, afterEffect, after, next}
+use Rattle.problem.specs.Record.{kindOf, effectOf}
 use Rattle.problem.specs.Held.{held}
 use Rattle.problem.specs.Masks.{stateOf, masksOf}
 use Rattle.problem.specs.declared.Masks.{Masks}
+use Rattle.problem.specs.declared.Effect.{Effect}
+use Rattle.problem.specs.declared.Effect.the-variants.{Removes, Eliminates}
 use Rattle.problem.specs.declared.Record.{Record}
 use Rattle.problem.specs.declared.Record.the-variants.{Unsupported, Snake, Triangle, Neighbourhood, SnakeSubstitution}
 use Rattle.problem.specs.declared.Next.the-variants.{Step}
 use Rattle.problem.proofs.Reflect.{unsupported-iff, snake-iff, triangle-iff, neighbourhood-iff, snakeSubstitution-iff, eliminate-active, eliminate-live, remove-fits, eliminate-fits}
 use Rattle.problem.specs.Sentences.{Active, Live, Fits, ArcConsistent}
-use Rattle.problem.proofs.Trace.{lawful-iff}
+use Rattle.problem.proofs.Trace.{Present, lawful-iff, holds-present}
 use Rattle.problem.proofs.Run.{next-lawful}
 use Rattle.memory.specs.Memory.{Remembered, Woken}
 use Rattle.memory.proofs.Changes.{remove-below, eliminate-below, eliminate-keeps, cover-arc, later-arc}
@@ -27,7 +30,7 @@ use Rattle.held.proofs.Laws.{live-value, active-32}
 use Rattle.steps.proofs.States.{after-state}
 use Rattle.unsupported.specs.Bare.{Bare, Mended}
 use Rattle.unsupported.proofs.Bare.{bare-mended, bare-below}
-use Rattle.search.specs.Known.{ValueWoken, Mendable, MendedBy}
+use Rattle.search.specs.Known.{ValueWoken, EffectMendable, Mendable, MendedBy}
 
 module _ {P : Problem} {s : State} (F : Fits P s) where
   -- where every value has its supports, it has them at the variables that are left
@@ -76,18 +79,12 @@ module _ {P : Problem} {s : State} (F : Fits P s) (r : Record) (e : next P s ≡
 
 -- the fields of a record whose rule holds, in the state after its step
 module _ {t : List ℕ} {m : Masks} (R : Ready t m) where
-  remove-mendable : (i b : ℕ) → Live (stateOf m) i b → stateOf (masksOf (remove (held t) (stateOf m) i b)) ≡ remove (held t) (stateOf m) i b
-      → Value t i b × (bit (masksOf (remove (held t) (stateOf m) i b) .active) i ≡ true)
+  present-mendable : (x : Effect) → Present (stateOf m) x → stateOf (masksOf (afterEffect (held t) (stateOf m) x)) ≡ afterEffect (held t) (stateOf m) x
+      → EffectMendable t (masksOf (afterEffect (held t) (stateOf m) x)) x
   unfolding stateOf remove
-  remove-mendable i b o e = (live-value R i b o, T-true _ (subst (λ (s : State). Active s i) (sym e) (R .fits .live-active i b o)))
+  present-mendable (Removes i b) o e = (live-value R i b o, T-true _ (subst (λ (s : State). Active s i) (sym e) (R .fits .live-active i b o)))
+  present-mendable (Eliminates i) h e = active-32 R i h
 
   pub holds-mendable : (r : Record) → T (holds (held t) (stateOf m) r) → Mendable t (masksOf (after (held t) (stateOf m) r)) r
-  unfolding after holdsBy
-  holds-mendable r h = by r h (after-state R r)
-    where
-      by : (r : Record) → T (holds (held t) (stateOf m) r) → stateOf (masksOf (after (held t) (stateOf m) r)) ≡ after (held t) (stateOf m) r → Mendable t (masksOf (after (held t) (stateOf m) r)) r
-      by (Unsupported i b k) h e = remove-mendable i b (unsupported-iff (R .fits) i b k .0 h .0) e
-      by (Snake i v) h e = live-value R i v (snake-iff (R .fits) i v .0 h .0) .variable
-      by (Triangle i j) h e = active-32 R i (triangle-iff (R .fits) i j .0 h .0)
-      by (Neighbourhood i b a) h e = remove-mendable i b (neighbourhood-iff (R .fits) i b a .0 h .0) e
-      by (SnakeSubstitution i b a) h e = remove-mendable i b (snakeSubstitution-iff (R .fits) slideSpares i b a .0 h .0) e
+  unfolding after
+  holds-mendable r h = present-mendable (effectOf r) (holds-present (held t) (R .fits) r h) (after-state R r)

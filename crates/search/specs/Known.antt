@@ -6,6 +6,9 @@ use Prim.Native.Nat.{ℕ, _<_}
 use Rattle.bounded.specs.Mask.{bit}
 use Rattle.problem.specs.Problem.{Problem, State}
 use Rattle.problem.specs.declared.Masks.{Masks}
+use Rattle.problem.specs.Record.{effectOf}
+use Rattle.problem.specs.declared.Effect.{Effect}
+use Rattle.problem.specs.declared.Effect.the-variants.{Removes, Eliminates}
 use Rattle.problem.specs.declared.Record.{Record}
 use Rattle.problem.specs.declared.Record.the-variants.{Unsupported, Snake, Triangle, Neighbourhood, SnakeSubstitution}
 use Rattle.memory.specs.Memory.{Woken, FoldsWoken}
@@ -18,13 +21,13 @@ pub record ValueWoken (i b : ℕ) (p w q x : List ℕ) : Type 0 where
   pub folds : FoldsWoken i b p w middle
   pub woken : Woken i middle w q x
 
--- what the fields of a record are, in the state m after its step: a value that was listed of a variable that is active still, or a variable
+-- in the state m after a step: a value that it removed was listed, of a variable that is active still; or a variable that it eliminated
+abbrev pub EffectMendable : (t : List ℕ) (m : Masks) → Effect → Type 0
+EffectMendable t m (Removes i b) = Value t i b × (bit (m .active) i ≡ true)
+EffectMendable t m (Eliminates i) = i < 32
+
 abbrev pub Mendable : (t : List ℕ) (m : Masks) → Record → Type 0
-Mendable t m (Unsupported i b k) = Value t i b × (bit (m .active) i ≡ true)
-Mendable t m (Snake i v) = i < 32
-Mendable t m (Triangle i j) = i < 32
-Mendable t m (Neighbourhood i b a) = Value t i b × (bit (m .active) i ≡ true)
-Mendable t m (SnakeSubstitution i b a) = Value t i b × (bit (m .active) i ≡ true)
+Mendable t m r = EffectMendable t m (effectOf r)
 
 -- the bare values c and d, before and after, and the memory, in the state s after the step. A cover leaves no value bare, and neither does a
 -- variable that is eliminated where every value has its supports.

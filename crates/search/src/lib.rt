@@ -2,7 +2,7 @@
 // state that it leads to.
 ghost use mathlib.Core.Path.{_≡_};
 ghost use mathlib.Core.Bool.{true};
-ghost use Prim.Native.Nat.{_<_, _≤_};
+ghost use Prim.Native.Nat.{_<_};
 ghost use lib.ListN.{length};
 ghost use Rattle.bounded.specs.Mask.{bit};
 ghost use Rattle.problem.specs.Problem.{noneEmpty};
@@ -28,7 +28,7 @@ use triangle::next_triangle;
 use unsupported::mend_bare;
 use unsupported::next_unsupported;
 
-// The lowest step of a kind.
+// The lowest step of a kind; of a number that no kind has, none.
 fn next_of_kind(
     t: &[u16],
     active: u32,
@@ -38,7 +38,7 @@ fn next_of_kind(
     waiting: &mut [u16; 6144],
     kind: usize,
 ) -> Next
-    requires { ⌜ Ready (now t) (sets active (now on)) × Bare (held (now t)) (stateOf (sets active (now on))) (now bare) × Remembered (held (now t)) (stateOf (sets active (now on))) (now pending) (now waiting) × (noneEmpty (held (now t)) (stateOf (sets active (now on))) ≡ true) × (1 ≤ kind) × (kind ≤ 5) ⌝ }
+    requires { ⌜ Ready (now t) (sets active (now on)) × Bare (held (now t)) (stateOf (sets active (now on))) (now bare) × Remembered (held (now t)) (stateOf (sets active (now on))) (now pending) (now waiting) × (noneEmpty (held (now t)) (stateOf (sets active (now on))) ≡ true) ⌝ }
     ensures is { λ r. ⌜ r ≡ nextOfKind (held (now (t .entry))) (stateOf (sets active (now (on .entry)))) kind ⌝ }
     ensures remembers { λ _. ⌜ Remembered (held (now (t .entry))) (stateOf (sets active (now (on .entry)))) (now (pending .exit)) (now (waiting .exit)) ⌝ }
 {
@@ -47,7 +47,8 @@ fn next_of_kind(
         2 => next_snake(t, active, on, pending, waiting),
         3 => next_triangle(t, active, on, pending, waiting),
         4 => next_neighbourhood(t, active, on, pending, waiting),
-        _ => next_substitution(t, active, on, pending, waiting),
+        5 => next_substitution(t, active, on, pending, waiting),
+        _ => Next::Nothing,
     }
 }
 

@@ -1,12 +1,14 @@
--- The records that name variables and values that a table can hold.
+-- The records whose steps a table can hold.
 use Prim.Native.Nat.{_<_}
+use Rattle.problem.specs.Record.{effectOf}
+use Rattle.problem.specs.declared.Effect.{Effect}
+use Rattle.problem.specs.declared.Effect.the-variants.{Removes, Eliminates}
 use Rattle.problem.specs.declared.Record.{Record}
-use Rattle.problem.specs.declared.Record.the-variants.{Unsupported, Snake, Triangle, Neighbourhood, SnakeSubstitution}
 
--- each variable of the record is below 32, and each value below 16
+-- the variable is below 32, and a value that is removed below 16
+abbrev pub EffectWithin : Effect → Type 0
+EffectWithin (Removes i b) = (i < 32) × (b < 16)
+EffectWithin (Eliminates i) = i < 32
+
 abbrev pub Within : Record → Type 0
-Within (Unsupported i b k) = (i < 32) × ((b < 16) × (k < 32))
-Within (Snake i v) = (i < 32) × (v < 16)
-Within (Triangle i j) = (i < 32) × (j < 32)
-Within (Neighbourhood i b a) = (i < 32) × ((b < 16) × (a < 16))
-Within (SnakeSubstitution i b a) = (i < 32) × ((b < 16) × (a < 16))
+Within r = EffectWithin (effectOf r)

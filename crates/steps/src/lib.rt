@@ -12,8 +12,10 @@ use bounded::has32;
 use bounded::without16;
 use bounded::without32;
 use held::neighbours;
+use problem::Effect;
 use problem::Masks;
 use problem::Record;
+use problem::effect_of;
 use support::partners;
 
 // ---- a value removed
@@ -64,17 +66,14 @@ pub fn eliminate(t: &[u16], m: Masks, i: usize) -> Masks
 
 // ---- a step
 
-// The state after a step. Kinds 1, 4 and 5 take a value out of a domain; kinds 2 and 3 take a variable out and, in the same step, each
-// value elsewhere that had no support at it.
+// The state after a step: a value taken out of a domain; or a variable taken out and, in the same step, each value elsewhere that had no
+// support at it.
 pub fn apply(t: &[u16], m: Masks, r: Record) -> Masks
     requires { ⌜ Ready (now t) m × Within r ⌝ }
     ensures { λ x. ⌜ x ≡ masksOf (after (held (now (t .entry))) (stateOf m) r) ⌝ }
 {
-    match r {
-        Record::Unsupported(i, b, _) => remove(t, m, i, b),
-        Record::Snake(i, _) => eliminate(t, m, i),
-        Record::Triangle(i, _) => eliminate(t, m, i),
-        Record::Neighbourhood(i, b, _) => remove(t, m, i, b),
-        Record::SnakeSubstitution(i, b, _) => remove(t, m, i, b),
+    match effect_of(r) {
+        Effect::Removes(i, b) => remove(t, m, i, b),
+        Effect::Eliminates(i) => eliminate(t, m, i),
     }
 }

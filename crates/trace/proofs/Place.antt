@@ -11,7 +11,7 @@ use Rattle.problem.specs.declared.Record.{Record}
 use Rattle.trace.specs.Trace.{recordAt}
 use Rattle.trace.specs.declared.RecordRead.the-variants.{Read}
 use Rattle.trace.specs.Place.{placeAfter}
-use Rattle.trace.proofs.Back.{read-whole}
+use Rattle.trace.proofs.Read.{read-from}
 
 -- the definition over its test
 abbrev picked : List ℕ → ℕ → Bool → ℕ
@@ -35,4 +35,4 @@ module _ (s : List ℕ) (p : ℕ) where
 
   -- a record that is read names the place where a reader moved past it stands
   pub after-read : (r : Record) (q : ℕ) → recordAt s p ≡ Read r q → placeAfter s p ≡ q
-  after-read r q e = let w = read-whole s p r q e in after-whole (w .0) ∙ sym (w .1)
+  after-read r q e = let w = read-from s p r q e in after-whole (w .inside) ∙ sym (w .next)

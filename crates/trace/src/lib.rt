@@ -1,13 +1,15 @@
 // A trace's records: the reader that moves through them, what stands at a place, and one written at a place of a lent buffer.
 ghost use mathlib.Core.Path.{_≡_};
-ghost use mathlib.Core.List.{_∷_, []};
 ghost use Prim.Native.Nat.{_+_, _<_, _≤_};
 ghost use lib.ListN.{length};
 ghost use Rattle.sheet.specs.Bytes.{byteAt};
-ghost use Rattle.trace.specs.Trace.{recordBytes, lengthByte, recordOf, recordAt};
+ghost use Rattle.trace.specs.Trace.{recordBytes, numberedAt, recordAt};
 ghost use Rattle.trace.specs.Written.{written, Small};
 ghost use Rattle.trace.specs.Place.{placeAfter};
+use problem::Numbered;
 use problem::Record;
+use problem::parts_of;
+use problem::record_of;
 
 // What stands at a place of a trace.
 pub enum RecordRead {
@@ -28,40 +30,12 @@ fn byte(s: &[u8], k: usize) -> usize
     0
 }
 
-// The length byte that a kind has; 0 for an unknown kind.
-fn length_byte(kind: usize) -> usize
-    ensures { λ r. ⌜ r ≡ lengthByte kind ⌝ }
+// The record that the bytes after a length byte at p make.
+fn numbered_at(s: &[u8], p: usize) -> Numbered
+    requires { ⌜ p < length (now s) ⌝ }
+    ensures { λ r. ⌜ r ≡ numberedAt (now (s .entry)) p ⌝ }
 {
-    match kind {
-        1 => 4,
-        2 => 3,
-        3 => 3,
-        4 => 4,
-        5 => 4,
-        _ => 0,
-    }
-}
-
-// The record of a kind from the bytes after it; a kind of three bytes has no third field.
-fn record_of(kind: usize, i: usize, x: usize, y: usize) -> Record
-    requires { ⌜ (1 ≤ kind) × (kind ≤ 5) ⌝ }
-    ensures { λ r. ⌜ r ≡ recordOf kind i x y ⌝ }
-{
-    match kind {
-        1 => Record::Unsupported(i, x, y),
-        2 => Record::Snake(i, x),
-        3 => Record::Triangle(i, x),
-        4 => Record::Neighbourhood(i, x, y),
-        _ => Record::SnakeSubstitution(i, x, y),
-    }
-}
-
-// The record of a kind whose length byte stands at p.
-fn record_from(s: &[u8], p: usize, kind: usize) -> Record
-    requires { ⌜ (1 ≤ kind) × ((kind ≤ 5) × (p + 3 < length (now s))) ⌝ }
-    ensures { λ r. ⌜ r ≡ recordOf kind (byteAt (now (s .entry)) (p + 2)) (byteAt (now (s .entry)) (p + 3)) (byteAt (now (s .entry)) (p + 4)) ⌝ }
-{
-    record_of(kind, byte(s, p + 2), byte(s, p + 3), byte(s, p + 4))
+    record_of(byte(s, p + 1), byte(s, p + 2), byte(s, p + 3), byte(s, p + 4))
 }
 
 // What stands at a place of a trace: the end, a whole record with the place after it, or a malformed one.
@@ -76,18 +50,18 @@ pub fn record_at(s: &[u8], at: usize) -> RecordRead
     if s.len() - at <= n {
         return RecordRead::Malformed;
     }
-    // No kind has so short a record, and below this the kind's own byte may be missing.
-    if n < 3 {
-        return RecordRead::Malformed;
-    }
-    let kind = byte(s, at + 1);
-    // An unknown kind has the length byte 0, so it is caught here as well.
-    if n != length_byte(kind) {
-        return RecordRead::Malformed;
-    }
-    RecordRead::Read {
-        record: record_from(s, at, kind),
-        next: at + 1 + n,
+    match numbered_at(s, at) {
+        Numbered::NoKind => RecordRead::Malformed,
+        Numbered::Kind(record) => {
+            // The length byte is wrong for the kind.
+            if n != 1 + parts_of(record).count {
+                return RecordRead::Malformed;
+            }
+            RecordRead::Read {
+                record,
+                next: at + 1 + n,
+            }
+        }
     }
 }
 
@@ -138,41 +112,19 @@ pub fn moved<'a>(r: Reader<'a>) -> Reader<'a>
 
 // ---- writing
 
-// A record of three bytes after its length byte; the place after it.
-fn put_three(out: &mut [u8], at: usize, kind: u8, i: usize, x: usize) -> usize
-    requires { ⌜ (at + 4 ≤ length (now out)) × ((i < 256) × (x < 256)) ⌝ }
-    ensures { λ r. ⌜ (now (out .exit) ≡ written (now (out .entry)) at (3 ∷ kind ∷ i ∷ x ∷ [])) × (r ≡ at + 4) ⌝ }
-{
-    out[at] = 3;
-    out[at + 1] = kind;
-    out[at + 2] = i as u8;
-    out[at + 3] = x as u8;
-    at + 4
-}
-
-// A record of four bytes after its length byte; the place after it.
-fn put_four(out: &mut [u8], at: usize, kind: u8, i: usize, x: usize, y: usize) -> usize
-    requires { ⌜ (at + 5 ≤ length (now out)) × ((i < 256) × ((x < 256) × (y < 256))) ⌝ }
-    ensures { λ r. ⌜ (now (out .exit) ≡ written (now (out .entry)) at (4 ∷ kind ∷ i ∷ x ∷ y ∷ [])) × (r ≡ at + 5) ⌝ }
-{
-    out[at] = 4;
-    out[at + 1] = kind;
-    out[at + 2] = i as u8;
-    out[at + 3] = x as u8;
-    out[at + 4] = y as u8;
-    at + 5
-}
-
 // A record at a place with room for the longest; the place after it.
 pub fn write_record(out: &mut [u8], at: usize, r: Record) -> usize
     requires { ⌜ (at + 5 ≤ length (now out)) × Small r ⌝ }
     ensures { λ q. ⌜ (now (out .exit) ≡ written (now (out .entry)) at (recordBytes r)) × (q ≡ at + length (recordBytes r)) ⌝ }
 {
-    match r {
-        Record::Unsupported(i, b, k) => put_four(out, at, 1, i, b, k),
-        Record::Snake(i, v) => put_three(out, at, 2, i, v),
-        Record::Triangle(i, j) => put_three(out, at, 3, i, j),
-        Record::Neighbourhood(i, b, a) => put_four(out, at, 4, i, b, a),
-        Record::SnakeSubstitution(i, b, a) => put_four(out, at, 5, i, b, a),
+    let parts = parts_of(r);
+    out[at] = (1 + parts.count) as u8;
+    out[at + 1] = parts.kind;
+    out[at + 2] = parts.item as u8;
+    out[at + 3] = parts.third as u8;
+    if parts.count == 2 {
+        return at + 4;
     }
+    out[at + 4] = parts.fourth as u8;
+    at + 5
 }

@@ -1,92 +1,59 @@
--- `fields::put_step_fields`: each kind by itself; its fields are small.
-use mathlib.Core.Path.{subst}
+-- `fields::put_step_fields`: two fields or three, one after the other. Assumes nothing.
+use mathlib.Core.Path.{_≡_, ap, sym, _∙_}
+use mathlib.Core.List.{List, [], _∷_, _++_, append-nil}
+use Prim.Native.Nat.{ℕ, _≤_}
 use native.Mathlib.Omega.{arith}
-use Rattle.trace.specs.Written.{Small}
+use lib.ListN.{length}
+use Rattle.problem.proofs.Apart.{parts-two, parts-three}
+use Rattle.fields.specs.Print.{field, fieldsText}
+use Rattle.trace.proofs.Written.{small-parts}
+use Rattle.fields.proofs.Laws.{same-text, after}
 use borrow.Author.Needs.{needs}
 use Rattle.fields.proofs.put_step_fields.Statement.{statement}
 use Rattle.fields.proofs.put_step_fields.Tie as tie
 
-enum-known-r : tie.Need-enum-known-r
-enum-known-r c = search needs
+two-text : (x y : ℕ) → field x ++ field y ≡ fieldsText (x ∷ y ∷ [])
+unfolding fieldsText
+two-text x y = ap (λ (w : List ℕ). field x ++ w) (sym (append-nil (field y)))
 
-put-three-requires : tie.Need-put-three-requires
-put-three-requires c κs = let w = subst Small (c .before .before .r .given .1) (c .before .before .before .before .before .pre .1) in (omega arith, (omega arith, (omega arith, omega arith)))
-
-enum-known-r-2 : tie.Need-enum-known-r-2
-enum-known-r-2 c = search needs
-
-put-two-requires : tie.Need-put-two-requires
-put-two-requires c κs = let w = subst Small (c .before .before .r2 .given .1) (c .before .before .before .before .before .pre .1) in (omega arith, (omega arith, omega arith))
-
-enum-known-r-3 : tie.Need-enum-known-r-3
-enum-known-r-3 c = search needs
-
-put-two-requires-2 : tie.Need-put-two-requires-2
-put-two-requires-2 c κs = let w = subst Small (c .before .before .r3 .given .1) (c .before .before .before .before .before .pre .1) in (omega arith, (omega arith, omega arith))
-
-enum-known-r-4 : tie.Need-enum-known-r-4
-enum-known-r-4 c = search needs
-
-put-three-requires-2 : tie.Need-put-three-requires-2
-put-three-requires-2 c κs = let w = subst Small (c .before .before .r4 .given .1) (c .before .before .before .before .before .pre .1) in (omega arith, (omega arith, (omega arith, omega arith)))
-
-enum-known-r-5 : tie.Need-enum-known-r-5
-enum-known-r-5 c = search needs
-
-put-three-requires-3 : tie.Need-put-three-requires-3
-put-three-requires-3 c κs = let w = subst Small (c .before .before .r5 .given .1) (c .before .before .before .before .before .pre .1) in (omega arith, (omega arith, (omega arith, omega arith)))
-
-same-length : tie.Need-same-length
-same-length c = search needs
+three-text : (x y z : ℕ) → field x ++ (field y ++ field z) ≡ fieldsText (x ∷ y ∷ z ∷ [])
+unfolding fieldsText
+three-text x y z = ap (λ (w : List ℕ). field x ++ (field y ++ w)) (sym (append-nil (field z)))
 
 returns : tie.Need-returns
-returns c = rw (c .before .before .before .before .before .r .given .1) (c .before .before .put-three .ensures .0, omega arith)
-
-same-length-2 : tie.Need-same-length-2
-same-length-2 c = search needs
+returns c =
+    let w = c .before .before .before .before .before .before .before .before in
+    let a = w .before .before .before .before .args in
+    let p = w .before .before .parts-of in
+    let f = w .put-field in
+    let g = c .before .before .before .before .put-field2 in
+    let room-f : f .result ≤ length (a .out .now) = omega arith in
+    let e = two-text _ _ ∙ ap fieldsText (parts-two (p .result) (a .r) (p .ensures) (c .if1 .taken)) in
+    (same-text _ _ _ _ _ _ e (after _ _ _ _ _ _ _ _ (f .ensures .0) (g .ensures .0) room-f), omega arith)
 
 returns-2 : tie.Need-returns-2
-returns-2 c = rw (c .before .before .before .before .before .r2 .given .1) (c .before .before .put-two .ensures .0, omega arith)
-
-same-length-3 : tie.Need-same-length-3
-same-length-3 c = search needs
-
-returns-3 : tie.Need-returns-3
-returns-3 c = rw (c .before .before .before .before .before .r3 .given .1) (c .before .before .put-two2 .ensures .0, omega arith)
-
-same-length-4 : tie.Need-same-length-4
-same-length-4 c = search needs
-
-returns-4 : tie.Need-returns-4
-returns-4 c = rw (c .before .before .before .before .before .r4 .given .1) (c .before .before .put-three2 .ensures .0, omega arith)
-
-same-length-5 : tie.Need-same-length-5
-same-length-5 c = search needs
-
-returns-5 : tie.Need-returns-5
-returns-5 c = rw (c .before .before .before .before .before .r5 .given .1) (c .before .before .put-three3 .ensures .0, omega arith)
+returns-2 c =
+    let w = c .before .before .before .before .before .before .before .before .before .before .before .before in
+    let a = w .before .before .before .before .args in
+    let p = w .before .before .parts-of in
+    let f = w .put-field in
+    let g = c .before .before .before .before .before .before .before .before .put-field2 in
+    let h = c .before .before .put-field3 in
+    let room-f : f .result ≤ length (a .out .now) = omega arith in
+    let room-g : g .result ≤ length (f .last .0) = omega arith in
+    let e = three-text _ _ _ ∙ ap fieldsText (parts-three (p .result) (a .r) (p .ensures) (λ e. c .before .before .before .before .if1 .left e)) in
+    (same-text _ _ _ _ _ _ e (after _ _ _ _ _ _ _ _ (f .ensures .0) (after _ _ _ _ _ _ _ _ (g .ensures .0) (h .ensures .0) room-g) room-f), omega arith)
 
 pub put-step-fields-spec : {M : Type 1} → statement M
 put-step-fields-spec =
     tie.close
     (tie.spec
-    enum-known-r
-    put-three-requires
-    enum-known-r-2
-    put-two-requires
-    enum-known-r-3
-    put-two-requires-2
-    enum-known-r-4
-    put-three-requires-2
-    enum-known-r-5
-    put-three-requires-3
-    same-length
+    (λ c κs. search needs)
+    (λ c κs. let w = c .before .before .before in let s = small-parts _ (w .args .r) (c .before .parts-of .ensures) (w .pre .1) in (omega arith, omega arith))
+    (λ c κs. let w = c .before .before .before .before .before in let s = small-parts _ (w .before .before .args .r) (w .parts-of .ensures) (w .before .before .pre .1) in (omega arith, omega arith))
+    (λ c. search needs)
     returns
-    same-length-2
-    returns-2
-    same-length-3
-    returns-3
-    same-length-4
-    returns-4
-    same-length-5
-    returns-5)
+    (λ c κs. let w = c .before .before .before .before .before .before .before .before .before .before .before in
+    let s = small-parts _ (w .before .before .args .r) (w .parts-of .ensures) (w .before .before .pre .1) in (omega arith, omega arith))
+    (λ c. search needs)
+    returns-2)

@@ -12,7 +12,7 @@ use Rattle.memory.specs.Memory.{Remembered}
 use Rattle.memory.proofs.Memory.{remembered-fresh}
 use Rattle.unsupported.specs.Bare.{Bare}
 use Rattle.steps.proofs.States.{after-state}
-use Rattle.reduce.proofs.Running.{Running, first-lasts, running-start, running-next, same-length as kept-length, falls, record-room, step-counts, record-within, within-small, done-buffer, done-answer}
+use Rattle.reduce.proofs.Running.{Running, first-lasts, running-start, running-next, same-length as kept-length, falls, record-room, step-counts, record-small, done-buffer, done-answer}
 use Rattle.reduce.proofs.run_table.Statement.{statement}
 use Rattle.reduce.proofs.run_table.Tie as tie
 
@@ -49,7 +49,7 @@ write-record-requires : tie.Need-write-record-requires Inv-loop μ-loop
 write-record-requires c κs =
     let w = c .before .before .before .before .before .before .before .before .before .before .loop in
     let e = sym (c .before .before .before .before .next-step .ensures .0) ∙ c .before .before .r .given .1 in
-    (record-room _ _ _ _ _ _ (w .inv .0) _ e, within-small (c .before .before .r .given .0 .0) (record-within _ _ _ _ _ _ (w .inv .0) _ e))
+    (record-room _ _ _ _ _ _ (w .inv .0) _ e, record-small _ _ _ _ _ _ (w .inv .0) _ e)
 
 advance-requires : tie.Need-advance-requires Inv-loop μ-loop
 advance-requires c κs =

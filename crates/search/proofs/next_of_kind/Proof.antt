@@ -1,8 +1,8 @@
--- `search::next_of_kind`: each kind by itself; of the five, the last is left. Assumes nothing.
-use mathlib.Core.Path.{_≡_}
+-- `search::next_of_kind`: each kind by itself, and the numbers that no kind has. Assumes nothing.
 use native.Mathlib.Omega.{arith}
 use borrow.Author.Needs.{needs}
 use Rattle.problem.specs.Reduce.{nextOfKindBy}
+use Rattle.search.proofs.InOrder.{no-kind-step}
 use Rattle.search.proofs.next_of_kind.Statement.{statement}
 use Rattle.search.proofs.next_of_kind.Tie as tie
 
@@ -39,10 +39,10 @@ returns-4 c = let e = c .next-neighbourhood .ensures in (rw (c .before .before .
 
 returns-5 : tie.Need-returns-5
 unfolding nextOfKindBy
-returns-5 c =
-    let k : c .before .before .before .before .before .args .kind ≡ 5 = omega arith in
-    let e = c .next-substitution .ensures in
-    (rw k (e .0), e .1)
+returns-5 c = let e = c .next-substitution .ensures in (rw (c .before .before .before .match .keys5) (e .0), e .1)
+
+returns-6 : tie.Need-returns-6
+returns-6 c = (no-kind-step _ _ (c .before .before .args .kind) (λ e. omega arith) (λ e. omega arith) (λ e. omega arith) (λ e. omega arith) (λ e. omega arith), c .before .before .pre .2)
 
 pub next-of-kind-spec : {M : Type 1} → statement M
 next-of-kind-spec =
@@ -57,4 +57,5 @@ next-of-kind-spec =
     returns-2
     returns-3
     returns-4
-    returns-5)
+    returns-5
+    returns-6)

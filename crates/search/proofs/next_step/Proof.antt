@@ -30,7 +30,7 @@ next-step-spec =
     (λ c. (sym (next-shut _ _ (sym (c .before .none-empty .ensures) ∙ not-true _ (c .if1 .taken))), c .before .before .before .pre .2))
     (λ c. (omega arith, omega arith, kinds-none _ _, c .before .before .before .pre .2))
     (λ c κs. let w = c .before .before .before .before in let a = c .before .before .before .loop .inv in let q = w .before .before .before .pre in
-    (q .0, q .1, a .3, sym (w .before .none-empty .ensures) ∙ not-false _ (w .if1 .left), a .0, omega arith))
+    (q .0, q .1, a .3, sym (w .before .none-empty .ensures) ∙ not-false _ (w .if1 .left)))
     (λ c κs. search needs)
     (λ c. let w = c .before .before .before .before .before .before in let e = c .before .before .next-of-kind .ensures in (
       sym (next-open _ _ (sym (w .before .before .none-empty .ensures) ∙ not-false _ (w .before .if1 .left))

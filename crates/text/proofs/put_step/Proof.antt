@@ -4,7 +4,6 @@ use native.Mathlib.Omega.{arith}
 use Prim.Native.Nat.{_≤_}
 use lib.ListN.{length}
 use Rattle.fields.proofs.Laws.{after}
-use Rattle.text.proofs.Steps.{step-parts}
 use Rattle.text.proofs.put_step.Statement.{statement}
 use Rattle.text.proofs.put_step.Tie as tie
 
@@ -23,7 +22,7 @@ returns c =
     let w = c .before .before .before .before .before .before .put-step-word in
     let f = c .before .before .put-step-fields in
     let room-w : w .result ≤ length (a .out .now) = omega arith in
-    (rw (step-parts (a .r)) (after _ _ _ _ _ _ _ _ (w .ensures .0) (f .ensures .0) room-w), omega arith)
+    (after _ _ _ _ _ _ _ _ (w .ensures .0) (f .ensures .0) room-w, omega arith)
 
 pub put-step-spec : {M : Type 1} → statement M
 put-step-spec =

@@ -1,92 +1,53 @@
--- `trace::write_record`: each arm's fields are small, and its bytes are the record's.
-use mathlib.Core.Path.{subst}
+-- `trace::write_record`: the stores one after the other are the record, of two fields or of three. Assumes nothing.
+use mathlib.Core.Path.{ap, _∙_}
 use native.Mathlib.Omega.{arith}
-use Rattle.trace.specs.Written.{Small}
+use native.Mathlib.Numerals.{towards-suc}
+use lib.ListN.{length, length-set}
+use Rattle.problem.proofs.Apart.{parts-few}
+use Rattle.trace.specs.Written.{written}
+use Rattle.trace.proofs.Written.{sets-written, small-parts, two-bytes, three-bytes}
 use borrow.Author.Needs.{needs}
 use Rattle.trace.proofs.write_record.Statement.{statement}
 use Rattle.trace.proofs.write_record.Tie as tie
 
-enum-known-r : tie.Need-enum-known-r
-enum-known-r c = search needs
-
-put-four-requires : tie.Need-put-four-requires
-put-four-requires c κs = let w = subst Small (c .before .before .r .given .1) (c .before .before .before .before .before .pre .1) in (omega arith, (omega arith, (omega arith, omega arith)))
-
-enum-known-r-2 : tie.Need-enum-known-r-2
-enum-known-r-2 c = search needs
-
-put-three-requires : tie.Need-put-three-requires
-put-three-requires c κs = let w = subst Small (c .before .before .r2 .given .1) (c .before .before .before .before .before .pre .1) in (omega arith, (omega arith, omega arith))
-
-enum-known-r-3 : tie.Need-enum-known-r-3
-enum-known-r-3 c = search needs
-
-put-three-requires-2 : tie.Need-put-three-requires-2
-put-three-requires-2 c κs = let w = subst Small (c .before .before .r3 .given .1) (c .before .before .before .before .before .pre .1) in (omega arith, (omega arith, omega arith))
-
-enum-known-r-4 : tie.Need-enum-known-r-4
-enum-known-r-4 c = search needs
-
-put-four-requires-2 : tie.Need-put-four-requires-2
-put-four-requires-2 c κs = let w = subst Small (c .before .before .r4 .given .1) (c .before .before .before .before .before .pre .1) in (omega arith, (omega arith, (omega arith, omega arith)))
-
-enum-known-r-5 : tie.Need-enum-known-r-5
-enum-known-r-5 c = search needs
-
-put-four-requires-3 : tie.Need-put-four-requires-3
-put-four-requires-3 c κs = let w = subst Small (c .before .before .r5 .given .1) (c .before .before .before .before .before .pre .1) in (omega arith, (omega arith, (omega arith, omega arith)))
-
-same-length : tie.Need-same-length
-same-length c = search needs
-
 returns : tie.Need-returns
-returns c = rw (c .before .before .before .before .before .r .given .1) (c .before .before .put-four .ensures)
-
-same-length-2 : tie.Need-same-length-2
-same-length-2 c = search needs
+returns c =
+    let w = c .before .before .before .before in
+    let a = w .before .before .before .args in
+    let p = w .before .parts-of in
+    let b = two-bytes (p .result) (a .r) (p .ensures) (c .if1 .taken) in
+    (simp towards-suc (sets-written (a .out .now) (a .at) _ (omega arith)) ∙ ap (written (a .out .now) (a .at)) b, omega (arith, ap length b))
 
 returns-2 : tie.Need-returns-2
-returns-2 c = rw (c .before .before .before .before .before .r2 .given .1) (c .before .before .put-three .ensures)
-
-same-length-3 : tie.Need-same-length-3
-same-length-3 c = search needs
-
-returns-3 : tie.Need-returns-3
-returns-3 c = rw (c .before .before .before .before .before .r3 .given .1) (c .before .before .put-three2 .ensures)
-
-same-length-4 : tie.Need-same-length-4
-same-length-4 c = search needs
-
-returns-4 : tie.Need-returns-4
-returns-4 c = rw (c .before .before .before .before .before .r4 .given .1) (c .before .before .put-four2 .ensures)
-
-same-length-5 : tie.Need-same-length-5
-same-length-5 c = search needs
-
-returns-5 : tie.Need-returns-5
-returns-5 c = rw (c .before .before .before .before .before .r5 .given .1) (c .before .before .put-four3 .ensures)
+returns-2 c =
+    let w = c .before .before .before .before .before in
+    let a = w .before .before .before .args in
+    let p = w .before .parts-of in
+    let b = three-bytes (p .result) (a .r) (p .ensures) (λ e. c .before .if1 .left e) in
+    (simp towards-suc (sets-written (a .out .now) (a .at) _ (omega arith)) ∙ ap (written (a .out .now) (a .at)) b, omega (arith, ap length b))
 
 pub write-record-spec : {M : Type 1} → statement M
 write-record-spec =
     tie.close
     (tie.spec
-    enum-known-r
-    put-four-requires
-    enum-known-r-2
-    put-three-requires
-    enum-known-r-3
-    put-three-requires-2
-    enum-known-r-4
-    put-four-requires-2
-    enum-known-r-5
-    put-four-requires-3
-    same-length
+    (λ c κs. search needs)
+    (λ c. omega (arith, parts-few _ (c .before .before .before .args .r) (c .before .parts-of .ensures)))
+    (λ c. omega (arith, parts-few _ (c .before .before .before .args .r) (c .before .parts-of .ensures)))
+    (λ c. search needs)
+    (λ c. search needs)
+    (λ c. simp length-set (omega arith))
+    (λ c. omega (arith, small-parts _ (c .before .before .before .before .args .r) (c .before .before .parts-of .ensures) (c .before .before .before .before .pre .1) .0))
+    (λ c. search needs)
+    (λ c. simp length-set (omega arith))
+    (λ c. omega (arith, small-parts _ (c .before .before .before .before .before .args .r) (c .before .before .before .parts-of .ensures) (c .before .before .before .before .before .pre .1) .1))
+    (λ c. search needs)
+    (λ c. simp length-set (omega arith))
+    (λ c. search needs)
+    (λ c. search needs)
     returns
-    same-length-2
-    returns-2
-    same-length-3
-    returns-3
-    same-length-4
-    returns-4
-    same-length-5
-    returns-5)
+    (λ c. omega (arith, small-parts _ (c .before .before .before .before .before .before .before .before .args .r) (c .before .before .before .before .before .before .parts-of .ensures) (c .before .before .before .before .before .before .before .before .pre .1) .2))
+    (λ c. search needs)
+    (λ c. simp length-set (omega arith))
+    (λ c. search needs)
+    (λ c. search needs)
+    returns-2)
