@@ -16,7 +16,7 @@ module _ (s : List ℕ) where
   abbrev pub fullSheet : State
   fullSheet = full sheetProblem
 
-  -- the run's records, one a step, and "the sheet left"
+  -- the run's records, one a step, and the sheet that is left
   abbrev pub runRecords : List Record
   runRecords = run sheetProblem fullSheet
 

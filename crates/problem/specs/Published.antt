@@ -10,7 +10,7 @@ use Rattle.problem.specs.declared.Effect.the-variants.{Removes, Eliminat
 use Rattle.problem.specs.declared.Record.{Record}
 use Rattle.problem.specs.declared.Record.the-variants.{Unsupported, Snake, Triangle, Neighbourhood, SnakeSubstitution}
 
--- ---- both papers: support. Cooper, El Mouelhi and Terrioux, "Variable Elimination in Binary CSPs (PutBackOutcome Abstract)", section 1, and
+-- ---- both papers: support. Cooper, El Mouelhi and Terrioux, "Variable Elimination in Binary CSPs (Extended Abstract)", section 1, and
 -- Cooper, "Strengthening neighbourhood substitution", section 2
 
 module _ (P : Problem) (s : State) where
