@@ -4,11 +4,14 @@ ghost use mathlib.Core.Path.{_≡_};
 ghost use mathlib.Core.Bool.{cond};
 ghost use Prim.Native.Nat.{_+_, _≤_};
 ghost use lib.Dec.{eqb};
-ghost use lib.ListN.{length};
+ghost use lib.ListN.{length, take};
 ghost use Rattle.graph.specs.Graph.{fileLimit};
+ghost use Rattle.colour.specs.Colour.{colourJob};
 ghost use Rattle.colour_sheet.specs.Argument.{channelsOf};
+ghost use Rattle.colour_sheet.specs.Text.{colouredText};
 use colour::Coloured;
 use libc::STDIN_FILENO;
+use libc::STDOUT_FILENO;
 use read_graph::Field;
 
 // The channels that an argument names: it is a number and nothing else.
@@ -40,10 +43,16 @@ fn argument() -> u64 {
     channels_of(&word[..n])
 }
 
-fn show_coloured(a: Coloured, sheet: &[u8]) {
+// What the program writes for a file and a number of channels, at the front of a buffer: the sheet, or the line of a refusal. How long it is.
+fn put_coloured(file: &[u8], channels: u64, out: &mut [u8]) -> usize
+    requires { ⌜ length (now out) ≡ 16904 ⌝ }
+    ensures text { λ r. ⌜ take r (now (out .exit)) ≡ colouredText (colourJob (now (file .entry)) channels (now (out .entry))) ⌝ }
+    ensures within { λ r. ⌜ r ≤ 16904 ⌝ }
+{
+    let a = colour::colour(file, channels, out);
     match a {
-        Coloured::Written(n) => show::show_sheet(sheet, n),
-        Coloured::Refused(r) => show::show_refused(colour::colour_number(r)),
+        Coloured::Written(n) => n,
+        Coloured::Refused(r) => text::put_refused_line(out, 0, colour::colour_number(r) as usize),
     }
 }
 
@@ -52,9 +61,9 @@ fn print_sheet(channels: u64, file: &mut [u8])
     requires { ⌜ length (now file) ≡ fileLimit + 1 ⌝ }
 {
     let n = io::read_full(STDIN_FILENO, file);
-    let mut sheet = [0u8; 16904];
-    let a = colour::colour(&file[..n], channels, &mut sheet);
-    show_coloured(a, &sheet);
+    let mut out = [0u8; 16904];
+    let k = put_coloured(&file[..n], channels, &mut out);
+    io::write_all(STDOUT_FILENO, &out[..k]);
 }
 
 fn main() {
