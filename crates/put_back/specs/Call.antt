@@ -35,6 +35,10 @@ FieldsFit refusal.TraceFront = Unit {0}
 FieldsFit refusal.Malformed = Unit {0}
 FieldsFit refusal.Plan = Unit {0}
 
+abbrev pub BackFits : PutBackOutcome → Type 0
+BackFits back.Done = Unit {0}
+BackFits (back.Refused r) = FieldsFit r
+
 -- bits 0-7 the refusal; of 17, bits 8-23 the record's number, bits 24-31 the variable, bits 32-39 the value
 abbrev pub backNumber : PutBackOutcome → ℕ
 backNumber back.Done = 0

@@ -1,10 +1,9 @@
-// Putting back, as a job: what it answers, the format's number for each refusal, and the number that a refused call from C answers.
+// Putting back, as a job: what it answers, the format's number for each refusal, and the number that a call from C answers.
 ghost use mathlib.Core.Path.{_≡_};
 ghost use Prim.Native.Nat.{_+_, _*_};
-ghost use Rattle.put_back.specs.declared.PutBackOutcome.the-variants.{Refused};
 ghost use Rattle.put_back.specs.Numbers.{putBackRefusalNumber};
 ghost use Rattle.put_back.specs.PutBack.{unlawfulRecord};
-ghost use Rattle.put_back.specs.Call.{unlawfulFields, FieldsFit, backNumber};
+ghost use Rattle.put_back.specs.Call.{unlawfulFields, FieldsFit, BackFits, backNumber};
 use problem::Break;
 use sheet::SheetRefusal;
 
@@ -65,7 +64,7 @@ pub fn unlawful_record(number: usize, found: Break) -> PutBackRefusal
     }
 }
 
-// ---- the answer of refused putting back
+// ---- from C
 
 // The record's number, the variable and the value of an unlawful record.
 fn unlawful_fields(r: PutBackRefusal) -> u64
@@ -87,10 +86,13 @@ fn unlawful_fields(r: PutBackRefusal) -> u64
     }
 }
 
-// The refusal's number in the low byte, and above it what an unlawful record carries.
-pub fn put_back_answer(r: PutBackRefusal) -> u64
-    requires { ⌜ FieldsFit r ⌝ }
-    ensures { λ k. ⌜ k ≡ backNumber (Refused r) ⌝ }
+// The number of an answer: 0, or the refusal's number in the low byte and above it what an unlawful record carries.
+pub fn put_back_answer(o: PutBackOutcome) -> u64
+    requires { ⌜ BackFits o ⌝ }
+    ensures { λ k. ⌜ k ≡ backNumber o ⌝ }
 {
-    put_back_number(r) as u64 + 256 * unlawful_fields(r)
+    match o {
+        PutBackOutcome::Done => 0,
+        PutBackOutcome::Refused(r) => put_back_number(r) as u64 + 256 * unlawful_fields(r),
+    }
 }

@@ -13,7 +13,7 @@ use Rattle.put_back.specs.declared.PutBackOutcome.the-variants as back
 use Rattle.put_back.specs.declared.PutBackRefusal.{PutBackRefusal}
 use Rattle.put_back.specs.declared.PutBackRefusal.the-variants as refusal
 use Rattle.putting_back.proofs.Unlawful.{unlawful-small, UnlawfulRecord, unlawful-names}
-use Rattle.put_back.specs.Call.{FieldsFit, PutBackCall, backNumber, putBackCall}
+use Rattle.put_back.specs.Call.{BackFits, FieldsFit, PutBackCall, backNumber, putBackCall}
 use mathlib.Core.Logic.{_⊎_, inl, inr, _≢_, _↔_}
 use lib.ListN.{length}
 use Rattle.put_back.specs.Numbers.{putBackNumber}
@@ -38,6 +38,14 @@ back-small s t p b refusal.ResultLength e = tt
 back-small s t p b refusal.TraceFront e = tt
 back-small s t p b refusal.Malformed e = tt
 back-small s t p b refusal.Plan e = tt
+
+-- what the job answers fits its bits
+pub back-fits : (s t p b : List ℕ) → BackFits ((putBackJob s t p b) .answer)
+back-fits s t p b = go ((putBackJob s t p b) .answer) refl
+  where
+    go : (o : PutBackOutcome) → (putBackJob s t p b) .answer ≡ o → BackFits o
+    go back.Done e = tt
+    go (back.Refused r) e = back-small s t p b r e
 
 module _ (s t p b : List ℕ) where
   abbrev pub BackTaken : Type 0

@@ -192,8 +192,6 @@ pub fn put_back_call(sheet: &[u8], trace: &[u8], plan: &[u8], result: &mut [u8])
     ensures answer { λ r. ⌜ r ≡ (putBackCall (now (sheet .entry)) (now (trace .entry)) (now (plan .entry)) (now (result .entry))) .answer ⌝ }
     ensures result { λ _. ⌜ now (result .exit) ≡ (putBackCall (now (sheet .entry)) (now (trace .entry)) (now (plan .entry)) (now (result .entry))) .result ⌝ }
 {
-    match put_back(sheet, trace, plan, result) {
-        PutBackOutcome::Refused(r) => put_back::put_back_answer(r),
-        PutBackOutcome::Done => 0,
-    }
+    let done = put_back(sheet, trace, plan, result);
+    put_back::put_back_answer(done)
 }

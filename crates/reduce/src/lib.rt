@@ -144,16 +144,7 @@ pub fn run_call(sheet: &[u8], trace: &mut [u8], state: &mut [u8]) -> u64
     }
     let done = reduce(sheet, trace);
     let outcome = done.outcome;
-    match outcome {
-        RunOutcome::Refused(r) => run::run_number(r) as u64,
-        RunOutcome::Done {
-            end,
-            steps,
-            written,
-        } => {
-            let last = done.state;
-            boundary::put_state(state, last);
-            256 * (run::end_number(end) as u64 + 256 * (steps as u64 + 65536 * written as u64))
-        }
-    }
+    let last = done.state;
+    run::put_ran_state(state, outcome, last);
+    run::ran_number(outcome)
 }

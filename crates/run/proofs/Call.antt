@@ -10,7 +10,7 @@ use Rattle.run.specs.declared.RunAnswer.{RunAnswer}
 use Rattle.run.specs.declared.RunOutcome.{RunOutcome}
 use Rattle.boundary.specs.State.{stateLength, masksIn}
 use Rattle.boundary.specs.Numbers.{badState}
-use Rattle.run.specs.Call.{runCrossed, runCall, RunCall}
+use Rattle.run.specs.Call.{RunFits, runCrossed, runCall, RunCall}
 use native.Mathlib.Omega.{arith}
 use Rattle.bounded.proofs.Truth.{eq-dec}
 use Rattle.problem.specs.Problem.{full}
@@ -63,6 +63,14 @@ module _ (s b : List ℕ) (x : RunAnswer) (a : x ≡ (runJob s b) .answer) (e : 
       let p = c .1 .1 .1 .0 in
       let q = c .1 .1 .1 .1 in
       (omega arith, omega arith)
+
+-- what the job answers fits its bits
+pub run-fits : (s b : List ℕ) → RunFits ((runJob s b) .answer .outcome)
+run-fits s b = go ((runJob s b) .answer .outcome) refl
+  where
+    go : (o : RunOutcome) → (runJob s b) .answer .outcome ≡ o → RunFits o
+    go (ran.Done e k w) q = let l = run-small s b _ refl e k w q in (omega arith, omega arith)
+    go (ran.Refused r) q = tt
 
 -- an end's number fits its bits
 pub end-small : (e : End) → endNumber e < 256

@@ -3,7 +3,7 @@
 use mathlib.Core.Path.{_≡_}
 use mathlib.Core.Bool.{true, false}
 use mathlib.Core.List.{List}
-use Prim.Native.Nat.{ℕ, _+_, _*_, _/_, _%_, _≤_}
+use Prim.Native.Nat.{ℕ, _+_, _*_, _/_, _%_, _≤_, _<_}
 use lib.Dec.{eqb}
 use lib.ListN.{length, take}
 use Rattle.problem.specs.Problem.{State, sizeSum}
@@ -14,7 +14,7 @@ use Rattle.sheet.specs.Relation.{problemOf}
 use Rattle.run.specs.Numbers.{runRefusalNumber, endNumber}
 use Rattle.run.specs.Run.{runJob}
 use Rattle.run.specs.declared.RunOutcome.{RunOutcome}
-use Rattle.run.specs.declared.RunOutcome.the-variants as run
+use Rattle.run.specs.declared.RunOutcome.the-variants as ran
 use Rattle.boundary.specs.State.{stateLength, masksBytes, masksIn}
 use Rattle.boundary.specs.Numbers.{badState}
 
@@ -24,12 +24,19 @@ pub record RunCall : Type 0 where
   pub trace : List ℕ
   pub state : List ℕ
 
--- from what the job answers, its last state m and the trace t as it leaves it; the state's buffer was b.
--- Bits 0-7 the refusal, bits 8-15 the end, bits 16-31 the steps, bits 32-47 the bytes written.
+-- the number of what the job answers: bits 0-7 the refusal, bits 8-15 the end, bits 16-31 the steps, bits 32-47 the bytes written
+abbrev pub ranNumber : RunOutcome → ℕ
+ranNumber (ran.Refused r) = runRefusalNumber r
+ranNumber (ran.Done end steps written) = 256 * (endNumber end + 256 * (steps + 65536 * written))
+
+-- the state's buffer b: the last state m is written, and a refused run writes nothing
+abbrev pub ranState : RunOutcome → Masks → List ℕ → List ℕ
+ranState (ran.Refused r) m b = b
+ranState (ran.Done end steps written) m b = masksBytes m
+
+-- from what the job answers, its last state m and the trace t as it leaves it; the state's buffer was b
 abbrev pub runCrossed : RunOutcome → Masks → (t b : List ℕ) → RunCall
-runCrossed (run.Refused r) m t b = record { answer = runRefusalNumber r; trace = t; state = b }
-runCrossed (run.Done end steps written) m t b =
-    record { answer = 256 * (endNumber end + 256 * (steps + 65536 * written)); trace = t; state = masksBytes m }
+runCrossed o m t b = record { answer = ranNumber o; trace = t; state = ranState o m b }
 
 -- the sheet s, the trace's buffer t and the state's buffer b: the length of b first, then the job
 unfoldable pub runCall : (s t b : List ℕ) → RunCall
@@ -38,6 +45,11 @@ runCall s t b =
       | false ↦ record { answer = badState; trace = t; state = b }
       | true ↦ runCrossed ((runJob s t) .answer .outcome) ((runJob s t) .answer .state) ((runJob s t) .buffer) b
     ]
+
+-- the steps and the bytes written have room: two bytes each
+abbrev pub RunFits : RunOutcome → Type 0
+RunFits (ran.Done end steps written) = (steps < 65536) × (written < 65536)
+RunFits (ran.Refused r) = Unit {0}
 
 -- ---- what it is lent, and what is left
 

@@ -1,9 +1,18 @@
--- `boundary::put_back_answer`: what it carries has room above the low byte. Assumes nothing.
+-- `put_back::put_back_answer`: what it carries has room above the low byte. Assumes nothing.
+use mathlib.Core.Path.{_≡_, sym, ap, subst, _∙_}
+use Prim.Native.Nat.{_+_, _*_, _<_}
 use native.Mathlib.Omega.{arith}
+use Rattle.put_back.specs.Call.{backNumber, BackFits}
 use Rattle.put_back.proofs.Call.{fields-small}
 use borrow.Author.Needs.{needs}
 use Rattle.put_back.proofs.put_back_answer.Statement.{statement}
 use Rattle.put_back.proofs.put_back_answer.Tie as tie
+
+enum-told : tie.Need-enum-told
+enum-told c = search needs
+
+enum-known-o : tie.Need-enum-known-o
+enum-known-o c = search needs
 
 put-back-number-requires : tie.Need-put-back-number-requires
 put-back-number-requires c κs = search needs
@@ -12,24 +21,30 @@ cast-result : tie.Need-cast-result
 cast-result c = search needs
 
 unlawful-fields-requires : tie.Need-unlawful-fields-requires
-unlawful-fields-requires c κs = search needs
+unlawful-fields-requires c κs = ?
 
 mul-result : tie.Need-mul-result
-mul-result c = let l = fields-small (c .before .before .args .r) (c .before .before .pre) in let e = c .unlawful-fields .ensures in omega arith
+mul-result c = ?
 
 add-result : tie.Need-add-result
-add-result c = let l = fields-small (c .before .before .args .r) (c .before .before .pre) in let e = c .unlawful-fields .ensures in omega arith
+add-result c = ?
 
 returns : tie.Need-returns
 returns c = search needs
+
+returns-2 : tie.Need-returns-2
+returns-2 c = ?
 
 pub put-back-answer-spec : {M : Type 1} → statement M
 put-back-answer-spec =
     tie.close
     (tie.spec
+    enum-told
+    enum-known-o
     put-back-number-requires
     cast-result
     unlawful-fields-requires
     mul-result
     add-result
-    returns)
+    returns
+    returns-2)
