@@ -1,6 +1,6 @@
 -- `put_back::put_back_answer`: what it carries has room above the low byte. Assumes nothing.
-use mathlib.Core.Path.{_≡_, sym, ap, subst, _∙_}
-use Prim.Native.Nat.{_+_, _*_, _<_}
+use mathlib.Core.Path.{sym, ap, subst, _∙_}
+use Prim.Native.Nat.{_+_, _*_}
 use native.Mathlib.Omega.{arith}
 use Rattle.put_back.specs.Call.{backNumber, BackFits}
 use Rattle.put_back.proofs.Call.{fields-small}
@@ -21,19 +21,20 @@ cast-result : tie.Need-cast-result
 cast-result c = search needs
 
 unlawful-fields-requires : tie.Need-unlawful-fields-requires
-unlawful-fields-requires c κs = ?
+unlawful-fields-requires c κs = subst BackFits (c .before .before .o .given .1) (c .before .before .before .before .pre)
 
 mul-result : tie.Need-mul-result
-mul-result c = ?
+mul-result c = let l = fields-small (c .before .before .before .o .given .0 .0) (subst BackFits (c .before .before .before .o .given .1) (c .before .before .before .before .before .pre)) in let e = c .unlawful-fields .ensures in omega arith
 
 add-result : tie.Need-add-result
-add-result c = ?
+add-result c = let l = fields-small (c .before .before .before .o .given .0 .0) (subst BackFits (c .before .before .before .o .given .1) (c .before .before .before .before .before .pre)) in let e = c .unlawful-fields .ensures in omega arith
 
 returns : tie.Need-returns
 returns c = search needs
 
 returns-2 : tie.Need-returns-2
-returns-2 c = ?
+returns-2 c =
+    (λ i. c .before .put-back-number .ensures i + 256 * c .unlawful-fields .ensures i) ∙ ap backNumber (sym (c .before .before .before .o .given .1))
 
 pub put-back-answer-spec : {M : Type 1} → statement M
 put-back-answer-spec =

@@ -1,5 +1,5 @@
 -- `reduce::run_call`: the length of the buffer, then what the job answers; its numbers fit. Assumes nothing.
-use mathlib.Core.Path.{sym, ap, _∙_}
+use mathlib.Core.Path.{refl, sym, ap, _∙_}
 use native.Mathlib.Omega.{arith}
 use Rattle.run.specs.Call.{RunCall}
 use Rattle.run.proofs.Call.{run-bad, run-says, run-fits}
@@ -23,7 +23,9 @@ put-ran-state-requires : tie.Need-put-ran-state-requires
 put-ran-state-requires c κs = search needs
 
 ran-number-requires : tie.Need-ran-number-requires
-ran-number-requires c κs = ?
+ran-number-requires c κs =
+    let a = c .before .before .before .before .before .before .before .before .before .before .before .before .before .args in
+    rw (c .before .before .before .before .before .before .before .reduce .ensures .0) (run-fits (a .sheet .now) (a .trace .now))
 
 same-length : tie.Need-same-length
 same-length c = search needs
@@ -32,7 +34,11 @@ same-length-2 : tie.Need-same-length-2
 same-length-2 c = search needs
 
 returns-2 : tie.Need-returns-2
-returns-2 c = ?
+returns-2 c =
+    let a = c .before .before .before .before .before .before .before .before .before .before .before .before .before .before .args in
+    let x = c .before .before .before .before .before .before .before .before .reduce .ensures in
+    let e = run-says (a .sheet .now) (a .trace .now) (a .state .now) (omega arith) _ _ (x .0) (x .1) _ refl in
+    (c .ran-number .ensures ∙ ap (λ (y : RunCall). y .answer) e, (ap (λ (y : RunCall). y .trace) e, c .before .before .before .put-ran-state .ensures ∙ ap (λ (y : RunCall). y .state) e))
 
 pub run-call-spec : {M : Type 1} → statement M
 run-call-spec =
