@@ -35,7 +35,12 @@ fn numbered_at(s: &[u8], p: usize) -> Numbered
     requires { ⌜ p < length (now s) ⌝ }
     ensures { λ r. ⌜ r ≡ numberedAt (now (s .entry)) p ⌝ }
 {
-    record_of(byte(s, p + 1), byte(s, p + 2), byte(s, p + 3), byte(s, p + 4))
+    record_of(
+        byte(s, p + 1),
+        byte(s, p + 2),
+        byte(s, p + 3),
+        byte(s, p + 4),
+    )
 }
 
 // What stands at a place of a trace: the end, a whole record with the place after it, or a malformed one.
