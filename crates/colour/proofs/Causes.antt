@@ -43,8 +43,8 @@ module _ (f : List ℕ) (k : ℕ) (b : List ℕ) where
   HasLoop = (m : ℕ) × (a : ℕ) × (lineAt f m ≡ Edge a a)
 
   -- "when the `e` lines differ from the stated number": they do not
-  abbrev pub Counted : Type 0
-  Counted = countLines isEdge (fileLines f) ≡ statedEdges (fileLines f)
+  abbrev pub EdgesCounted : Type 0
+  EdgesCounted = countLines isEdge (fileLines f) ≡ statedEdges (fileLines f)
 
   -- 21 does not speak against the file; nor does 22; nor 23; nor 24
   abbrev pub Passes21 : Type 0
@@ -54,7 +54,7 @@ module _ (f : List ℕ) (k : ℕ) (b : List ℕ) where
   Passes22 = Passes21 × (HasLoop → ⊥)
 
   abbrev pub Passes23 : Type 0
-  Passes23 = Passes22 × Counted
+  Passes23 = Passes22 × EdgesCounted
 
   abbrev pub Passes24 : Type 0
   Passes24 = Passes23 × InRange (verticesOf f) k
@@ -63,7 +63,7 @@ module _ (f : List ℕ) (k : ℕ) (b : List ℕ) where
   abbrev pub ColourCause : Coloured → Type 0
   ColourCause (Refused File) = BadFile f
   ColourCause (Refused Loop) = Passes21 × HasLoop
-  ColourCause (Refused Count) = Passes22 × (Counted → ⊥)
+  ColourCause (Refused Count) = Passes22 × (EdgesCounted → ⊥)
   ColourCause (Refused Range) = Passes23 × (InRange (verticesOf f) k → ⊥)
   ColourCause (Refused Buffer) = Passes24 × (length b < length (graphSheet f k))
   ColourCause (Written w) = Passes24 × ((length (graphSheet f k) ≤ length b) × (w ≡ length (graphSheet f k)))
@@ -115,7 +115,7 @@ module _ (f : List ℕ) (k : ℕ) (b : List ℕ) where
       range c (inl h) = (Refused Range, (c, λ r. clash h (range-test (verticesOf f) k r)))
       range c (inr h) = buffer (c, in-range (verticesOf f) k h) (lt-dec (length b) (length (graphSheet f k)))
 
-      count : Passes22 → Counted ⊎ (Counted → ⊥) → (x : Coloured) × ColourCause x
+      count : Passes22 → EdgesCounted ⊎ (EdgesCounted → ⊥) → (x : Coloured) × ColourCause x
       count c (inl h) = range (c, h) (split (outOfRange (verticesOf f) k))
       count c (inr h) = (Refused Count, (c, h))
 
@@ -157,7 +157,7 @@ module _ (f : List ℕ) (k : ℕ) (b : List ℕ) where
   pub colour-22 : (colouredNumber ((colourJob f k b) .answer) ≡ 22) ↔ (Passes21 × HasLoop)
   colour-22 = by-number (Refused Loop) (omega arith)
 
-  pub colour-23 : (colouredNumber ((colourJob f k b) .answer) ≡ 23) ↔ (Passes22 × (Counted → ⊥))
+  pub colour-23 : (colouredNumber ((colourJob f k b) .answer) ≡ 23) ↔ (Passes22 × (EdgesCounted → ⊥))
   colour-23 = by-number (Refused Count) (omega arith)
 
   pub colour-24 : (colouredNumber ((colourJob f k b) .answer) ≡ 24) ↔ (Passes23 × (InRange (verticesOf f) k → ⊥))

@@ -20,7 +20,7 @@ use Rattle.graph.specs.Scan.{isMarked}
 use Rattle.table.specs.Parts.{Wrote, HasPlaces}
 use Rattle.table.specs.Filling.{pairSays, EnteredTo}
 use Rattle.table.proofs.Filling.{entered-filled}
-use Rattle.colour.specs.Parts.{markedProblem, Ranged, sizeWord, edgeRows}
+use Rattle.colour.specs.Parts.{markedProblem, Ranged, entrySize, edgeRows}
 
 -- ---- what a colouring problem allows
 
@@ -145,9 +145,9 @@ module _ (near : List ℕ) (n k : ℕ) (R : Ranged near n k) (some : 1 ≤ k) wh
       edge-says (isMarked near i j) k a b (R .channels) la lb
       ∙ sym (allows n k (isMarked near) i a j b (omega arith) la m lb (λ e. absurd (omega arith)) ∙ ap (λ (g : Bool). not (g && eqb b a)) e)
 
-  pub marked-filled : (t t₁ t₂ rows u : List ℕ) → Wrote 32 t t₁ 0 (sizeWord n k) → HasPlaces t₁ t₂ → rows ≡ edgeRows k
+  pub marked-filled : (t t₁ t₂ rows u : List ℕ) → Wrote 32 t t₁ 0 (entrySize n k) → HasPlaces t₁ t₂ → rows ≡ edgeRows k
       → EnteredTo (isMarked near) (λ i j. rows) n (32 * n) t₂ u → Filled (markedProblem near n k) u
   unfolding colouring
   marked-filled t t₁ t₂ rows u w h e E =
-      entered-filled (isMarked near) (λ i j. edgeRows k) t t₁ t₂ u (sizeWord n k) marked-bounded w (λ i l. sym (colouring-size n k (isMarked near) i)) h
+      entered-filled (isMarked near) (λ i j. edgeRows k) t t₁ t₂ u (entrySize n k) marked-bounded w (λ i l. sym (colouring-size n k (isMarked near) i)) h
       (subst (λ (r : List ℕ). EnteredTo (isMarked near) (λ i j. r) n (32 * n) t₂ u) e E) says

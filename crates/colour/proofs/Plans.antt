@@ -90,7 +90,7 @@ pub record ProperColouring (f : List ℕ) (k : ℕ) (p : ℕ → ℕ) : Type 0 w
   pub ends : (m a c : ℕ) → lineAt f m ≡ Edge a c → p (a - 1) ≢ p (c - 1)
 
 -- what is known of a file that the job takes
-pub record Taken (f : List ℕ) (k : ℕ) : Type 0 where
+pub record SheetTaken (f : List ℕ) (k : ℕ) : Type 0 where
   pub range : InRange (verticesOf f) k
   -- every edge's ends are different vertices within the stated number
   pub inside : (m a c : ℕ) → lineAt f m ≡ Edge a c → ((1 ≤ a) × (a ≤ verticesOf f)) × (((1 ≤ c) × (c ≤ verticesOf f)) × (a ≢ c))
@@ -113,7 +113,7 @@ and-not : (t : Bool) (a b : ℕ) → not (t && eqb a b) ≡ true → T t → a �
 and-not true a b e h q = clash {b = not (eqb a b)} e (ap not (eq-eqb a b q))
 and-not false a b e h q = h
 
-module _ (f : List ℕ) (k : ℕ) (K : Taken f k) where
+module _ (f : List ℕ) (k : ℕ) (K : SheetTaken f k) where
   abbrev P : Problem
   P = graphProblem f k
 
@@ -199,7 +199,7 @@ inside-of f h m a c e = neither (isOutside (verticesOf f) a) (isOutside (vertice
 not-outside : (v a : ℕ) → isOutside v a ≡ false → (1 ≤ a) × (a ≤ v)
 not-outside v a o = let q = neither (ltb a 1) (ltb v a) o in (ltb-false a 1 (q .0), ltb-false v a (q .1))
 
-pub taken : (f : List ℕ) (k : ℕ) (b : List ℕ) (w : ℕ) → (colourJob f k b) .answer ≡ Written w → Taken f k
+pub taken : (f : List ℕ) (k : ℕ) (b : List ℕ) (w : ℕ) → (colourJob f k b) .answer ≡ Written w → SheetTaken f k
 taken f k b w e =
     let c = colour-iff f k b (Written w) .0 e in
     record {

@@ -13,10 +13,10 @@ use Rattle.colour.specs.Samples.{AllSampled, samples, loggersFile, logge
 
 -- each file gets its number
 pub sampled : AllSampled samples
-unfolding colour.graphSheet colour.colourJob graph.linesOf graph.fieldsOf graph.allDigits graph.isNumber graph.decimalFrom graph.begins graph.twoNumbers graph.lineOf graph.fileLines graph.anyLine graph.countLines graph.statedVertices graph.statedEdges graph.edgeFirst graph.badLines graph.badFile colouring.adjacent colouring.channelsAt colouring.isChannel colouring.mayStand colouring.colouring bounded.anyBelow mask.maskOf table.tab problem.bothWays compose.rowBars compose.pairBars compose.hasBlock compose.blockCount compose.rowsBytes compose.blockBytes compose.placeBytes compose.blocksBytes compose.sheetBytes
+unfolding colour.graphSheet colour.colourJob graph.linesOf graph.lineFields graph.allDigits graph.isNumber graph.decimalFrom graph.begins graph.twoNumbers graph.lineOf graph.fileLines graph.anyLine graph.countLines graph.statedVertices graph.statedEdges graph.edgeFirst graph.badLines graph.badFile colouring.adjacent colouring.channelsAt colouring.isChannel colouring.mayStand colouring.colouring bounded.anyBelow mask.maskOf table.tab problem.bothWays compose.rowBars compose.pairBars compose.hasBlock compose.blockCount compose.rowsBytes compose.blockBytes compose.placeBytes compose.blocksBytes compose.sheetBytes
 sampled = (refl, (refl, (refl, (refl, (refl, (refl, (refl, (refl, (refl, (refl, (refl, (refl, (refl, (refl, (refl, (refl, (refl, (refl, (refl, (refl, (refl, (refl, (refl, (refl, (refl, (refl, (refl, (refl, tt))))))))))))))))))))))))))))
 
 -- and the loggers of the format their sheet, byte for byte
 pub loggers : graphSheet loggersFile 2 ≡ loggersSheet
-unfolding colour.graphSheet colour.colourJob graph.linesOf graph.fieldsOf graph.allDigits graph.isNumber graph.decimalFrom graph.begins graph.twoNumbers graph.lineOf graph.fileLines graph.anyLine graph.countLines graph.statedVertices graph.statedEdges graph.edgeFirst graph.badLines graph.badFile colouring.adjacent colouring.channelsAt colouring.isChannel colouring.mayStand colouring.colouring bounded.anyBelow mask.maskOf table.tab problem.bothWays compose.rowBars compose.pairBars compose.hasBlock compose.blockCount compose.rowsBytes compose.blockBytes compose.placeBytes compose.blocksBytes compose.sheetBytes
+unfolding colour.graphSheet colour.colourJob graph.linesOf graph.lineFields graph.allDigits graph.isNumber graph.decimalFrom graph.begins graph.twoNumbers graph.lineOf graph.fileLines graph.anyLine graph.countLines graph.statedVertices graph.statedEdges graph.edgeFirst graph.badLines graph.badFile colouring.adjacent colouring.channelsAt colouring.isChannel colouring.mayStand colouring.colouring bounded.anyBelow mask.maskOf table.tab problem.bothWays compose.rowBars compose.pairBars compose.hasBlock compose.blockCount compose.rowsBytes compose.blockBytes compose.placeBytes compose.blocksBytes compose.sheetBytes
 loggers = refl

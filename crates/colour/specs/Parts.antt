@@ -26,8 +26,8 @@ pub record Ranged (near : List ℕ) (n k : ℕ) : Type 0 where
   pub channels : k ≤ 16
 
 -- the size of vertex i
-abbrev pub sizeWord : (n k i : ℕ) → ℕ
-sizeWord n k i = cond (ltb i n) k 0
+abbrev pub entrySize : (n k i : ℕ) → ℕ
+entrySize n k i = cond (ltb i n) k 0
 
 -- the block of an edge: the row of channel a has all k channels but a
 unfoldable pub edgeRows : ℕ → List ℕ

@@ -6,9 +6,9 @@ ghost use lib.ListN.{length};
 ghost use Rattle.problem.specs.Held.{tableLength, Located, Filled};
 ghost use Rattle.graph.specs.Scan.{isMarked};
 ghost use Rattle.table.specs.Parts.{Wrote, Blank};
-ghost use Rattle.table.specs.Filling.{hasBlock, PlaceEntered, EnteredTo};
+ghost use Rattle.table.specs.Filling.{blockHere, PlaceEntered, EnteredTo};
 ghost use Rattle.colour.specs.Colour.{colourNumber, outOfRange, colourJob};
-ghost use Rattle.colour.specs.Parts.{markedProblem, Ranged, sizeWord, edgeRows, writeJob, graphJob};
+ghost use Rattle.colour.specs.Parts.{markedProblem, Ranged, entrySize, edgeRows, writeJob, graphJob};
 use compose::Composed;
 use graph::GraphRead;
 
@@ -45,7 +45,7 @@ pub fn colour_number(r: ColourRefusal) -> u8
 // The size of vertex i: each of the n has k channels.
 fn size_word(n: usize, k: usize, i: usize) -> u16
     requires { ⌜ k ≤ 16 ⌝ }
-    ensures { λ r. ⌜ r ≡ sizeWord n k i ⌝ }
+    ensures { λ r. ⌜ r ≡ entrySize n k i ⌝ }
 {
     if i < n { k as u16 } else { 0 }
 }
@@ -53,7 +53,7 @@ fn size_word(n: usize, k: usize, i: usize) -> u16
 // The sizes. The rest of the table is as it was.
 fn fill_sizes(n: usize, k: usize, t: &mut [u16])
     requires { ⌜ (length (now t) ≡ tableLength) × (k ≤ 16) ⌝ }
-    ensures { λ _. ⌜ Wrote 32 (now (t .entry)) (now (t .exit)) 0 (sizeWord n k) ⌝ }
+    ensures { λ _. ⌜ Wrote 32 (now (t .entry)) (now (t .exit)) 0 (entrySize n k) ⌝ }
 {
     let mut i: usize = 0;
     while i < 32 {
@@ -80,7 +80,7 @@ fn edge_rows(k: usize) -> [u16; 16]
 // Whether place x = 32 i + j of the marks is that of an edge between two vertices i < j below n.
 fn is_edge(near: &[u8], n: usize, x: usize) -> bool
     requires { ⌜ (length (now near) ≡ 1024) × (x < 1024) ⌝ }
-    ensures { λ r. ⌜ r ≡ hasBlock (isMarked (now (near .entry))) n x ⌝ }
+    ensures { λ r. ⌜ r ≡ blockHere (isMarked (now (near .entry))) n x ⌝ }
 {
     (x / 32 < x % 32) & ((x % 32 < n) & (near[x] == 1))
 }

@@ -23,7 +23,7 @@ use Rattle.trace.specs.Written.{written}
 use Rattle.trace.proofs.Written.{sets-written, word-put, written-nil, written-one, written-more, written-front, length-written}
 use Rattle.trace.specs.Trace.{fronted}
 use Rattle.compose.specs.Compose.{rowNumber, pairBars, hasBlock, blockCount, rowsBytes, blockBytes, placeBytes, blocksBytes, sheetLength, sheetBytes}
-use Rattle.compose.specs.Parts.{markOf, Marked, Wrote, Underway, frontBytes}
+use Rattle.compose.specs.Parts.{markOf, BlockMarked, BytesWrote, Underway, frontBytes}
 use Rattle.compose.proofs.Stands.{length-number}
 
 -- ---- the settings of an item
@@ -56,12 +56,12 @@ module _ (P : Problem) where
   unfolding blockCount
   count-step x h = let e : 1024 - x ≡ suc (1024 - (x + 1)) = omega arith in ap (λ (k : ℕ). blockCount P k x) e
 
-  pub count-beyond : (k x : ℕ) → 32 * P .n ≤ x → blockCount P k x ≡ 0
+  pub written-beyond : (k x : ℕ) → 32 * P .n ≤ x → blockCount P k x ≡ 0
   unfolding blockCount
-  count-beyond zero x h = refl
-  count-beyond (suc k) x h =
+  written-beyond zero x h = refl
+  written-beyond (suc k) x h =
       let e : oneIf (hasBlock P x) ≡ 0 = ap oneIf (block-beyond x h) in
-      let i = count-beyond k (x + 1) (omega arith) in
+      let i = written-beyond k (x + 1) (omega arith) in
       omega arith
 
 -- a mark tells
@@ -74,7 +74,7 @@ marked-true true d = refl
 marked-true false d = absurd (d refl)
 
 -- what was marked, as those who read the marks know it
-pub marked : {t : List ℕ} → RowTable t → (n : ℕ) (b c : List ℕ) → n ≡ (held t) .n → n ≤ 32 → length b ≡ 1024 → length c ≡ length b → c ≡ filled (32 * n) (markOf (held t)) b → Marked t c
+pub marked : {t : List ℕ} → RowTable t → (n : ℕ) (b c : List ℕ) → n ≡ (held t) .n → n ≤ 32 → length b ≡ 1024 → length c ≡ length b → c ≡ filled (32 * n) (markOf (held t)) b → BlockMarked t c
 unfolding filled
 marked {t} R n b c e few l m f =
     record {
@@ -88,12 +88,12 @@ marked {t} R n b c e few l m f =
 
 -- ---- writing in turn
 
-pub begins : (b : List ℕ) (p : ℕ) (w : List ℕ) → p + length w ≤ length b → Underway b p w b p w
-begins b p w h = record { rest = refl; place = refl; room = h; same = refl }
+pub starts : (b : List ℕ) (p : ℕ) (w : List ℕ) → p + length w ≤ length b → Underway b p w b p w
+starts b p w h = record { rest = refl; place = refl; room = h; same = refl }
 
 module _ (b : List ℕ) (p : ℕ) (w b′ : List ℕ) (q : ℕ) where
   -- the next part is written
-  pub writes : (x r c : List ℕ) (n : ℕ) → Underway b p w b′ q (x ++ r) → Wrote b′ q x c n → Underway b p w c n r
+  pub writes : (x r c : List ℕ) (n : ℕ) → Underway b p w b′ q (x ++ r) → BytesWrote b′ q x c n → Underway b p w c n r
   writes x r c n u o =
       let l = length-append x r in
       let m = u .room in
@@ -114,7 +114,7 @@ module _ (b : List ℕ) (p : ℕ) (w b′ : List ℕ) (q : ℕ) where
   part-room x r u = let l = length-append x r in let m = u .room in omega arith
 
   -- nothing is left
-  pub ends : Underway b p w b′ q [] → Wrote b p w b′ q
+  pub ends : Underway b p w b′ q [] → BytesWrote b p w b′ q
   ends u = let e = u .place in record { is = sym (written-nil b′ q) ∙ u .rest; next = omega arith }
 
 -- the bytes of a number, stored
@@ -127,7 +127,7 @@ pub put-word : (b : List ℕ) (p w x : ℕ) → w ≡ 2 → x < 65536 → p + 2 
 put-word b p w x e l h = word-put b p x l h ∙ ap (λ (k : ℕ). written b p (numberBytes k x)) (sym e)
 
 -- a number written, by another name of its width and of itself
-pub wrote-number : (b : List ℕ) (p : ℕ) (c : List ℕ) (w w′ x x′ : ℕ) → w ≡ w′ → x ≡ x′ → c ≡ written b p (numberBytes w x) → Wrote b p (numberBytes w′ x′) c (p + w)
+pub wrote-number : (b : List ℕ) (p : ℕ) (c : List ℕ) (w w′ x x′ : ℕ) → w ≡ w′ → x ≡ x′ → c ≡ written b p (numberBytes w x) → BytesWrote b p (numberBytes w′ x′) c (p + w)
 wrote-number b p c w w′ x x′ e f g =
     let l = length-number w′ x′ in
     record { is = g ∙ (λ i. written b p (numberBytes (e i) (f i))); next = omega arith }
@@ -146,15 +146,15 @@ front-stored b v len n m h =
     ∙ (λ i. written b 0 (v ∷ len / 16777216 % 256 ∷ len / 65536 % 256 ∷ len / 256 % 256 ∷ e i ∷ n ∷ m / 256 % 256 ∷ f i ∷ []))
 
 -- nothing to write
-pub wrote-none : (b : List ℕ) (p : ℕ) → Wrote b p [] b p
-wrote-none b p = record { is = sym (written-nil b p); next = omega arith }
+pub bytes-wrote-none : (b : List ℕ) (p : ℕ) → BytesWrote b p [] b p
+bytes-wrote-none b p = record { is = sym (written-nil b p); next = omega arith }
 
 -- writing changes no length
-pub wrote-same : (b : List ℕ) {c w d : List ℕ} {p r : ℕ} → Wrote c p w d r → p + length w ≤ length c → length c ≡ length b → length d ≡ length b
+pub wrote-same : (b : List ℕ) {c w d : List ℕ} {p r : ℕ} → BytesWrote c p w d r → p + length w ≤ length c → length c ≡ length b → length d ≡ length b
 wrote-same b {c} {w} {d} {p} o h e = ap length (o .is) ∙ length-written c p w h ∙ e
 
 -- two parts, the second at the place after the first
-pub wrote-both : (b : List ℕ) (p : ℕ) (x y c d : List ℕ) (q r : ℕ) → p + length (x ++ y) ≤ length b → c ≡ written b p x → q ≡ p + length x → Wrote c q y d r → Wrote b p (x ++ y) d r
+pub wrote-both : (b : List ℕ) (p : ℕ) (x y c d : List ℕ) (q r : ℕ) → p + length (x ++ y) ≤ length b → c ≡ written b p x → q ≡ p + length x → BytesWrote c q y d r → BytesWrote b p (x ++ y) d r
 wrote-both b p x y c d q r h e f o =
     let l = length-append x y in
     let n = o .next in

@@ -27,13 +27,13 @@ abbrev pub markOf : Problem → ℕ → ℕ
 markOf P x = oneIf (hasBlock P x)
 
 -- the marks of the places that can have a block: those of the items below n
-pub record Marked (t marks : List ℕ) : Type 0 where
+pub record BlockMarked (t marks : List ℕ) : Type 0 where
   pub table : RowTable t
   pub long : length marks ≡ 1024
   pub says : (x : ℕ) → x < 32 * (held t) .n → byteAt marks x ≡ markOf (held t) x
 
 -- the list w was written at p of b, which is b′ now, and r is the place after it
-pub record Wrote (b : List ℕ) (p : ℕ) (w b′ : List ℕ) (r : ℕ) : Type 0 where
+pub record BytesWrote (b : List ℕ) (p : ℕ) (w b′ : List ℕ) (r : ℕ) : Type 0 where
   pub is : b′ ≡ written b p w
   pub next : r ≡ p + length w
 

@@ -10,7 +10,7 @@ ghost use Rattle.sheet.specs.Sheet.{layout};
 ghost use Rattle.trace.specs.Trace.{fronted};
 ghost use Rattle.trace.specs.Written.{written};
 ghost use Rattle.compose.specs.Compose.{rowNumber, pairBars, blockCount, rowsBytes, blockBytes, placeBytes, blocksBytes, sheetLength, sheetBytes, sheetOver};
-ghost use Rattle.compose.specs.Parts.{Version, Pair, markOf, Marked, Wrote, frontBytes};
+ghost use Rattle.compose.specs.Parts.{Version, Pair, markOf, BlockMarked, BytesWrote, frontBytes};
 
 // What writing a sheet answers: its length, or that the buffer is shorter than the sheet.
 pub enum Composed {
@@ -83,7 +83,7 @@ fn mark_blocks(t: &[u16], n: usize, marks: &mut [u8]) -> usize
 
 // The bytes of the block of the pair at place x; none where it has no block.
 fn place_length(t: &[u16], v: usize, marks: &[u8], x: usize) -> usize
-    requires { ⌜ Marked (now t) (now marks) × (x < 32 * (held (now t)) .n) ⌝ }
+    requires { ⌜ BlockMarked (now t) (now marks) × (x < 32 * (held (now t)) .n) ⌝ }
     ensures { λ r. ⌜ r ≡ length (placeBytes layout v (held (now (t .entry))) x) ⌝ }
 {
     if marks[x] == 0 {
@@ -94,7 +94,7 @@ fn place_length(t: &[u16], v: usize, marks: &[u8], x: usize) -> usize
 
 // The bytes of all blocks.
 fn blocks_length(t: &[u16], v: usize, n: usize, marks: &[u8]) -> usize
-    requires { ⌜ Marked (now t) (now marks) × (n ≡ (held (now t)) .n) ⌝ }
+    requires { ⌜ BlockMarked (now t) (now marks) × (n ≡ (held (now t)) .n) ⌝ }
     ensures { λ r. ⌜ r ≡ length (blocksBytes layout v (held (now (t .entry))) 1024 0) ⌝ }
 {
     let mut sum: usize = 0;
@@ -124,7 +124,7 @@ fn put_row(out: &mut [u8], at: usize, w: usize, x: usize)
 // The rows of i towards j; the place after them.
 fn put_rows(t: &[u16], v: usize, out: &mut [u8], at: usize, i: usize, j: usize) -> usize
     requires { ⌜ Pair (now t) i j × (Version v × (at + length (rowsBytes layout v (held (now t)) i j ((held (now t)) .size i) 0) ≤ length (now out))) ⌝ }
-    ensures { λ r. ⌜ Wrote (now (out .entry)) at (rowsBytes layout v (held (now (t .entry))) i j ((held (now (t .entry))) .size i) 0) (now (out .exit)) r ⌝ }
+    ensures { λ r. ⌜ BytesWrote (now (out .entry)) at (rowsBytes layout v (held (now (t .entry))) i j ((held (now (t .entry))) .size i) 0) (now (out .exit)) r ⌝ }
 {
     let z = held::size(t, i);
     let w = sheet::row_width(v, held::size(t, j));
@@ -142,7 +142,7 @@ fn put_rows(t: &[u16], v: usize, out: &mut [u8], at: usize, i: usize, j: usize) 
 // The block of i and j; the place after it.
 fn put_block(t: &[u16], v: usize, out: &mut [u8], at: usize, i: usize, j: usize) -> usize
     requires { ⌜ Pair (now t) i j × (Version v × (at + length (blockBytes layout v (held (now t)) i j) ≤ length (now out))) ⌝ }
-    ensures { λ r. ⌜ Wrote (now (out .entry)) at (blockBytes layout v (held (now (t .entry))) i j) (now (out .exit)) r ⌝ }
+    ensures { λ r. ⌜ BytesWrote (now (out .entry)) at (blockBytes layout v (held (now (t .entry))) i j) (now (out .exit)) r ⌝ }
 {
     out[at] = i as u8;
     out[at + 1] = j as u8;
@@ -151,8 +151,8 @@ fn put_block(t: &[u16], v: usize, out: &mut [u8], at: usize, i: usize, j: usize)
 
 // The block of the pair at place x, where it has one; the place after it.
 fn put_place(t: &[u16], v: usize, marks: &[u8], out: &mut [u8], at: usize, x: usize) -> usize
-    requires { ⌜ Marked (now t) (now marks) × ((x < 32 * (held (now t)) .n) × (Version v × (at + length (placeBytes layout v (held (now t)) x) ≤ length (now out)))) ⌝ }
-    ensures { λ r. ⌜ Wrote (now (out .entry)) at (placeBytes layout v (held (now (t .entry))) x) (now (out .exit)) r ⌝ }
+    requires { ⌜ BlockMarked (now t) (now marks) × ((x < 32 * (held (now t)) .n) × (Version v × (at + length (placeBytes layout v (held (now t)) x) ≤ length (now out)))) ⌝ }
+    ensures { λ r. ⌜ BytesWrote (now (out .entry)) at (placeBytes layout v (held (now (t .entry))) x) (now (out .exit)) r ⌝ }
 {
     if marks[x] == 0 {
         return at;
@@ -162,7 +162,7 @@ fn put_place(t: &[u16], v: usize, marks: &[u8], out: &mut [u8], at: usize, x: us
 
 // All blocks, after the front and the sizes.
 fn put_blocks(t: &[u16], v: usize, n: usize, marks: &[u8], out: &mut [u8])
-    requires { ⌜ Marked (now t) (now marks) × ((n ≡ (held (now t)) .n) × (Version v × (8 + n + length (blocksBytes layout v (held (now t)) 1024 0) ≤ length (now out)))) ⌝ }
+    requires { ⌜ BlockMarked (now t) (now marks) × ((n ≡ (held (now t)) .n) × (Version v × (8 + n + length (blocksBytes layout v (held (now t)) 1024 0) ≤ length (now out)))) ⌝ }
     ensures { λ _. ⌜ now (out .exit) ≡ written (now (out .entry)) (8 + n) (blocksBytes layout v (held (now (t .entry))) 1024 0) ⌝ }
 {
     let mut p = 8 + n;
@@ -206,7 +206,7 @@ fn put_sizes(t: &[u16], n: usize, out: &mut [u8])
 
 // The sheet at the front of a buffer that is long enough.
 fn put_sheet(t: &[u16], v: usize, n: usize, blocks: usize, marks: &[u8], len: usize, out: &mut [u8])
-    requires { ⌜ Marked (now t) (now marks) × ((n ≡ (held (now t)) .n) × ((blocks ≡ blockCount (held (now t)) 1024 0) × ((len ≡ sheetLength layout v (held (now t))) × (Version v × (len ≤ length (now out)))))) ⌝ }
+    requires { ⌜ BlockMarked (now t) (now marks) × ((n ≡ (held (now t)) .n) × ((blocks ≡ blockCount (held (now t)) 1024 0) × ((len ≡ sheetLength layout v (held (now t))) × (Version v × (len ≤ length (now out)))))) ⌝ }
     ensures { λ _. ⌜ now (out .exit) ≡ fronted (sheetBytes layout v (held (now (t .entry)))) (now (out .entry)) ⌝ }
 {
     put_front(out, v, len, n, blocks);
@@ -223,7 +223,7 @@ fn write_marked(
     marks: &[u8],
     out: &mut [u8],
 ) -> Composed
-    requires { ⌜ Marked (now t) (now marks) × ((n ≡ (held (now t)) .n) × ((blocks ≡ blockCount (held (now t)) 1024 0) × Version v)) ⌝ }
+    requires { ⌜ BlockMarked (now t) (now marks) × ((n ≡ (held (now t)) .n) × ((blocks ≡ blockCount (held (now t)) 1024 0) × Version v)) ⌝ }
     ensures { λ r. ⌜ (r ≡ (sheetOver layout v (held (now (t .entry))) (now (out .entry))) .answer) × (now (out .exit) ≡ (sheetOver layout v (held (now (t .entry))) (now (out .entry))) .buffer) ⌝ }
 {
     let len = 8 + (n + blocks_length(t, v, n, marks));

@@ -22,29 +22,29 @@ pub record Begins (s : List ℕ) (st : HandState) : Type 0 where
   pub partners : T (arcConsistent (sheetProblem s) (handState st))
 
 -- "Where after each list the rule holds for no item"
-abbrev pub Finished : (s : List ℕ) → HandState → Type 0
-Finished s st = T (finished (sheetProblem s) (handState st))
+abbrev pub FinishedAt : (s : List ℕ) → HandState → Type 0
+FinishedAt s st = T (finished (sheetProblem s) (handState st))
 
 pub record Demand3 : Type 0 where
   -- ---- "Take any two lists of hand calls on one sheet that keeps the layout, whichever item each call names and refused calls included. [..]
   -- each later call is given the state that the call before it answered, and nobody alters sheet or state meanwhile. Where after each list the
   -- rule holds for no item, the items left, their settings and the pairs allowed among them are alike in both."
 
-  pub alike : (s : List ℕ) → Keeps layout s → (st : HandState) → Begins s st → (k l : List ℕ) → Finished s (callsJob s st k) → Finished s (callsJob s st l)
+  pub alike : (s : List ℕ) → Keeps layout s → (st : HandState) → Begins s st → (k l : List ℕ) → FinishedAt s (callsJob s st k) → FinishedAt s (callsJob s st l)
       → Alike (sheetProblem s) (handState (callsJob s st k)) (handState (callsJob s st l))
   -- ---- "And no list of such calls from that state, finished or not, takes out an item that a finished one leaves."
 
-  pub left-in : (s : List ℕ) → Keeps layout s → (st : HandState) → Begins s st → (k l : List ℕ) → Finished s (callsJob s st k)
+  pub left-in : (s : List ℕ) → Keeps layout s → (st : HandState) → Begins s st → (k l : List ℕ) → FinishedAt s (callsJob s st k)
       → (i : ℕ) → Active (handState (callsJob s st k)) i → Active (handState (callsJob s st l)) i
   -- what starting answers is such a state
   pub start-begins : (s : List ℕ) → Keeps layout s → Begins s ((startJob s) .state)
   -- ---- the same of calls from C: from one buffer, finished lists leave one buffer, byte for byte
 
   pub same-bytes : (s : List ℕ) → Keeps layout s → (b : List ℕ) → length b ≡ handStateLength → OfBytes b → Begins s (handIn b)
-      → (k l : List ℕ) → Finished s (handIn (handCalls s b k)) → Finished s (handIn (handCalls s b l)) → handCalls s b k ≡ handCalls s b l
+      → (k l : List ℕ) → FinishedAt s (handIn (handCalls s b k)) → FinishedAt s (handIn (handCalls s b l)) → handCalls s b k ≡ handCalls s b l
   pub bytes-left-in : (s : List ℕ) → Keeps layout s → (b : List ℕ) → length b ≡ handStateLength → OfBytes b → Begins s (handIn b)
-      → (k l : List ℕ) → Finished s (handIn (handCalls s b k))
+      → (k l : List ℕ) → FinishedAt s (handIn (handCalls s b k))
       → (i : ℕ) → Active (handState (handIn (handCalls s b k))) i → Active (handState (handIn (handCalls s b l))) i
   pub started-bytes : (s b : List ℕ) → Keeps layout s → length b ≡ handStateLength
-      → (k l : List ℕ) → Finished s (handIn (handCalls s ((startCall s b) .state) k)) → Finished s (handIn (handCalls s ((startCall s b) .state) l))
+      → (k l : List ℕ) → FinishedAt s (handIn (handCalls s ((startCall s b) .state) k)) → FinishedAt s (handIn (handCalls s ((startCall s b) .state) l))
       → handCalls s ((startCall s b) .state) k ≡ handCalls s ((startCall s b) .state) l

@@ -25,7 +25,7 @@ use Rattle.held.specs.Ready.{Ready}
 use Rattle.held.proofs.Laws.{active-32}
 use Rattle.held.proofs.After.{state-held}
 use Rattle.first_plan.specs.First.{found, none, firstPlan}
-use Rattle.first_plan.specs.Steps.{answer, choose, Next, Emptied, Opens}
+use Rattle.first_plan.specs.Steps.{answer, choose, NextChoice, Emptied, Opens}
 use Rattle.first_plan.specs.declared.Found.{Found}
 use Rattle.first_plan.specs.declared.Opened.{Opened}
 use Rattle.first_plan.proofs.Meaning.{first-none-keeps}
@@ -89,7 +89,7 @@ module _ {t : List ℕ} {m : Masks} (R : Ready t m) where
   unfolding stateOf
   pick-done i e l w = sym (first-done (R .fits) (λ j h. let k : j < 32 = active-32 R j h in lowest-least 32 (bit (m .active)) j (omega arith) h) w)
 
-module _ {t : List ℕ} {m : Masks} (R : Ready t m) (i : ℕ) (X : Next m i) where
+module _ {t : List ℕ} {m : Masks} (R : Ready t m) (i : ℕ) (X : NextChoice m i) where
   next-active : Active (stateOf m) i
   unfolding stateOf
   next-active = subst (λ (j : ℕ). T (bit (m .active) j)) (sym (X .lowest)) (lowest-passes 32 (bit (m .active)) (omega (arith, X .lowest, X .variable)))
@@ -97,7 +97,7 @@ module _ {t : List ℕ} {m : Masks} (R : Ready t m) (i : ℕ) (X : Next m i) whe
   pub next-emptied : getD (m .domains) i 0 ≡ 0 → Emptied m
   next-emptied e = record { variable = i; active = next-active; empty = e }
 
-module _ {t : List ℕ} {m : Masks} (R : Ready t m) (i v : ℕ) (X : Next m i) where
+module _ {t : List ℕ} {m : Masks} (R : Ready t m) (i v : ℕ) (X : NextChoice m i) where
   low : (j : ℕ) → j < i → Active (stateOf m) j → ⊥
   unfolding stateOf
   low j l h = lowest-least 32 (bit (m .active)) j (omega (arith, X .lowest)) h
@@ -163,7 +163,7 @@ module _ {t : List ℕ} {m : Masks} (R : Ready t m) (i v : ℕ) (X : Next m i) w
           (λ c k h. remove-live (held t) (stateOf m) i v i c .0 (N .within i c h) .0) value-live
           (λ h. remove-live (held t) (stateOf m) i v i v .0 (N .within i v h) .1 (refl, refl))
 
-      pub still-next : Next (o .masks) i
+      pub still-next : NextChoice (o .masks) i
       unfolding stateOf remove
       still-next = record { variable = X .variable; lowest = X .lowest ∙ ap (lowest 32) (fun-ext (O .narrowed .active)) }
 

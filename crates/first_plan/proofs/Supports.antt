@@ -21,12 +21,12 @@ use Rattle.problem.specs.declared.Masks.{Masks}
 use Rattle.problem.specs.Sentences.{Active, Live, Allowed, Solution}
 use Rattle.held.specs.Ready.{Ready}
 use Rattle.support.specs.Words.{supportedBy, partnersOf}
-use Rattle.first_plan.specs.Steps.{Supported, Narrowed, Emptied}
+use Rattle.first_plan.specs.Steps.{KeepsSupported, Pruned, Emptied}
 
 -- ---- a union of rows
 
 -- what a union of rows leaves of a set has all with a support
-pub union-supports : {P : Problem} {was domain i j r : ℕ} → was < 2 ^ 16 → domain < 2 ^ 16 → r ≡ bitAnd was (partnersOf P domain i j) → Supported P was domain i j r
+pub union-supports : {P : Problem} {was domain i j r : ℕ} → was < 2 ^ 16 → domain < 2 ^ 16 → r ≡ bitAnd was (partnersOf P domain i j) → KeepsSupported P was domain i j r
 unfolding partnersOf
 union-supports {P} {was} {domain} {i} {j} {r} lw ld e =
     record {
@@ -45,9 +45,9 @@ union-supports {P} {was} {domain} {i} {j} {r} lw ld e =
 -- ---- a state
 
 -- one domain revised; `domain` has all values of i that a solution can have
-module _ {t : List ℕ} {s : State} {r : Masks} (N : Narrowed t s r) (domain i j x : ℕ)
+module _ {t : List ℕ} {s : State} {r : Masks} (N : Pruned t s r) (domain i j x : ℕ)
     (hi : Active s i) (d : j ≢ i) (p : j < 32) (lt : x < 2 ^ 16) (has : (a : ℕ) → Live s i a → T (bit domain a))
-    (X : Supported (held t) (getD (r .domains) j 0) domain i j x) where
+    (X : KeepsSupported (held t) (getD (r .domains) j 0) domain i j x) where
   abbrev next : Masks
   next = record { active = r .active; domains = set (r .domains) j x }
 
@@ -95,21 +95,21 @@ module _ {t : List ℕ} {s : State} {r : Masks} (N : Narrowed t s r) (domain i j
           let hj : T (bit (r .active) j) = subst (λ (z : ℕ). T (bit (r .active) z)) e h in
           rw (e, here) (X .keeps (q j) (q i) (N .keeps q A .live j hj) (has (q i) (A .live i hi)) (A .ok i j hi (subst T (sym (N .active j)) hj) (λ g. d (sym g))))
 
-  pub narrowed-more : Narrowed t s next
+  pub narrowed-more : Pruned t s next
   unfolding stateOf
   narrowed-more = record { ready = next-ready; active = N .active; within = λ k a o. N .within k a (within-next k a o); keeps = next-keeps }
 
-pub narrowed-same : {t : List ℕ} {m : Masks} → Ready t m → Narrowed t (stateOf m) m
+pub narrowed-same : {t : List ℕ} {m : Masks} → Ready t m → Pruned t (stateOf m) m
 narrowed-same R = record { ready = R; active = λ j. refl; within = λ j a o. o; keeps = λ q A. A }
 
-pub narrowed-trans : {t : List ℕ} {s : State} {r k : Masks} → Narrowed t s r → Narrowed t (stateOf r) k → Narrowed t s k
+pub narrowed-trans : {t : List ℕ} {s : State} {r k : Masks} → Pruned t s r → Pruned t (stateOf r) k → Pruned t s k
 narrowed-trans N K = record { ready = K .ready; active = λ j. N .active j ∙ K .active j; within = λ j a o. N .within j a (K .within j a o); keeps = λ q A. K .keeps q (N .keeps q A) }
 
 -- ---- lent sets
 
-module _ {t : List ℕ} {active : ℕ} (on : List ℕ) {left : List ℕ} (N : Narrowed t (stateOf (sets active on)) (sets active left)) (i j x : ℕ) where
+module _ {t : List ℕ} {active : ℕ} (on : List ℕ) {left : List ℕ} (N : Pruned t (stateOf (sets active on)) (sets active left)) (i j x : ℕ) where
   -- a variable revised from i
-  pub swept : bit active i ≡ true → j ≢ i → j < 32 → x < 2 ^ 16 → Supported (held t) (getD left j 0) (getD on i 0) i j x → Narrowed t (stateOf (sets active on)) (sets active (set left j x))
+  pub swept : bit active i ≡ true → j ≢ i → j < 32 → x < 2 ^ 16 → KeepsSupported (held t) (getD left j 0) (getD on i 0) i j x → Pruned t (stateOf (sets active on)) (sets active (set left j x))
   unfolding stateOf
   swept hi d p lt X = narrowed-more N (getD on i 0) i j x (T-of hi) d p lt (λ a o. o) X
 
@@ -124,6 +124,6 @@ swept-active near active i j L e t =
     let x = subst (λ (y : ℕ). T (bit y j)) e (L .part j t) in
     and-iff (bit near j) (bit active j) .0 (subst T (bit-and near active j) (without-part 32 (bitAnd near active) i j x)) .1
 
-pub emptied : {active : ℕ} {on : List ℕ} (i : ℕ) → bit active i ≡ true → getD on i 0 ≡ 0 → Emptied (sets active on)
+pub some-emptied : {active : ℕ} {on : List ℕ} (i : ℕ) → bit active i ≡ true → getD on i 0 ≡ 0 → Emptied (sets active on)
 unfolding stateOf
-emptied i h e = record { variable = i; active = T-of h; empty = e }
+some-emptied i h e = record { variable = i; active = T-of h; empty = e }

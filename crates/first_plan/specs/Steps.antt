@@ -31,17 +31,17 @@ choose P s i v =
     }
 
 -- i is the lowest active variable
-pub record Next (m : Masks) (i : ℕ) : Type 0 where
+pub record NextChoice (m : Masks) (i : ℕ) : Type 0 where
   pub variable : i < 32
   pub lowest : i ≡ lowest 32 (bit (m .active))
 
 -- r has of the values `was` of j all with a support in the domain of i
-pub record Supported (P : Problem) (was domain i j r : ℕ) : Type 0 where
+pub record KeepsSupported (P : Problem) (was domain i j r : ℕ) : Type 0 where
   pub within : (c : ℕ) → T (bit r c) → T (bit was c)
   pub keeps : (c a : ℕ) → T (bit was c) → T (bit domain a) → Allowed P i a j c → T (bit r c)
 
 -- r has the active variables of s, no new value, and every solution of s
-pub record Narrowed (t : List ℕ) (s : State) (r : Masks) : Type 0 where
+pub record Pruned (t : List ℕ) (s : State) (r : Masks) : Type 0 where
   pub ready : Ready t r
   pub active : (j : ℕ) → s .active j ≡ (stateOf r) .active j
   pub within : (j a : ℕ) → Live (stateOf r) j a → Live s j a
@@ -55,10 +55,10 @@ pub record Emptied (m : Masks) : Type 0 where
 
 -- the sets `on` became `left`, and where the answer is `dead` one of them is empty
 pub record Sweeps (t : List ℕ) (active : ℕ) (on : List ℕ) (r : Swept) (left : List ℕ) : Type 0 where
-  pub narrowed : Narrowed t (stateOf (sets active on)) (sets active left)
+  pub narrowed : Pruned t (stateOf (sets active on)) (sets active left)
   pub dead : r .dead ≡ true → Emptied (sets active left)
 
 -- the state s, narrowed; where it is not open it has no solution
 pub record Opens (t : List ℕ) (s : State) (o : Opened) : Type 0 where
-  pub narrowed : Narrowed t s (o .masks)
+  pub narrowed : Pruned t s (o .masks)
   pub closed : o .open ≡ false → Emptied (o .masks)

@@ -12,7 +12,7 @@ ghost use Rattle.problem.specs.Masks.{stateOf, masksOf, sets};
 ghost use Rattle.problem.specs.Sentences.{Live};
 ghost use Rattle.held.specs.Ready.{Ready};
 ghost use Rattle.first_plan.specs.First.{firstPlan};
-ghost use Rattle.first_plan.specs.Steps.{answer, choose as chosen, Next, Sweeps, Opens};
+ghost use Rattle.first_plan.specs.Steps.{answer, choose as chosen, NextChoice, Sweeps, Opens};
 use bounded::lowest16;
 use bounded::lowest32;
 use bounded::without32;
@@ -118,7 +118,7 @@ fn spread(t: &[u16], active: u32, on: &mut [u16; 32], i: usize) -> Swept
 
 // From the variables `first` on, values without a support go off, and from those that lost any, again. Each turn but the first 32 follows
 // from a value that went off, so 1024 are enough; nothing rests on that.
-fn narrow(t: &[u16], m: Masks, first: u32) -> Opened
+fn propagate(t: &[u16], m: Masks, first: u32) -> Opened
     requires { ⌜ Ready (now t) m ⌝ }
     ensures { λ r. ⌜ Opens (now (t .entry)) (stateOf m) r ⌝ }
 {
@@ -158,7 +158,7 @@ fn attempt(t: &[u16], m: Masks, i: usize, v: usize) -> Opened
 {
     let c = choose(t, m, i, v);
     let masks = c.masks;
-    narrow(t, masks, c.changed)
+    propagate(t, masks, c.changed)
 }
 
 // Variable i has another value than v.
@@ -166,7 +166,7 @@ fn refute(t: &[u16], m: Masks, i: usize, v: usize) -> Opened
     requires { ⌜ Ready (now t) m × (i < 32) × (v < 16) ⌝ }
     ensures { λ r. ⌜ Opens (now (t .entry)) (removed (held (now (t .entry))) (stateOf m) i v) r ⌝ }
 {
-    narrow(t, steps::remove(t, m, i, v), 1u32 << i)
+    propagate(t, steps::remove(t, m, i, v), 1u32 << i)
 }
 
 // ---- the search
@@ -188,7 +188,7 @@ fn pick(t: &&[u16], active: u32, on: &mut [u16; 32], plan: &mut [u8; 32]) -> boo
 
 // The same where the next variable is i: the lowest value left of it with the variables after i, or else the values after that one.
 fn tries(t: &&[u16], active: u32, on: &mut [u16; 32], plan: &mut [u8; 32], i: usize) -> bool
-    requires { ⌜ Ready (now (now t)) (sets active (now on)) × Next (sets active (now on)) i × (length (now plan) ≡ 32) ⌝ }
+    requires { ⌜ Ready (now (now t)) (sets active (now on)) × NextChoice (sets active (now on)) i × (length (now plan) ≡ 32) ⌝ }
     ensures { λ r. ⌜ answer r (now (plan .exit)) ≡ firstPlan (held (now (now (t .entry)))) (stateOf (sets active (now (on .entry)))) (now (plan .entry)) ⌝ }
 {
     let domain = on[i];
@@ -224,11 +224,11 @@ pub fn first_plan(t: &[u16], m: Masks, plan: [u8; 32]) -> Found
     requires { ⌜ Ready (now t) m ⌝ }
     ensures { λ r. ⌜ r ≡ firstPlan (held (now (t .entry))) (stateOf m) plan ⌝ }
 {
-    // narrowing sees no crowd, and the search would go through every order of its values
-    if crowd::crowded(t, m.active, &m.domains) {
+    // pruning sees no pigeonhole, and the search would go through every order of its values
+    if pigeonhole::overfull(t, m.active, &m.domains) {
         return Found { ok: false, plan };
     }
-    let o = narrow(t, m, m.active);
+    let o = propagate(t, m, m.active);
     if !o.open {
         return Found { ok: false, plan };
     }

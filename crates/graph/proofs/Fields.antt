@@ -9,7 +9,7 @@ use lib.Dec.{eqb, leb}
 use lib.ListN.{length, drop, getD, length-append}
 use borrow.Author.Tests.{leb-true, le-leb, eq-eqb, ne-eqb}
 use Rattle.bounded.proofs.Truth.{both, eq-dec, lt-dec, clash}
-use Rattle.graph.specs.Graph.{before, fieldsOf, isDigit, allDigits, isNumber, decimalOf, twoNumbers}
+use Rattle.graph.specs.Graph.{before, lineFields, isDigit, allDigits, isNumber, decimalOf, twoNumbers}
 use Rattle.graph.specs.Scan.{lineIn, digitsIn}
 use Rattle.graph.specs.declared.Line.{Line}
 use Rattle.graph.specs.declared.Line.the-variants.{Bad}
@@ -23,7 +23,7 @@ firstField (x ∷ l) = elim (eqb x 32) [ true ↦ [] | false ↦ x ∷ firstFiel
 
 unfoldable moreFields : List ℕ → List (List ℕ)
 moreFields [] = []
-moreFields (x ∷ l) = elim (eqb x 32) [ true ↦ fieldsOf l | false ↦ moreFields l ]
+moreFields (x ∷ l) = elim (eqb x 32) [ true ↦ lineFields l | false ↦ moreFields l ]
 
 first-space : (x : ℕ) (l : List ℕ) → eqb x 32 ≡ true → firstField (x ∷ l) ≡ []
 unfolding firstField
@@ -33,7 +33,7 @@ first-more : (x : ℕ) (l : List ℕ) → eqb x 32 ≡ false → firstField (x �
 unfolding firstField
 first-more x l e = rw (e, firstField)
 
-more-space : (x : ℕ) (l : List ℕ) → eqb x 32 ≡ true → moreFields (x ∷ l) ≡ fieldsOf l
+more-space : (x : ℕ) (l : List ℕ) → eqb x 32 ≡ true → moreFields (x ∷ l) ≡ lineFields l
 unfolding moreFields
 more-space x l e = rw (e, moreFields)
 
@@ -41,20 +41,20 @@ more-more : (x : ℕ) (l : List ℕ) → eqb x 32 ≡ false → moreFields (x �
 unfolding moreFields
 more-more x l e = rw (e, moreFields)
 
-pub fields-space : (x : ℕ) (l : List ℕ) → eqb x 32 ≡ true → fieldsOf (x ∷ l) ≡ [] ∷ fieldsOf l
-unfolding fieldsOf
-fields-space x l e = rw (e, fieldsOf)
+pub fields-space : (x : ℕ) (l : List ℕ) → eqb x 32 ≡ true → lineFields (x ∷ l) ≡ [] ∷ lineFields l
+unfolding lineFields
+fields-space x l e = rw (e, lineFields)
 
-pub fields-more : (x : ℕ) (l : List ℕ) → eqb x 32 ≡ false → fieldsOf (x ∷ l) ≡ before x (fieldsOf l)
-unfolding fieldsOf
-fields-more x l e = rw (e, fieldsOf)
+pub fields-more : (x : ℕ) (l : List ℕ) → eqb x 32 ≡ false → lineFields (x ∷ l) ≡ before x (lineFields l)
+unfolding lineFields
+fields-more x l e = rw (e, lineFields)
 
-fields-first : (l : List ℕ) → fieldsOf l ≡ firstField l ∷ moreFields l
-unfolding fieldsOf firstField moreFields
+fields-first : (l : List ℕ) → lineFields l ≡ firstField l ∷ moreFields l
+unfolding lineFields firstField moreFields
 fields-first [] = refl
 fields-first (x ∷ l) = go (eqb x 32) refl (fields-first l)
   where
-    go : (t : Bool) → eqb x 32 ≡ t → fieldsOf l ≡ firstField l ∷ moreFields l → fieldsOf (x ∷ l) ≡ firstField (x ∷ l) ∷ moreFields (x ∷ l)
+    go : (t : Bool) → eqb x 32 ≡ t → lineFields l ≡ firstField l ∷ moreFields l → lineFields (x ∷ l) ≡ firstField (x ∷ l) ∷ moreFields (x ∷ l)
     go true e ih = rw (first-space x l e, more-space x l e, fields-space x l e)
     go false e ih = rw (first-more x l e, more-more x l e, fields-more x l e) (ap (before x) ih)
 
@@ -199,7 +199,7 @@ first-other [] a b d = absurd (b refl)
 first-other (x ∷ s) a b d = rw (line-more x s (ne-eqb x 10 b), first-more x (lineIn s) (ne-eqb x 32 a), d)
 
 -- at a space, and at the end of the line
-at-space : (s : List ℕ) → getD s 0 10 ≡ 32 → (firstField (lineIn s) ≡ []) × ((moreFields (lineIn s) ≡ fieldsOf (lineIn (drop 1 s))) × (length (lineIn s) ≡ 1 + length (lineIn (drop 1 s))))
+at-space : (s : List ℕ) → getD s 0 10 ≡ 32 → (firstField (lineIn s) ≡ []) × ((moreFields (lineIn s) ≡ lineFields (lineIn (drop 1 s))) × (length (lineIn s) ≡ 1 + length (lineIn (drop 1 s))))
 at-space [] e = absurd (clash {b = eqb 10 32} (eq-eqb 10 32 e) refl)
 at-space (x ∷ s) e =
     let n : eqb x 10 ≡ false = ne-eqb x 10 (λ q. omega arith) in
@@ -237,11 +237,11 @@ module _ (r : List ℕ) where
   abbrev left : List ℕ
   left = drop (length ds) r
 
-  field-space : sep ≡ 32 → fieldsOf (lineIn r) ≡ ds ∷ fieldsOf (lineIn (drop (suc (length ds)) r))
+  field-space : sep ≡ 32 → lineFields (lineIn r) ≡ ds ∷ lineFields (lineIn (drop (suc (length ds)) r))
   field-space e =
       let q = at-space left (drop-at r (length ds) 10 ∙ e) in
       let f : firstField (lineIn r) ≡ ds = first-digits 10 r ∙ ap (λ (l : List ℕ). ds ++ l) (q .0) ∙ append-nil ds in
-      let m : moreFields (lineIn r) ≡ fieldsOf (lineIn (drop (suc (length ds)) r)) = more-digits 10 r ∙ q .1 .0 ∙ ap (λ (l : List ℕ). fieldsOf (lineIn l)) (drop-one r (length ds)) in
+      let m : moreFields (lineIn r) ≡ lineFields (lineIn (drop (suc (length ds)) r)) = more-digits 10 r ∙ q .1 .0 ∙ ap (λ (l : List ℕ). lineFields (lineIn l)) (drop-one r (length ds)) in
       fields-first (lineIn r) ∙ (λ i. f i ∷ m i)
 
   length-space : sep ≡ 32 → length (lineIn r) ≡ length ds + (1 + length (lineIn (drop (suc (length ds)) r)))
@@ -251,7 +251,7 @@ module _ (r : List ℕ) where
       let g : length (lineIn (drop 1 left)) ≡ length (lineIn (drop (suc (length ds)) r)) = ap (λ (l : List ℕ). length (lineIn l)) (drop-one r (length ds)) in
       omega arith
 
-  field-end : sep ≡ 10 → fieldsOf (lineIn r) ≡ ds ∷ []
+  field-end : sep ≡ 10 → lineFields (lineIn r) ≡ ds ∷ []
   unfolding firstField moreFields
   field-end e =
       let q = at-end left (drop-at r (length ds) 10 ∙ e) in
@@ -327,24 +327,24 @@ module _ (form : ℕ → ℕ → Line) where
   -- of the numbers that a line begins with
   module _ (r : List ℕ) where
     abbrev Two : Line → Type 0
-    Two x = twoNumbers form (fieldsOf (lineIn r)) ≡ x
+    Two x = twoNumbers form (lineFields (lineIn r)) ≡ x
 
     abbrev next : List ℕ
     next = drop (suc (length (ds r))) r
 
-    pub two-bad-count : (length (digitsIn 10 r) ≡ 0) ⊎ (9 < length (digitsIn 10 r)) → twoNumbers form (fieldsOf (lineIn r)) ≡ Bad
+    pub two-bad-count : (length (digitsIn 10 r) ≡ 0) ⊎ (9 < length (digitsIn 10 r)) → twoNumbers form (lineFields (lineIn r)) ≡ Bad
     two-bad-count h = rw (fields-first (lineIn r)) (two-first (firstField (lineIn r)) (moreFields (lineIn r)) (bad-count r h))
 
-    pub two-bad-space : getD r (length (digitsIn 10 r)) 10 ≢ 32 → twoNumbers form (fieldsOf (lineIn r)) ≡ Bad
+    pub two-bad-space : getD r (length (digitsIn 10 r)) 10 ≢ 32 → twoNumbers form (lineFields (lineIn r)) ≡ Bad
     two-bad-space n = ⊎-elim
         (λ (e : sep r ≡ 10). rw (field-end r e) (two-one (ds r)))
         (λ (b : sep r ≢ 10). rw (fields-first (lineIn r)) (two-first (firstField (lineIn r)) (moreFields (lineIn r)) (first-on r n b)))
         (eq-dec (sep r) 10)
 
-    pub two-bad-second : getD r (length (digitsIn 10 r)) 10 ≡ 32 → (length (digitsIn 10 next) ≡ 0) ⊎ (9 < length (digitsIn 10 next)) → twoNumbers form (fieldsOf (lineIn r)) ≡ Bad
+    pub two-bad-second : getD r (length (digitsIn 10 r)) 10 ≡ 32 → (length (digitsIn 10 next) ≡ 0) ⊎ (9 < length (digitsIn 10 next)) → twoNumbers form (lineFields (lineIn r)) ≡ Bad
     two-bad-second e h = rw (field-space r e, fields-first (lineIn next)) (two-second (ds r) (firstField (lineIn next)) (moreFields (lineIn next)) (bad-count next h))
 
-    pub two-bad-end : getD r (length (digitsIn 10 r)) 10 ≡ 32 → getD next (length (digitsIn 10 next)) 10 ≢ 10 → twoNumbers form (fieldsOf (lineIn r)) ≡ Bad
+    pub two-bad-end : getD r (length (digitsIn 10 r)) 10 ≡ 32 → getD next (length (digitsIn 10 next)) 10 ≢ 10 → twoNumbers form (lineFields (lineIn r)) ≡ Bad
     two-bad-end e n = ⊎-elim
         (λ (f : sep next ≡ 32).
         rw (field-space r e, field-space next f, fields-first (lineIn (drop (suc (length (ds next))) next)))
@@ -353,7 +353,7 @@ module _ (form : ℕ → ℕ → Line) where
         (eq-dec (sep next) 32)
 
     pub two-good : Short (digitsIn 10 r) → getD r (length (digitsIn 10 r)) 10 ≡ 32 → Short (digitsIn 10 next) → getD next (length (digitsIn 10 next)) 10 ≡ 10
-        → twoNumbers form (fieldsOf (lineIn r)) ≡ form (decimalOf (digitsIn 10 r)) (decimalOf (digitsIn 10 next))
+        → twoNumbers form (lineFields (lineIn r)) ≡ form (decimalOf (digitsIn 10 r)) (decimalOf (digitsIn 10 next))
     two-good a e b f = rw (field-space r e, field-end next f) (two-both (ds r) (ds next) (digits-number r a) (digits-number next b))
 
 -- the length of a line of two numbers

@@ -8,7 +8,7 @@ use native.Mathlib.Omega.{arith}
 use lib.Dec.{eqb}
 use lib.ListN.{length, drop, getD}
 use borrow.Author.Tests.{eq-eqb, ne-eqb}
-use Rattle.graph.specs.Graph.{begins, commentWord, sizeWord, edgeWord, fieldsOf, twoNumbers, lineOf}
+use Rattle.graph.specs.Graph.{begins, commentWord, sizeWord, edgeWord, lineFields, twoNumbers, lineOf}
 use Rattle.graph.specs.Scan.{lineIn}
 use Rattle.graph.specs.declared.Line.the-variants.{Comment, Size, Edge, Bad}
 use Rattle.graph.proofs.Lines.{begins-line, drop-line}
@@ -30,23 +30,23 @@ module _ (r : List ℕ) where
   is-comment e = let c = comment-line ∙ e in rw (c, lineOf)
 
   pub is-size : begins commentWord r ≡ false → begins sizeWord r ≡ true
-      → (lineOf (lineIn r) ≡ twoNumbers Size (fieldsOf (lineIn (drop 7 r)))) × (length (lineIn r) ≡ 7 + length (lineIn (drop 7 r)))
+      → (lineOf (lineIn r) ≡ twoNumbers Size (lineFields (lineIn (drop 7 r)))) × (length (lineIn r) ≡ 7 + length (lineIn (drop 7 r)))
   unfolding lineOf
   is-size e f =
       let c = comment-line ∙ e in
       let s = size-line ∙ f in
       let d = drop-line sizeWord r (refl, (refl, (refl, (refl, (refl, (refl, (refl, tt))))))) f in
-      (rw (c, lineOf) (rw (s, lineOf) (ap (λ (l : List ℕ). twoNumbers Size (fieldsOf l)) (d .0))), d .1)
+      (rw (c, lineOf) (rw (s, lineOf) (ap (λ (l : List ℕ). twoNumbers Size (lineFields l)) (d .0))), d .1)
 
   pub is-edge : begins commentWord r ≡ false → begins sizeWord r ≡ false → begins edgeWord r ≡ true
-      → (lineOf (lineIn r) ≡ twoNumbers Edge (fieldsOf (lineIn (drop 2 r)))) × (length (lineIn r) ≡ 2 + length (lineIn (drop 2 r)))
+      → (lineOf (lineIn r) ≡ twoNumbers Edge (lineFields (lineIn (drop 2 r)))) × (length (lineIn r) ≡ 2 + length (lineIn (drop 2 r)))
   unfolding lineOf
   is-edge e f g =
       let c = comment-line ∙ e in
       let s = size-line ∙ f in
       let t = edge-line ∙ g in
       let d = drop-line edgeWord r (refl, (refl, tt)) g in
-      (rw (c, lineOf) (rw (s, lineOf) (rw (t, lineOf) (ap (λ (l : List ℕ). twoNumbers Edge (fieldsOf l)) (d .0)))), d .1)
+      (rw (c, lineOf) (rw (s, lineOf) (rw (t, lineOf) (ap (λ (l : List ℕ). twoNumbers Edge (lineFields l)) (d .0)))), d .1)
 
   pub is-none : begins commentWord r ≡ false → begins sizeWord r ≡ false → begins edgeWord r ≡ false → lineOf (lineIn r) ≡ Bad
   unfolding lineOf

@@ -8,7 +8,7 @@ use native.Mathlib.Omega.{arith}
 use lib.Dec.{eqb}
 use lib.ListN.{length}
 use borrow.Author.Tests.{eqb-true, eqb-false}
-use Rattle.graph.specs.Graph.{before, linesOf, fieldsOf}
+use Rattle.graph.specs.Graph.{before, linesOf, lineFields}
 use Rattle.graph.proofs.Lines.{lines-none, lines-more}
 use Rattle.graph.proofs.Fields.{fields-space, fields-more}
 
@@ -81,34 +81,34 @@ spaced (l ∷ []) = l
 spaced (l ∷ k ∷ m) = l ++ (32 ∷ spaced (k ∷ m))
 
 -- there is always one
-some : (l : List ℕ) → 1 ≤ length (fieldsOf l)
-unfolding fieldsOf
+some : (l : List ℕ) → 1 ≤ length (lineFields l)
+unfolding lineFields
 some [] = omega arith
-some (x ∷ l) = go (eqb x 32) refl (fieldsOf l) refl
+some (x ∷ l) = go (eqb x 32) refl (lineFields l) refl
   where
-    go : (t : Bool) → eqb x 32 ≡ t → (m : List (List ℕ)) → fieldsOf l ≡ m → 1 ≤ length (fieldsOf (x ∷ l))
+    go : (t : Bool) → eqb x 32 ≡ t → (m : List (List ℕ)) → lineFields l ≡ m → 1 ≤ length (lineFields (x ∷ l))
     go true e m q = rw (fields-space x l e) (omega arith)
     go false e [] q = rw (fields-more x l e, q) (omega arith)
     go false e (k ∷ m) q = rw (fields-more x l e, q) (omega arith)
 
 -- "Fields stand one space apart": so parted, they are the text
-pub fields-make : (l : List ℕ) → spaced (fieldsOf l) ≡ l
-unfolding fieldsOf
+pub fields-make : (l : List ℕ) → spaced (lineFields l) ≡ l
+unfolding lineFields
 fields-make [] = refl
-fields-make (x ∷ l) = go (eqb x 32) refl (fieldsOf l) refl (some l) (fields-make l)
+fields-make (x ∷ l) = go (eqb x 32) refl (lineFields l) refl (some l) (fields-make l)
   where
-    go : (t : Bool) → eqb x 32 ≡ t → (m : List (List ℕ)) → fieldsOf l ≡ m → 1 ≤ length (fieldsOf l) → spaced (fieldsOf l) ≡ l → spaced (fieldsOf (x ∷ l)) ≡ x ∷ l
+    go : (t : Bool) → eqb x 32 ≡ t → (m : List (List ℕ)) → lineFields l ≡ m → 1 ≤ length (lineFields l) → spaced (lineFields l) ≡ l → spaced (lineFields (x ∷ l)) ≡ x ∷ l
     go t e [] q s ih = let z = ap length q in absurd (omega arith)
     go true e (k ∷ m) q s ih = ap spaced (fields-space x l e ∙ ap (λ (y : List (List ℕ)). [] ∷ y) q) ∙ (λ i. sym (eqb-true x 32 e) i ∷ (sym (ap spaced q) ∙ ih) i)
     go false e (k ∷ []) q s ih = ap spaced (fields-more x l e ∙ ap (before x) q) ∙ ap (λ (y : List ℕ). x ∷ y) (sym (ap spaced q) ∙ ih)
     go false e (k ∷ j ∷ m) q s ih = ap spaced (fields-more x l e ∙ ap (before x) q) ∙ ap (λ (y : List ℕ). x ∷ y) (sym (ap spaced q) ∙ ih)
 
 -- and no field has one inside
-pub fields-inside : (l : List ℕ) → AllWithout 32 (fieldsOf l)
-unfolding fieldsOf
+pub fields-inside : (l : List ℕ) → AllWithout 32 (lineFields l)
+unfolding lineFields
 fields-inside [] = (tt, tt)
 fields-inside (x ∷ l) = go (eqb x 32) refl (fields-inside l)
   where
-    go : (t : Bool) → eqb x 32 ≡ t → AllWithout 32 (fieldsOf l) → AllWithout 32 (fieldsOf (x ∷ l))
+    go : (t : Bool) → eqb x 32 ≡ t → AllWithout 32 (lineFields l) → AllWithout 32 (lineFields (x ∷ l))
     go true e ih = rw (fields-space x l e) (tt, ih)
-    go false e ih = rw (fields-more x l e) (before-without 32 x (fieldsOf l) e ih)
+    go false e ih = rw (fields-more x l e) (before-without 32 x (lineFields l) e ih)

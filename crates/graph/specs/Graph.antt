@@ -23,9 +23,9 @@ linesOf [] = []
 linesOf (x ∷ f) = elim (eqb x 10) [ true ↦ [] ∷ linesOf f | false ↦ before x (linesOf f) ]
 
 -- the fields of a text: "Fields stand one space apart". So two spaces have an empty field between them, and a space at the end one after it.
-unfoldable pub fieldsOf : List ℕ → List (List ℕ)
-fieldsOf [] = [] ∷ []
-fieldsOf (x ∷ l) = elim (eqb x 32) [ true ↦ [] ∷ fieldsOf l | false ↦ before x (fieldsOf l) ]
+unfoldable pub lineFields : List ℕ → List (List ℕ)
+lineFields [] = [] ∷ []
+lineFields (x ∷ l) = elim (eqb x 32) [ true ↦ [] ∷ lineFields l | false ↦ before x (lineFields l) ]
 
 -- ---- numbers
 
@@ -81,8 +81,8 @@ lineOf l =
     elim (begins commentWord l) [
       | true ↦ Comment
       | false ↦ elim (begins sizeWord l) [
-        | true ↦ twoNumbers Size (fieldsOf (drop 7 l))
-        | false ↦ elim (begins edgeWord l) [ true ↦ twoNumbers Edge (fieldsOf (drop 2 l)) | false ↦ Bad ]
+        | true ↦ twoNumbers Size (lineFields (drop 7 l))
+        | false ↦ elim (begins edgeWord l) [ true ↦ twoNumbers Edge (lineFields (drop 2 l)) | false ↦ Bad ]
       ]
     ]
 

@@ -21,7 +21,7 @@ use Rattle.problem.specs.Masks.{stateOf}
 use Rattle.problem.specs.declared.Masks.{Masks}
 use Rattle.problem.proofs.Reflect.{allActive-iff, allLive-iff, anyLive-iff}
 use Rattle.problem.specs.Sentences.{Active, Live, Allowed, Fits}
-use Rattle.problem.proofs.HeldTable.{row-word, row-only, row-tells, row-met, held-bounded, held-few, held-narrow, held-value, heldValue-iff, far-free}
+use Rattle.problem.proofs.HeldTable.{row-word, row-only, held-row-tells, row-met, held-bounded, held-few, held-narrow, held-value, heldValue-iff, far-free}
 use Rattle.held.specs.Ready.{Ready, Value, Values, Near, Among}
 
 module _ {P : Problem} {s : State} (F : Fits P s) where
@@ -42,7 +42,7 @@ pub row-read : {t : List ℕ} → RowTable t → (i a j : ℕ) → Value t i a �
     → ((c : ℕ) → c < (held t) .size j → bit (getD t (rowsAt i j + a) 0) c ≡ (held t) .allowed i a j c)
     × ((x : ℕ) → Values t j x → (c : ℕ) → bit (bitAnd x (getD t (rowsAt i j + a) 0)) c ≡ (bit x c && (held t) .allowed i a j c))
 row-read R i a j v d = (
-  λ c k. row-tells R i a j (v .listed) (λ e. d (sym e)) c (held-value R j c k),
+  λ c k. held-row-tells R i a j (v .listed) (λ e. d (sym e)) c (held-value R j c k),
   λ x vs c. ap (λ (y : ℕ). bit y c) (row-met R i a j (v .listed) (λ e. d (sym e)) x (vs .small) (vs .within)) ∙ bit-and x _ c ∙ ap (λ (b : Bool). bit x c && b) (row-says R i j a c),
 )
 

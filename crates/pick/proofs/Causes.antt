@@ -50,8 +50,8 @@ module _ (P : Problem) (b p : List ℕ) where
     pick-accepted-over e = rw (le-ltb (length b) (1 + 5 * sizeSum P) l, eq-eqb (length p) (P .n) e, pickOver)
 
   -- the buffers have the lengths that are asked for
-  abbrev pub Lent : Type 0
-  Lent = (1 + 5 * sizeSum P ≤ length b) × (length p ≡ P .n)
+  abbrev pub RightLengths : Type 0
+  RightLengths = (1 + 5 * sizeSum P ≤ length b) × (length p ≡ P .n)
 
   -- the end, the steps and the bytes are the run's
   abbrev pub RunsOwn : End → (k w : ℕ) → Type 0
@@ -64,12 +64,12 @@ module _ (P : Problem) (b p : List ℕ) where
   PickCauseOver (Refused refusal.Buffer) = length b < 1 + 5 * sizeSum P
   -- 20, after 10: "the lent plan is not n bytes"
   PickCauseOver (Refused refusal.ResultLength) = (1 + 5 * sizeSum P ≤ length b) × (length p ≢ P .n)
-  PickCauseOver (Plan e k w) = Lent × (RunsOwn e k w × HasPlan P)
+  PickCauseOver (Plan e k w) = RightLengths × (RunsOwn e k w × HasPlan P)
   -- "It says "none" exactly when no choice of settings at all is a plan of the full sheet"
-  PickCauseOver (None e k w) = Lent × (RunsOwn e k w × (HasPlan P → ⊥))
+  PickCauseOver (None e k w) = RightLengths × (RunsOwn e k w × (HasPlan P → ⊥))
 
   module _ (B : Bounded P) where
-    answered : (y : Bool) → (firstLeft P) .ok ≡ y → (e : End) (k w : ℕ) → Lent → RunsOwn e k w → (pickOver P b p) .answer .outcome ≡ outcomeOf y e k w
+    answered : (y : Bool) → (firstLeft P) .ok ≡ y → (e : End) (k w : ℕ) → RightLengths → RunsOwn e k w → (pickOver P b p) .answer .outcome ≡ outcomeOf y e k w
     unfolding pickDone
     answered y o e k w (l, n) (x, (u, v)) =
         ap (λ (r : PickResult). r .answer .outcome) (pick-accepted-over l n)
@@ -85,7 +85,7 @@ module _ (P : Problem) (b p : List ℕ) where
     some-cause : (o : PickOutcome) × PickCauseOver o
     some-cause = by-buffer (lt-dec (length b) (1 + 5 * sizeSum P))
       where
-        by-plan : Lent → T ((firstLeft P) .ok) ⊎ (T ((firstLeft P) .ok) → ⊥) → (o : PickOutcome) × PickCauseOver o
+        by-plan : RightLengths → T ((firstLeft P) .ok) ⊎ (T ((firstLeft P) .ok) → ⊥) → (o : PickOutcome) × PickCauseOver o
         by-plan l (inl t) = (Plan _ _ _, (l, ((refl, (refl, refl)), found-iff P B .0 t)))
         by-plan l (inr h) = (None _ _ _, (l, ((refl, (refl, refl)), λ x. h (found-iff P B .1 x))))
 

@@ -31,7 +31,7 @@ use Rattle.putting_back.proofs.Demands.{put-back-accepted-over, put-back-plan}
 use Rattle.pick.specs.Pick.{leftBy, runTrace, firstLeft, leftPlan, PickResult, outcomeOf, pickDone, pickOver, pickJob}
 use Rattle.pick.specs.declared.PickOutcome.the-variants.{Plan, None}
 use Rattle.pick.proofs.Left.{found-iff, plan-with, plan-without, left-plan, left-least, left-back, plan-not-read}
-use Rattle.pick.proofs.Causes.{Lent, RunsOwn, pick-buffer-over, pick-length-over, pick-accepted-over, pick-iff-over, pick-sheet-refused, pick-kept, pick-iff}
+use Rattle.pick.proofs.Causes.{RightLengths, RunsOwn, pick-buffer-over, pick-length-over, pick-accepted-over, pick-iff-over, pick-sheet-refused, pick-kept, pick-iff}
 
 -- the trace stands at the buffer's front
 trace-front : (P : Problem) (b p : List ℕ) (w : ℕ) → w ≡ length (runTrace P) → take w ((pickDone P b p) .trace) ≡ runTrace P
@@ -66,8 +66,8 @@ abbrev pub SaysNone : PickResult → Type 0
 SaysNone x = (e : End) × (k : ℕ) × (w : ℕ) × (x .answer .outcome ≡ None e k w)
 
 -- two results with the same answer and the same trace
-abbrev pub Alike : PickResult → PickResult → Type 0
-Alike x y = (x .answer ≡ y .answer) × (x .trace ≡ y .trace)
+abbrev pub SameAnswer : PickResult → PickResult → Type 0
+SameAnswer x y = (x .answer ≡ y .answer) × (x .trace ≡ y .trace)
 
 -- ---- over a problem
 
@@ -76,7 +76,7 @@ module _ (P : Problem) (B : Bounded P) (b p : List ℕ) where
   picked = pickOver P b p
 
   -- a plan or none is answered where both buffers have the lengths that are asked for, and with the run's own
-  answers : (y : Bool) (e : End) (k w : ℕ) → picked .answer .outcome ≡ outcomeOf y e k w → Lent P b p × RunsOwn P b p e k w
+  answers : (y : Bool) (e : End) (k w : ℕ) → picked .answer .outcome ≡ outcomeOf y e k w → RightLengths P b p × RunsOwn P b p e k w
   answers true e k w o = let x = pick-iff-over P b p B (Plan e k w) .0 o in (x .0, x .1 .0)
   answers false e k w o = let x = pick-iff-over P b p B (None e k w) .0 o in (x .0, x .1 .0)
 
@@ -118,7 +118,7 @@ module _ (P : Problem) (B : Bounded P) (b p : List ℕ) where
       }
 
   -- "It says "none" exactly when no choice of settings at all is a plan of the full sheet, and then leaves the lent plan untouched."
-  pub none-iff-over : Lent P b p → SaysNone picked ↔ NoPlan P
+  pub none-iff-over : RightLengths P b p → SaysNone picked ↔ NoPlan P
   none-iff-over l = (
     λ (e, k, w, o) q t. pick-iff-over P b p B (None e k w) .0 o .1 .1 (q, t),
     λ h. (_, _, _, pick-iff-over P b p B (None _ _ _) .1 (l, ((refl, (refl, refl)), λ (q, t). h q t))),
@@ -132,15 +132,15 @@ module _ (P : Problem) (B : Bounded P) (b p : List ℕ) where
 
 module _ (P : Problem) (b p q : List ℕ) (same : length p ≡ length q) where
   -- "what they are before the call is never read": with other bytes lent for the plan the answer and the trace are the same
-  pub pick-not-read-over : Alike (pickOver P b p) (pickOver P b q)
+  pub pick-not-read-over : SameAnswer (pickOver P b p) (pickOver P b q)
   unfolding pickDone
   pick-not-read-over = by-buffer (lt-dec (length b) (1 + 5 * sizeSum P))
     where
-      by-length : 1 + 5 * sizeSum P ≤ length b → (length p ≡ P .n) ⊎ (length p ≢ P .n) → Alike (pickOver P b p) (pickOver P b q)
+      by-length : 1 + 5 * sizeSum P ≤ length b → (length p ≡ P .n) ⊎ (length p ≢ P .n) → SameAnswer (pickOver P b p) (pickOver P b q)
       by-length l (inl e) = rw (pick-accepted-over P b p l e, pick-accepted-over P b q l (sym same ∙ e)) (refl, refl)
       by-length l (inr d) = rw (pick-length-over P b p l d, pick-length-over P b q l (λ e. d (same ∙ e))) (refl, refl)
 
-      by-buffer : (length b < 1 + 5 * sizeSum P) ⊎ (1 + 5 * sizeSum P ≤ length b) → Alike (pickOver P b p) (pickOver P b q)
+      by-buffer : (length b < 1 + 5 * sizeSum P) ⊎ (1 + 5 * sizeSum P ≤ length b) → SameAnswer (pickOver P b p) (pickOver P b q)
       by-buffer (inl l) = rw (pick-buffer-over P b p l, pick-buffer-over P b q l) (refl, refl)
       by-buffer (inr l) = by-length l (eq-dec (length p) (P .n))
 
@@ -177,7 +177,7 @@ module _ (s b p : List ℕ) where
       rw (pick-kept s b p K) (record { first = x .first; fits = x .fits; least = x .least; back = put-back-kept s _ _ p K ∙ x .back; whole = x .whole })
 
   -- picking is not refused where the sheet keeps the layout and both buffers have the lengths that are asked for
-  pub none-iff : Keeps layout s → Lent problem b p → SaysNone (pickJob s b p) ↔ NoPlan problem
+  pub none-iff : Keeps layout s → RightLengths problem b p → SaysNone (pickJob s b p) ↔ NoPlan problem
   none-iff K l = rw (pick-kept s b p K) (none-iff-over problem (problem-bounded s K) b p l)
 
   -- where it says "none", no choice of settings at all is a plan of the full sheet
@@ -188,10 +188,10 @@ module _ (s b p : List ℕ) where
   none-keeps e k w o = let (K, u) = over false e k w o in ap (λ (z : PickResult). z .plan) (pick-kept s b p K) ∙ none-keeps-over problem (problem-bounded s K) b p e k w u
 
 module _ (s b p q : List ℕ) (same : length p ≡ length q) where
-  pub pick-not-read : Alike (pickJob s b p) (pickJob s b q)
+  pub pick-not-read : SameAnswer (pickJob s b p) (pickJob s b q)
   pick-not-read = go (sheet-or s)
     where
-      go : ((r : SheetRefusal) × (readSheet layout s ≡ read.Refused r)) ⊎ Keeps layout s → Alike (pickJob s b p) (pickJob s b q)
+      go : ((r : SheetRefusal) × (readSheet layout s ≡ read.Refused r)) ⊎ Keeps layout s → SameAnswer (pickJob s b p) (pickJob s b q)
       go (inl (r, e)) = rw (pick-sheet-refused s b p r e, pick-sheet-refused s b q r e) (refl, refl)
       go (inr K) = rw (pick-kept s b p K, pick-kept s b q K) (pick-not-read-over (problemOf layout s) b p q same)
 

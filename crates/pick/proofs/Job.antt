@@ -77,9 +77,9 @@ module _ (P : Problem) (b : List ℕ) (l : 1 + 5 * sizeSum P ≤ length b) (r : 
         omega (arith, written)
 
     -- the run's trace at its front
-    pub trace-left : take w x ≡ runTrace P
+    pub pick-trace-left : take w x ≡ runTrace P
     unfolding runDone
-    trace-left = (λ i. take (written i) (f i)) ∙ take-append-seam (runTrace P) (drop (length (runTrace P)) b)
+    pick-trace-left = (λ i. take (written i) (f i)) ∙ take-append-seam (runTrace P) (drop (length (runTrace P)) b)
 
     pub trace-count : w ≡ length (take w x)
     trace-count = sym (length-take-le w x trace-room)

@@ -119,9 +119,9 @@ module _ {P : Problem} (B : Bounded P) (i j a : ℕ) where
 
 module _ {t : List ℕ} (R : RowTable t) (i a j : ℕ) (one : T (heldValue t i a)) (apart : i ≢ j) where
   -- either row tells
-  pub row-tells : (b : ℕ) → T (heldValue t j b) → bit (getD t (rowsAt i j + a) 0) b ≡ (held t) .allowed i a j b
+  pub held-row-tells : (b : ℕ) → T (heldValue t j b) → bit (getD t (rowsAt i j + a) 0) b ≡ (held t) .allowed i a j b
   unfolding held rowAllows
-  row-tells b other =
+  held-row-tells b other =
       T-ext (
         λ h. simp and-iff (
           heldRow-iff t i a j b .1 ((one, (other, apart)), h),
@@ -136,7 +136,7 @@ module _ {t : List ℕ} (R : RowTable t) (i a j : ℕ) (one : T (heldValue t i a
       mask-ext 16 (bitAnd x (getD t (rowsAt i j + a) 0)) (bitAnd x (rowWord (held t) i j a))
       (lt-of-le-of-lt (and-le-l x _) l) (lt-of-le-of-lt (and-le-l x _) l)
       (λ c k. bit-and x (getD t (rowsAt i j + a) 0) c ∙ ⊎-elim
-      (λ e. ap (λ (z : Bool). bit x c && z) (row-tells c (held-value R j c (within c (T-of e))) ∙ sym (row-word (held-bounded R) i j a c)))
+      (λ e. ap (λ (z : Bool). bit x c && z) (held-row-tells c (held-value R j c (within c (T-of e))) ∙ sym (row-word (held-bounded R) i j a c)))
       (λ e. rw e)
       (split (bit x c)) ∙ sym (bit-and x (rowWord (held t) i j a) c))
 
@@ -145,7 +145,7 @@ module _ {t : List ℕ} (R : RowTable t) (i a j : ℕ) (one : T (heldValue t i a
   unfolding rowAllows
   far-free e b l =
       let other = held-value R j b l in
-      subst T (row-tells b other) (R .far i a j b one other apart e)
+      subst T (held-row-tells b other) (R .far i a j b one other apart e)
 
 -- ---- the table of a problem
 

@@ -20,7 +20,7 @@ use Rattle.put_back.specs.declared.PutBackOutcome.the-variants.{Done}
 use Rattle.put_back.specs.declared.PutBackRefusal.the-variants.{Plan}
 use Rattle.held.specs.Ready.{Ready}
 use Rattle.held.proofs.After.{state-held, ready-held}
-use Rattle.replay.specs.Walk.{checkedFrom, ended, lawfulEnd}
+use Rattle.replay.specs.Walk.{checkedFrom, walkEnded, lawfulEnd}
 use Rattle.undo.specs.Undone.{UndoableFrom, undoneBy}
 use Rattle.held.proofs.First.{ready-full}
 use Rattle.replay.proofs.Walk.{ended-lawful, front-lawful}
@@ -32,7 +32,7 @@ abbrev planned : Problem → List Record → List ℕ → List ℕ → Bool → 
 planned P ts p b x = elim x [ true ↦ putBackDone P ts p | false ↦ putBackRefused Plan b ]
 
 -- a table, and a trace over it that is lawful and leads to the state of `last`
-module _ {t : List ℕ} (R : RowTable t) (trace plan out : List ℕ) (last : Masks) (e : ended (held t) (full (held t)) (checkTrace (held t) trace) ≡ lawfulEnd last) where
+module _ {t : List ℕ} (R : RowTable t) (trace plan out : List ℕ) (last : Masks) (e : walkEnded (held t) (full (held t)) (checkTrace (held t) trace) ≡ lawfulEnd last) where
   found : (ts : List Record) × (checkTrace (held t) trace ≡ Records ts) × (last ≡ masksOf (afterTrace (held t) (full (held t)) ts))
   found = ended-lawful (held t) (full (held t)) (checkTrace (held t) trace) last e
 

@@ -11,7 +11,7 @@ ghost use Rattle.problem.specs.Held.{held, RowTable};
 ghost use Rattle.problem.specs.Masks.{stateOf, masksOf, Proper, sets};
 ghost use Rattle.held.specs.Ready.{Ready};
 ghost use Rattle.put_back.specs.PutBack.{planFits, checkTrace, afterCheck, putBackOver, putBackJob};
-ghost use Rattle.replay.specs.Walk.{ended, lawfulEnd};
+ghost use Rattle.replay.specs.Walk.{walkEnded, lawfulEnd};
 ghost use Rattle.putting_back.specs.Plan.{entryFits, Entries, pairFits, pairsOf};
 use bounded::has32;
 use held::is_live;
@@ -126,7 +126,7 @@ fn finish(
     plan: &[u8],
     out: &mut [u8],
 ) -> PutBackOutcome
-    requires { ⌜ RowTable (now t) × ((first ≡ masksOf (full (held (now t)))) × ((ended (held (now t)) (full (held (now t))) (checkTrace (held (now t)) (now trace)) ≡ lawfulEnd last) × ((length (now plan) ≡ (held (now t)) .n) × (length (now out) ≡ (held (now t)) .n)))) ⌝ }
+    requires { ⌜ RowTable (now t) × ((first ≡ masksOf (full (held (now t)))) × ((walkEnded (held (now t)) (full (held (now t))) (checkTrace (held (now t)) (now trace)) ≡ lawfulEnd last) × ((length (now plan) ≡ (held (now t)) .n) × (length (now out) ≡ (held (now t)) .n)))) ⌝ }
     ensures { λ r. ⌜ (r ≡ (afterCheck (held (now (t .entry))) (now (plan .entry)) (now (out .entry)) (checkTrace (held (now (t .entry))) (now (trace .entry)))) .answer) × (now (out .exit) ≡ (afterCheck (held (now (t .entry))) (now (plan .entry)) (now (out .entry)) (checkTrace (held (now (t .entry))) (now (trace .entry)))) .result) ⌝ }
 {
     if !plan_fits(t, last, plan) {

@@ -7,14 +7,14 @@ use Prim.Native.Nat.{ℕ, suc, _+_}
 use native.Mathlib.Omega.{arith}
 use lib.ListN.{length, drop, getD, length-drop}
 use lib.Seq.{getD-drop, drop-drop}
-use Rattle.graph.specs.Graph.{decimalOf, fieldsOf, twoNumbers, lineOf, begins, commentWord, sizeWord, edgeWord}
+use Rattle.graph.specs.Graph.{decimalOf, lineFields, twoNumbers, lineOf, begins, commentWord, sizeWord, edgeWord}
 use Rattle.graph.specs.Scan.{lineIn, digitsIn}
 use Rattle.graph.specs.declared.Line.{Line}
 use Rattle.graph.specs.declared.Line.the-variants.{Comment, Size, Edge, Bad}
 use Rattle.graph.proofs.Fields.{two-bad-count, two-bad-space, two-bad-second, two-bad-end, two-good, two-length}
 use Rattle.graph.proofs.Lines.{begins-long}
 use Rattle.graph.proofs.Forms.{is-comment, is-size, is-edge, is-none, begins-other, begins-comment, begins-edge, begins-no-edge}
-use Rattle.read_graph.specs.Parts.{Place, digitsFrom, NumberAt, FieldAt, After, PairAt, Other, LineAt}
+use Rattle.read_graph.specs.Parts.{Place, digitRun, NumberAt, FieldAt, After, PairAt, Other, LineAt}
 use Rattle.read_graph.specs.declared.Field.the-variants.{NoNumber}
 use Rattle.read_graph.specs.declared.LineRead.{LineRead}
 use Rattle.read_graph.proofs.Laws.{byte-within}
@@ -22,41 +22,41 @@ use Rattle.read_graph.proofs.Laws.{byte-within}
 -- ---- fields
 
 -- the byte after the digits, by its place in the file
-pub sep-at : (f : List ℕ) (p q : ℕ) → q ≡ p + length (digitsFrom f p) → getD (drop p f) (length (digitsFrom f p)) 10 ≡ getD f q 10
-sep-at f p q e = getD-drop p f (length (digitsFrom f p)) 10 ∙ ap (λ (n : ℕ). getD f n 10) (sym e)
+pub sep-at : (f : List ℕ) (p q : ℕ) → q ≡ p + length (digitRun f p) → getD (drop p f) (length (digitRun f p)) 10 ≡ getD f q 10
+sep-at f p q e = getD-drop p f (length (digitRun f p)) 10 ∙ ap (λ (n : ℕ). getD f n 10) (sym e)
 
 module _ (f : List ℕ) (p a q : ℕ) (N : NumberAt f p 32 a q) where
   -- the place after a number and its space
-  rest : drop (suc (length (digitsFrom f p))) (drop p f) ≡ drop q f
+  rest : drop (suc (length (digitRun f p))) (drop p f) ≡ drop q f
   rest =
       let e = N .next in
-      let g : p + suc (length (digitsFrom f p)) ≡ q = omega arith in
-      drop-drop (suc (length (digitsFrom f p))) p f ∙ ap (λ (n : ℕ). drop n f) g
+      let g : p + suc (length (digitRun f p)) ≡ q = omega arith in
+      drop-drop (suc (length (digitRun f p))) p f ∙ ap (λ (n : ℕ). drop n f) g
 
   pub number-place : Place f p → Place f q
   number-place P =
       let e = N .next in
       let s = N .ends in
-      let d = getD-drop p f (length (digitsFrom f p)) 10 in
-      let h = byte-within f (p + length (digitsFrom f p)) (λ z. let y : _≡_ {A = ℕ} 10 32 = sym z ∙ sym d ∙ s in omega arith) in
+      let d = getD-drop p f (length (digitRun f p)) 10 in
+      let h = byte-within f (p + length (digitRun f p)) (λ z. let y : _≡_ {A = ℕ} 10 32 = sym z ∙ sym d ∙ s in omega arith) in
       record { short = P .short; within = omega arith }
 
   -- a second number that ends the line, or none
-  pub pair-second : (form : ℕ → ℕ → Line) → FieldAt f q 10 NoNumber → twoNumbers form (fieldsOf (lineIn (drop p f))) ≡ Bad
+  pub pair-second : (form : ℕ → ℕ → Line) → FieldAt f q 10 NoNumber → twoNumbers form (lineFields (lineIn (drop p f))) ≡ Bad
   pair-second form (inl h) = two-bad-second form (drop p f) (N .ends) (rw rest h)
   pair-second form (inr h) = two-bad-end form (drop p f) (N .ends) (rw rest h)
 
-  pub pair-both : (form : ℕ → ℕ → Line) (b n : ℕ) → NumberAt f q 10 b n → (twoNumbers form (fieldsOf (lineIn (drop p f))) ≡ form a b) × After f p n
+  pub pair-both : (form : ℕ → ℕ → Line) (b n : ℕ) → NumberAt f q 10 b n → (twoNumbers form (lineFields (lineIn (drop p f))) ≡ form a b) × After f p n
   pair-both form b n M =
       let g = two-good form (drop p f) (record { some = N .some; few = N .few }) (N .ends) (rw rest (record { some = M .some; few = M .few })) (rw rest (M .ends)) in
       let l = two-length (drop p f) (N .ends) (rw rest (M .ends)) in
       let e = N .next in
       let m = M .next in
-      let v : form a b ≡ form (decimalOf (digitsFrom f p)) (decimalOf (digitsFrom f q)) = λ i. form (N .value i) (M .value i) in
-      let k : length (digitsIn 10 (drop (suc (length (digitsFrom f p))) (drop p f))) ≡ length (digitsFrom f q) = ap (λ (x : List ℕ). length (digitsIn 10 x)) rest in
-      (g ∙ ap (λ (x : List ℕ). form (decimalOf (digitsFrom f p)) (decimalOf (digitsIn 10 x))) rest ∙ sym v, omega arith)
+      let v : form a b ≡ form (decimalOf (digitRun f p)) (decimalOf (digitRun f q)) = λ i. form (N .value i) (M .value i) in
+      let k : length (digitsIn 10 (drop (suc (length (digitRun f p))) (drop p f))) ≡ length (digitRun f q) = ap (λ (x : List ℕ). length (digitsIn 10 x)) rest in
+      (g ∙ ap (λ (x : List ℕ). form (decimalOf (digitRun f p)) (decimalOf (digitsIn 10 x))) rest ∙ sym v, omega arith)
 
-pub pair-first : (f : List ℕ) (p : ℕ) (form : ℕ → ℕ → Line) → FieldAt f p 32 NoNumber → twoNumbers form (fieldsOf (lineIn (drop p f))) ≡ Bad
+pub pair-first : (f : List ℕ) (p : ℕ) (form : ℕ → ℕ → Line) → FieldAt f p 32 NoNumber → twoNumbers form (lineFields (lineIn (drop p f))) ≡ Bad
 pair-first f p form (inl h) = two-bad-count form (drop p f) h
 pair-first f p form (inr h) = two-bad-space form (drop p f) h
 
@@ -93,7 +93,7 @@ module _ (f : List ℕ) (p : ℕ) (e : getD f p 10 ≡ 101) where
       let l = w .1 in
       let g : length (lineIn (drop 2 (drop p f))) ≡ length (lineIn (drop (p + 2) f)) = ap (λ (x : List ℕ). length (lineIn x)) d in
       record {
-        is = P .is ∙ sym (w .0 ∙ ap (λ (x : List ℕ). twoNumbers Edge (fieldsOf (lineIn x))) d);
+        is = P .is ∙ sym (w .0 ∙ ap (λ (x : List ℕ). twoNumbers Edge (lineFields (lineIn x))) d);
         after = λ n. let a = P .after n in omega arith;
       }
 
@@ -114,7 +114,7 @@ module _ (f : List ℕ) (p : ℕ) (O : Other f p) where
       let l = w .1 in
       let g : length (lineIn (drop 7 (drop p f))) ≡ length (lineIn (drop (p + 7) f)) = ap (λ (x : List ℕ). length (lineIn x)) d in
       record {
-        is = P .is ∙ sym (w .0 ∙ ap (λ (x : List ℕ). twoNumbers Size (fieldsOf (lineIn x))) d);
+        is = P .is ∙ sym (w .0 ∙ ap (λ (x : List ℕ). twoNumbers Size (lineFields (lineIn x))) d);
         after = λ n. let a = P .after n in omega arith;
       }
 

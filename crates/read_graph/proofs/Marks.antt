@@ -101,13 +101,13 @@ pair-marked n a b l a1 a2 b1 b2 =
         none i j hi hj d f (inr q) = let e = q .0 in let g = q .1 in d (omega arith)
 
 -- two vertices that are 1 to 32
-pub record Inside (a b : ℕ) : Type 0 where
+pub record MarkInside (a b : ℕ) : Type 0 where
   pub a-some : 1 ≤ a
   pub a-few : a ≤ 32
   pub b-some : 1 ≤ b
   pub b-few : b ≤ 32
 
-pub inside : (x y : Bool) (a b : ℕ) → x ≡ isOutside 32 a → y ≡ isOutside 32 b → (x || y) ≡ false → Inside a b
+pub inside : (x y : Bool) (a b : ℕ) → x ≡ isOutside 32 a → y ≡ isOutside 32 b → (x || y) ≡ false → MarkInside a b
 inside x y a b e f o =
     let q = neither x y o in
     let s = neither (ltb a 1) (ltb 32 a) (sym e ∙ q .0) in

@@ -6,7 +6,7 @@ use mathlib.Core.Logic.{_⊎_, _≢_}
 use Prim.Native.Nat.{ℕ, suc, _+_, _≤_, _<_}
 use lib.Dec.{eqb}
 use lib.ListN.{length, drop, getD}
-use Rattle.graph.specs.Graph.{decimalOf, fieldsOf, twoNumbers, lineOf, fileLimit, fileLines, readGraph}
+use Rattle.graph.specs.Graph.{decimalOf, lineFields, twoNumbers, lineOf, fileLimit, fileLines, readGraph}
 use Rattle.graph.specs.Colouring.{joins, adjacent}
 use Rattle.graph.specs.Scan.{lineIn, digitsIn, isMarked, noTally, readFrom}
 use Rattle.graph.specs.declared.Line.{Line}
@@ -24,13 +24,13 @@ pub record Place (f : List ℕ) (p : ℕ) : Type 0 where
   pub within : p ≤ length f
 
 -- the digits at p, ten at most
-abbrev pub digitsFrom : List ℕ → ℕ → List ℕ
-digitsFrom f p = digitsIn 10 (drop p f)
+abbrev pub digitRun : List ℕ → ℕ → List ℕ
+digitRun f p = digitsIn 10 (drop p f)
 
 -- their number, and the place after them
 pub record DigitsAt (f : List ℕ) (p : ℕ) (r : Digits) : Type 0 where
-  pub value : r .value ≡ decimalOf (digitsFrom f p)
-  pub next : r .next ≡ p + length (digitsFrom f p)
+  pub value : r .value ≡ decimalOf (digitRun f p)
+  pub next : r .next ≡ p + length (digitRun f p)
 
 -- the digits d are too few or too many for a number
 abbrev pub Miscounted : List ℕ → Type 0
@@ -38,15 +38,15 @@ Miscounted d = (length d ≡ 0) ⊎ (9 < length d)
 
 -- a number of one to nine digits stands at p, and then the byte c: v is the number, n the place after c
 pub record NumberAt (f : List ℕ) (p c v n : ℕ) : Type 0 where
-  pub some : 1 ≤ length (digitsFrom f p)
-  pub few : length (digitsFrom f p) ≤ 9
-  pub ends : getD (drop p f) (length (digitsFrom f p)) 10 ≡ c
-  pub value : v ≡ decimalOf (digitsFrom f p)
-  pub next : n ≡ suc (p + length (digitsFrom f p))
+  pub some : 1 ≤ length (digitRun f p)
+  pub few : length (digitRun f p) ≤ 9
+  pub ends : getD (drop p f) (length (digitRun f p)) 10 ≡ c
+  pub value : v ≡ decimalOf (digitRun f p)
+  pub next : n ≡ suc (p + length (digitRun f p))
 
 abbrev pub FieldAt : (f : List ℕ) (p c : ℕ) → Field → Type 0
 FieldAt f p c (Number v n) = NumberAt f p c v n
-FieldAt f p c NoNumber = Miscounted (digitsFrom f p) ⊎ (getD (drop p f) (length (digitsFrom f p)) 10 ≢ c)
+FieldAt f p c NoNumber = Miscounted (digitRun f p) ⊎ (getD (drop p f) (length (digitRun f p)) 10 ≢ c)
 
 -- of the line at p, the bytes up to k are passed
 pub record Passing (f : List ℕ) (p k : ℕ) : Type 0 where
@@ -71,7 +71,7 @@ formOf false a b = Size a b
 
 -- two numbers fill the rest of the line from p
 pub record PairAt (f : List ℕ) (p : ℕ) (edge : Bool) (r : LineRead) : Type 0 where
-  pub is : r .line ≡ twoNumbers (formOf edge) (fieldsOf (lineIn (drop p f)))
+  pub is : r .line ≡ twoNumbers (formOf edge) (lineFields (lineIn (drop p f)))
   pub after : r .line ≢ Bad → After f p (r .next)
 
 -- the line at p begins with neither `c` nor `e`

@@ -21,7 +21,7 @@ use Rattle.trace.proofs.Back.{next-after}
 use Rattle.trace.proofs.Place.{after-read}
 use Rattle.replay.specs.declared.Checking.{Checking}
 use Rattle.replay.specs.declared.TraceEnd.{TraceEnd}
-use Rattle.replay.specs.Walk.{checkedFrom, ended, lawfulEnd, goingOn, ruledTurn, checkedTurn}
+use Rattle.replay.specs.Walk.{checkedFrom, walkEnded, lawfulEnd, goingOn, ruledTurn, checkedTurn}
 use Rattle.replay.proofs.Range.{step-on}
 use Rattle.replay.proofs.Walk.{checked-end, checked-malformed, checked-unlawful, checked-lawful, ended-more}
 
@@ -36,7 +36,7 @@ module _ (t trace : List ℕ) (first : Masks) where
 
   -- the answer from a place on, with record k there, and the whole answer
   abbrev from : Masks → (k p : ℕ) → TraceEnd
-  from m k p = ended P (stateOf m) (checkedFrom P trace (stateOf m) k p)
+  from m k p = walkEnded P (stateOf m) (checkedFrom P trace (stateOf m) k p)
 
   -- a check that goes on has the whole answer ahead of it, from the place of its reader, and one that has stopped has it. Each record gone
   -- over has a byte before that place, and one is the front.
@@ -57,8 +57,8 @@ module _ (t trace : List ℕ) (first : Masks) where
   pub good-off : (c : Checking) (p : ℕ) → Good c p → c .on ≡ false → c .end ≡ from first 0 1
   good-off c p g e = sym (subst (λ (b : Bool). GoodIf b c p) e g)
 
-  pub start-good : Ready t first → Good (goingOn first 0) 1
-  start-good R = (R, (refl, (refl, omega arith)))
+  pub walk-start : Ready t first → Good (goingOn first 0) 1
+  walk-start R = (R, (refl, (refl, omega arith)))
 
   -- it is kept, and fewer turns are left
   abbrev Kept : Checking → ℕ → Checking → ℕ → Type 0
@@ -79,7 +79,7 @@ module _ (t trace : List ℕ) (first : Masks) where
       all = ap (λ (b : Bool). left b (suc (length trace - p))) on
 
       -- the whole answer, from here
-      here : from first 0 1 ≡ ended P s (checkedFrom P trace s (c .count) p)
+      here : from first 0 1 ≡ walkEnded P s (checkedFrom P trace s (c .count) p)
       here = g .1 .1 .0
 
       ruled : (r : Record) (q : ℕ) → recordAt trace p ≡ record·.Read r q → (b : Bool) → lawful P s r ≡ b
@@ -93,18 +93,18 @@ module _ (t trace : List ℕ) (first : Masks) where
               (
                 refl,
                 (
-                  here ∙ ap (ended P s) (checked-lawful P trace s (c .count) p r q e l) ∙ ended-more P s r (checkedFrom P trace (after P s r) (c .count + 1) q)
-                      ∙ ap (λ (z : State). ended P z (checkedFrom P trace z (c .count + 1) q)) (sym (y .1)),
+                  here ∙ ap (walkEnded P s) (checked-lawful P trace s (c .count) p r q e l) ∙ ended-more P s r (checkedFrom P trace (after P s r) (c .count + 1) q)
+                      ∙ ap (λ (z : State). walkEnded P z (checkedFrom P trace z (c .count + 1) q)) (sym (y .1)),
                   omega (arith, n, few),
                 ),
               ),
             ),
             omega (arith, all),
           )
-      ruled r q e false l = (here ∙ ap (ended P s) (checked-unlawful P trace s (c .count) p r q e l), omega (arith, all))
+      ruled r q e false l = (here ∙ ap (walkEnded P s) (checked-unlawful P trace s (c .count) p r q e l), omega (arith, all))
 
       go : (x : RecordRead) → recordAt trace p ≡ x → Kept c p (checkedTurn P c x) (placeAfter trace p)
-      go record·.End e = (here ∙ ap (ended P s) (checked-end P trace s (c .count) p e) ∙ ap lawfulEnd (masks-back (c .end .state) (g .0 .proper)) ∙ sym (g .1 .0), omega (arith, all))
-      go record·.Malformed e = (here ∙ ap (ended P s) (checked-malformed P trace s (c .count) p e), omega (arith, all))
+      go record·.End e = (here ∙ ap (walkEnded P s) (checked-end P trace s (c .count) p e) ∙ ap lawfulEnd (masks-back (c .end .state) (g .0 .proper)) ∙ sym (g .1 .0), omega (arith, all))
+      go record·.Malformed e = (here ∙ ap (walkEnded P s) (checked-malformed P trace s (c .count) p e), omega (arith, all))
       go (record·.Read r q) e =
           subst (λ (k : ℕ). Kept c p (ruledTurn (lawful P s r) (masksOf (after P s r)) (c .count) (brokenCover P s r)) k) (sym (after-read trace p r q e)) (ruled r q e (lawful P s r) refl)

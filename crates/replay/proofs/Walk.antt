@@ -21,7 +21,7 @@ use Rattle.put_back.specs.declared.PutBackRefusal.{PutBackRefusal}
 use Rattle.put_back.specs.declared.PutBackRefusal.the-variants.{TraceFront, Malformed}
 use Rattle.trace.proofs.Back.{next-after}
 use Rattle.put_back.proofs.Checked.{records-iff, check-fuel}
-use Rattle.replay.specs.Walk.{checkedFrom, ended, lawfulEnd}
+use Rattle.replay.specs.Walk.{checkedFrom, walkEnded, lawfulEnd}
 use Rattle.replay.specs.declared.TraceEnd.{TraceEnd}
 use Rattle.replay.specs.declared.TraceCheck.the-variants.{Fault}
 
@@ -119,16 +119,16 @@ module _ (P : Problem) (t : List ℕ) where
       go false h = let z : _≡_ {A = ℕ} 0 1 = cc in absurd (omega arith)
 
 -- one record more leads to the same end from the state after it
-pub ended-more : (P : Problem) (s : State) (r : Record) (c : Checked) → ended P s (withRecord r c) ≡ ended P (after P s r) c
+pub ended-more : (P : Problem) (s : State) (r : Record) (c : Checked) → walkEnded P s (withRecord r c) ≡ walkEnded P (after P s r) c
 unfolding afterTrace
 ended-more P s r (Records ts) = refl
 ended-more P s r (Faulty e) = refl
 
 -- what an end says of the check
-pub ended-lawful : (P : Problem) (s : State) (c : Checked) (m : Masks) → ended P s c ≡ lawfulEnd m → (ts : List Record) × (c ≡ Records ts) × (m ≡ masksOf (afterTrace P s ts))
+pub ended-lawful : (P : Problem) (s : State) (c : Checked) (m : Masks) → walkEnded P s c ≡ lawfulEnd m → (ts : List Record) × (c ≡ Records ts) × (m ≡ masksOf (afterTrace P s ts))
 ended-lawful P s (Records ts) m e = (ts, refl, ap (λ (x : TraceEnd). x .state) (sym e))
 ended-lawful P s (Faulty f) m e = let q = ap (λ (x : TraceEnd). x .check) e in let z : _≡_ {A = ℕ} 0 1 = cc in absurd (omega arith)
 
-pub ended-fault : (P : Problem) (s : State) (c : Checked) (x : TraceEnd) (f : PutBackRefusal) → x ≡ ended P s c → x .check ≡ Fault f → c ≡ Faulty f
+pub ended-fault : (P : Problem) (s : State) (c : Checked) (x : TraceEnd) (f : PutBackRefusal) → x ≡ walkEnded P s c → x .check ≡ Fault f → c ≡ Faulty f
 ended-fault P s (Records ts) x f e h = let q = ap (λ (x : TraceEnd). x .check) e in let z : _≡_ {A = ℕ} 0 1 = cc in absurd (omega arith)
 ended-fault P s (Faulty g) x f e h = let q = ap (λ (x : TraceEnd). x .check) e in cc

@@ -28,9 +28,9 @@ lawfulEnd m = record { check = Lawful; state = m }
 abbrev pub faulty : PutBackRefusal → TraceEnd
 faulty e = record { check = Fault e; state = emptyMasks }
 
-abbrev pub ended : Problem → State → Checked → TraceEnd
-ended P s (Records ts) = lawfulEnd (masksOf (afterTrace P s ts))
-ended P s (Faulty e) = faulty e
+abbrev pub walkEnded : Problem → State → Checked → TraceEnd
+walkEnded P s (Records ts) = lawfulEnd (masksOf (afterTrace P s ts))
+walkEnded P s (Faulty e) = faulty e
 
 -- ---- a check on its way
 

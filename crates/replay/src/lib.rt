@@ -10,7 +10,7 @@ ghost use Rattle.problem.specs.Masks.{stateOf, masksOf, sets};
 ghost use Rattle.problem.specs.declared.Record.the-variants.{Neighbourhood};
 ghost use Rattle.held.specs.Ready.{Ready};
 ghost use Rattle.put_back.specs.PutBack.{unlawfulRecord, checkTrace};
-ghost use Rattle.replay.specs.Walk.{checkedFrom, ended, faulty, goingOn, stoppedWith, checkedTurn};
+ghost use Rattle.replay.specs.Walk.{checkedFrom, walkEnded, faulty, goingOn, stoppedWith, checkedTurn};
 use bounded::has32;
 use held::is_live;
 use problem::Break;
@@ -253,7 +253,7 @@ fn check_record(t: &[u16], c: Checking, x: RecordRead) -> Checking
 // Record by record from the place after the front, each in the state that the records before it lead to: one reader, which each turn moves.
 fn check_records(t: &[u16], trace: &[u8], first: Masks) -> TraceEnd
     requires { ⌜ Ready (now t) first ⌝ }
-    ensures { λ r. ⌜ r ≡ ended (held (now (t .entry))) (stateOf first) (checkedFrom (held (now (t .entry))) (now (trace .entry)) (stateOf first) 0 1) ⌝ }
+    ensures { λ r. ⌜ r ≡ walkEnded (held (now (t .entry))) (stateOf first) (checkedFrom (held (now (t .entry))) (now (trace .entry)) (stateOf first) 0 1) ⌝ }
 {
     let mut r = placed(trace, 1);
     let mut c = going(first, 0);
@@ -267,7 +267,7 @@ fn check_records(t: &[u16], trace: &[u8], first: Masks) -> TraceEnd
 // The whole trace from the first state: its front, then its records.
 pub fn check_trace(t: &[u16], trace: &[u8], first: Masks) -> TraceEnd
     requires { ⌜ RowTable (now t) × (first ≡ masksOf (full (held (now t)))) ⌝ }
-    ensures { λ r. ⌜ r ≡ ended (held (now (t .entry))) (full (held (now (t .entry)))) (checkTrace (held (now (t .entry))) (now (trace .entry))) ⌝ }
+    ensures { λ r. ⌜ r ≡ walkEnded (held (now (t .entry))) (full (held (now (t .entry)))) (checkTrace (held (now (t .entry))) (now (trace .entry))) ⌝ }
 {
     if trace.len() == 0 {
         return fault(PutBackRefusal::TraceFront);

@@ -15,8 +15,8 @@ use Rattle.sheet.specs.Relation as relation
 use Rattle.jobs.specs.WithSheet.{withSheet}
 use Rattle.trace.specs.Trace.{recordsBytes, traceBytes, recordAt}
 use Rattle.rulebooks.specs.Under.{runOverUnder, runJobUnder, checkFromUnder, checkTraceUnder, putBackOverUnder, putBackJobUnder}
-use Rattle.rulebooks.specs.Samples.{Before}
+use Rattle.rulebooks.specs.Samples.{RanBeforeFour}
 
-pub before : Before
+pub before-sampled : RanBeforeFour
 unfolding record·.recordOf bounded.allBelow bounded.anyBelow bounded.lowest bounded.atLowest bounded.sumTo bounded.countBelow mask.maskOf table.tab problem.bothWays problem.full problem.stateFits problem.allActive problem.allLive problem.anyLive problem.lowestLive problem.allOther problem.allThird problem.noneEmpty problem.spoils problem.spoiler problem.unsupported problem.snakeServes problem.snake problem.triangleServes problem.triangle problem.neighbourhood problem.slideServes problem.snakeSubstitution problem.breaks problem.firstBreak problem.coverAsked problem.remove problem.eliminate problem.liveCount problem.sizeSum reduce.holdsBy reduce.lawfulBy reduce.brokenCover reduce.after reduce.afterTrace reduce.stepIf reduce.first reduce.nextUnsupported reduce.nextSnake reduce.nextTriangle reduce.nextNeighbourhood reduce.nextSnakeSubstitutionBy reduce.nextOfKindBy reduce.nextBy reduce.runFromBy reduce.runBy reduce.endOf manual.supported manual.prune manual.pruneTimes manual.start manual.call extend.solves extend.put extend.repair extend.undo extend.undoTrace packed.stateOf packed.masksOf solutions.solutionsFrom solutions.solutionCount solutions.solvable sheet.beyond sheet.allowsAll sheet.blockOf sheet.blockAt sheet.blocksFrom sheet.badSizes sheet.readSheet relation.rowsFrom relation.rowsOf relation.pairAllowed relation.sizeOf relation.listed relation.allowedOf relation.problemOf recordsBytes traceBytes recordAt withSheet runOverUnder runJobUnder checkFromUnder checkTraceUnder putBackOverUnder putBackJobUnder
-before = record { sheet-b = refl; short-b = refl; sheet-k = refl; short-k = refl; sheet-l = refl; short-l = refl }
+before-sampled = record { sheet-b = refl; short-b = refl; sheet-k = refl; short-k = refl; sheet-l = refl; short-l = refl }

@@ -22,7 +22,7 @@ NotLawfulBefore s t p = putBackJobUnder beforeFour s t p (lent (length p)) ≡ r
 abbrev pub slid : List ℕ
 slid = 1 ∷ 4 ∷ 5 ∷ 0 ∷ 0 ∷ 1 ∷ []
 
-pub record Before : Type 0 where
+pub record RanBeforeFour : Type 0 where
   pub sheet-b : NotLawfulBefore sheetB slid (1 ∷ 0 ∷ [])
   pub short-b : NotLawfulBefore shortB slid (1 ∷ 0 ∷ [])
   pub sheet-k : RanBefore sheetK 36 (1 ∷ [])

@@ -22,7 +22,7 @@ use Rattle.problem.specs.Masks.{stateOf}
 use Rattle.problem.specs.declared.Masks.{Masks}
 use Rattle.problem.proofs.Reflect.{turn, supported-iff, noneEmpty-iff}
 use Rattle.problem.specs.Sentences.{Active, Live, Allowed}
-use Rattle.problem.proofs.HeldTable.{row-tells, held-value}
+use Rattle.problem.proofs.HeldTable.{held-row-tells, held-value}
 use Rattle.held.specs.Ready.{Ready, Values, Near}
 use Rattle.held.proofs.Laws.{near-free, part-values, live-value, active-32, domain-values}
 use Rattle.support.specs.Words.{supportedBy, partnersOf, domainLeft}
@@ -38,7 +38,7 @@ module _ {t : List ℕ} (R : RowTable t) (domain i j : ℕ) (own : Values t i do
   row-where : (a c : ℕ) → c < (held t) .size j → bit (cond (bit domain a) (getD t (rowsAt i j + a) 0) 0) c ≡ supportedBy (held t) domain i j c a
   row-where a c l =
       ⊎-elim
-      (λ e. rw e (row-tells R i a j (held-value R i a (own .within a (T-of e))) (λ q. d (sym q)) c (held-value R j c l)))
+      (λ e. rw e (held-row-tells R i a j (held-value R i a (own .within a (T-of e))) (λ q. d (sym q)) c (held-value R j c l)))
       (λ e. rw e (bit-none c))
       (split (bit domain a))
 

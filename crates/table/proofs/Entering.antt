@@ -18,7 +18,7 @@ use Rattle.problem.specs.Places.{placeOf}
 use Rattle.problem.specs.Held.{farStart, rowsStart, tableLength, farAt, rowsAt, rowAllows, farFrom}
 use Rattle.problem.specs.Filling.{Shows, Entered}
 use Rattle.problem.proofs.Places.{place-symmetric, place-apart}
-use Rattle.table.specs.Parts.{turnedRow, turnedRows, cleared, Wrote}
+use Rattle.table.specs.Parts.{transposedRow, transposedRows, cleared, Wrote}
 
 -- ---- where the rows of a pair stand
 
@@ -80,7 +80,7 @@ module _ (t : List ℕ) (i j : ℕ) (long : length t ≡ tableLength) (li : i < 
 
 -- t₁ has the rows, t₂ the turned rows too
 module _ (t t₁ t₂ rows turned : List ℕ) (i j : ℕ) (long : length t ≡ tableLength) (li : i < j) (lj : j < 32)
-    (own : Wrote 16 t t₁ (rowsAt i j) (λ a. getD rows a 0)) (other : Wrote 16 t₁ t₂ (rowsAt j i) (λ a. getD turned a 0)) (e : turned ≡ turnedRows rows) where
+    (own : Wrote 16 t t₁ (rowsAt i j) (λ a. getD rows a 0)) (other : Wrote 16 t₁ t₂ (rowsAt j i) (λ a. getD turned a 0)) (e : turned ≡ transposedRows rows) where
   abbrev u : List ℕ
   u = cleared (cleared t₂ i j) j i
 
@@ -115,10 +115,10 @@ module _ (t t₁ t₂ rows turned : List ℕ) (i j : ℕ) (long : length t ≡ t
       ap (λ (x : ℕ). bit x b) (near (rowsAt i j + a) (inr (omega arith)) ∙ other .below (rowsAt i j + a) (omega arith) ∙ own .there a la)
 
   here-turned : (a b : ℕ) → a < 16 → b < 16 → rowAllows u j b i a ≡ bit (getD rows a 0) b
-  unfolding rowAllows turnedRow turnedRows
+  unfolding rowAllows transposedRow transposedRows
   here-turned a b la lb =
       let q = rows-higher i j li in
-      ap (λ (x : ℕ). bit x a) (near (rowsAt j i + b) (inr (omega arith)) ∙ other .there b lb ∙ ap (λ (r : List ℕ). getD r b 0) e ∙ getD-tab 16 (turnedRow rows) b 0 lb)
+      ap (λ (x : ℕ). bit x a) (near (rowsAt j i + b) (inr (omega arith)) ∙ other .there b lb ∙ ap (λ (r : List ℕ). getD r b 0) e ∙ getD-tab 16 (transposedRow rows) b 0 lb)
       ∙ bit-mask 16 (λ a. bit (getD rows a 0) b) a la
 
   -- any far bit was there before
@@ -170,7 +170,7 @@ module _ (t t₁ t₂ rows turned : List ℕ) (i j : ℕ) (long : length t ≡ t
       }
 
 -- the same from what the parts of the code ensure
-pub entered-by : (t t₁ t₂ t₃ u rows turned : List ℕ) (i j p q : ℕ) → length t ≡ tableLength → i < j → j < 32 → turned ≡ turnedRows rows
+pub entered-by : (t t₁ t₂ t₃ u rows turned : List ℕ) (i j p q : ℕ) → length t ≡ tableLength → i < j → j < 32 → turned ≡ transposedRows rows
     → p ≡ rowsAt i j → Wrote 16 t t₁ p (λ a. getD rows a 0) → q ≡ rowsAt j i → Wrote 16 t₁ t₂ q (λ a. getD turned a 0)
     → t₃ ≡ cleared t₂ i j → u ≡ cleared t₃ j i → Entered t i j rows u
 entered-by t t₁ t₂ t₃ u rows turned i j p q long li lj e ep own eq other e₃ eu =

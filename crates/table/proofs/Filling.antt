@@ -15,7 +15,7 @@ use Rattle.problem.specs.Held.{Bounded, Filled}
 use Rattle.problem.specs.Filling.{Shows, Entered}
 use Rattle.problem.proofs.Filling.{entered-located, filled-pairs}
 use Rattle.table.specs.Parts.{Wrote, HasPlaces, Blank}
-use Rattle.table.specs.Filling.{hasBlock, pairSays, PlaceEntered, EnteredTo}
+use Rattle.table.specs.Filling.{blockHere, pairSays, PlaceEntered, EnteredTo}
 use Rattle.table.proofs.Blank.{blank-shows}
 
 module _ (has : ℕ → ℕ → Bool) (says : ℕ → ℕ → List ℕ) (n : ℕ) where
@@ -30,8 +30,8 @@ module _ (has : ℕ → ℕ → Bool) (says : ℕ → ℕ → List ℕ) (n : ℕ
       }
 
   -- the place of a block is that of two variables in order, which have one
-  pub block-facts : (x : ℕ) → hasBlock has n x ≡ true → (x / 32 < x % 32) × (x % 32 < n) × (has (x / 32) (x % 32) ≡ true)
-  unfolding hasBlock
+  pub block-facts : (x : ℕ) → blockHere has n x ≡ true → (x / 32 < x % 32) × (x % 32 < n) × (has (x / 32) (x % 32) ≡ true)
+  unfolding blockHere
   block-facts x q =
       let y = both (ltb (x / 32) (x % 32)) _ q in
       let z = both (ltb (x % 32) n) _ (y .1) in
@@ -46,7 +46,7 @@ module _ (has : ℕ → ℕ → Bool) (says : ℕ → ℕ → List ℕ) (n : ℕ
         let q : x % 32 ≡ j = omega arith in
         subst (F i) q (subst (λ (k : ℕ). F k (x % 32)) p h)
 
-    module _ (q : hasBlock has n x ≡ true) where
+    module _ (q : blockHere has n x ≡ true) where
       entered : Entered u (x / 32) (x % 32) (says (x / 32) (x % 32)) w
       entered = p .block q
 
@@ -69,9 +69,9 @@ module _ (has : ℕ → ℕ → Bool) (says : ℕ → ℕ → List ℕ) (n : ℕ
             above = λ i j l m b. others i j _ l m (λ e. absurd (omega arith)) (E .above i j l m (omega arith));
           }
 
-    module _ (q : hasBlock has n x ≡ false) where
+    module _ (q : blockHere has n x ≡ false) where
       without-block : x / 32 < x % 32 → x % 32 < n → has (x / 32) (x % 32) ≡ false
-      unfolding hasBlock
+      unfolding blockHere
       without-block l m = rw (lt-ltb (x / 32) (x % 32) l, lt-ltb (x % 32) n m) at q
 
       none-next : EnteredTo has says n (x + 1) t w
@@ -92,7 +92,7 @@ module _ (has : ℕ → ℕ → Bool) (says : ℕ → ℕ → List ℕ) (n : ℕ
           })
 
     pub place-next : EnteredTo has says n (x + 1) t w
-    place-next = ⊎-elim (λ q. block-next q) (λ q. none-next q) (split (hasBlock has n x))
+    place-next = ⊎-elim (λ q. block-next q) (λ q. none-next q) (split (blockHere has n x))
 
 -- the places of all pairs are passed: the table is filled with any problem of these sizes that allows what is said
 pub entered-filled : (has : ℕ → ℕ → Bool) (says : ℕ → ℕ → List ℕ) {P : Problem} (t t₁ t₂ u : List ℕ) (f : ℕ → ℕ) → Bounded P

@@ -10,8 +10,8 @@ use Rattle.problem.specs.Held.{Located}
 use Rattle.problem.specs.Filling.{Shows, Entered}
 
 -- place x is that of a block: two variables i < j below n that have one
-unfoldable pub hasBlock : (has : ℕ → ℕ → Bool) (n x : ℕ) → Bool
-hasBlock has n x = ltb (x / 32) (x % 32) && (ltb (x % 32) n && has (x / 32) (x % 32))
+unfoldable pub blockHere : (has : ℕ → ℕ → Bool) (n x : ℕ) → Bool
+blockHere has n x = ltb (x / 32) (x % 32) && (ltb (x % 32) n && has (x / 32) (x % 32))
 
 -- what a table says of the pair i < j: as its rows say where it has a block, and everything is allowed where it has none
 abbrev pub pairSays : (has : ℕ → ℕ → Bool) (says : ℕ → ℕ → List ℕ) (i j a b : ℕ) → Bool
@@ -19,8 +19,8 @@ pairSays has says i j a b = cond (has i j) (bit (getD (says i j) a 0) b) true
 
 -- the block at place x, if there is one, is entered: t becomes u
 pub record PlaceEntered (has : ℕ → ℕ → Bool) (says : ℕ → ℕ → List ℕ) (n x : ℕ) (t u : List ℕ) : Type 0 where
-  pub block : hasBlock has n x ≡ true → Entered t (x / 32) (x % 32) (says (x / 32) (x % 32)) u
-  pub none : hasBlock has n x ≡ false → u ≡ t
+  pub block : blockHere has n x ≡ true → Entered t (x / 32) (x % 32) (says (x / 32) (x % 32)) u
+  pub none : blockHere has n x ≡ false → u ≡ t
 
 -- the blocks at places below x are entered, and none from x on: t became u
 pub record EnteredTo (has : ℕ → ℕ → Bool) (says : ℕ → ℕ → List ℕ) (n x : ℕ) (t u : List ℕ) : Type 0 where

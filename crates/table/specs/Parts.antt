@@ -8,11 +8,11 @@ use Rattle.bounded.specs.Table.{tab}
 use Rattle.problem.specs.Held.{farStart, tableLength, farAt, Located}
 
 -- a block of 16 rows turned: turned row b has a where row a has b
-unfoldable pub turnedRow : List ℕ → ℕ → ℕ
-turnedRow rows b = maskOf 16 (λ a. bit (getD rows a 0) b)
+unfoldable pub transposedRow : List ℕ → ℕ → ℕ
+transposedRow rows b = maskOf 16 (λ a. bit (getD rows a 0) b)
 
-unfoldable pub turnedRows : List ℕ → List ℕ
-turnedRows rows = tab 16 (turnedRow rows)
+unfoldable pub transposedRows : List ℕ → List ℕ
+transposedRows rows = tab 16 (transposedRow rows)
 
 -- a table in which j is no longer one that has no block with i
 unfoldable pub cleared : List ℕ → (i j : ℕ) → List ℕ

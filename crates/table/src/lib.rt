@@ -7,7 +7,7 @@ ghost use Rattle.bounded.specs.Mask.{bit};
 ghost use Rattle.problem.specs.Places.{placeList};
 ghost use Rattle.problem.specs.Held.{tableLength, Located};
 ghost use Rattle.problem.specs.Filling.{Entered};
-ghost use Rattle.table.specs.Parts.{turnedRow, turnedRows, cleared, Wrote, HasPlaces, Blank};
+ghost use Rattle.table.specs.Parts.{transposedRow, transposedRows, cleared, Wrote, HasPlaces, Blank};
 use bounded::where16;
 use bounded::without16;
 use held::FAR_START;
@@ -27,7 +27,7 @@ fn lane(row: u16, b: usize, a: usize) -> u16
 // Turned row b. The loop is never left early, so that the compiler can do many rows at once.
 fn column(rows: &[u16; 16], b: usize) -> u16
     requires { ⌜ b < 16 ⌝ }
-    ensures { λ r. ⌜ r ≡ turnedRow (now (rows .entry)) b ⌝ }
+    ensures { λ r. ⌜ r ≡ transposedRow (now (rows .entry)) b ⌝ }
 {
     let mut word: u16 = 0;
     let mut a: usize = 0;
@@ -41,7 +41,7 @@ fn column(rows: &[u16; 16], b: usize) -> u16
 // All turned rows.
 fn turn(rows: &[u16; 16], turned: &mut [u16; 16])
     requires { ⌜ length (now turned) ≡ 16 ⌝ }
-    ensures { λ _. ⌜ now (turned .exit) ≡ turnedRows (now (rows .entry)) ⌝ }
+    ensures { λ _. ⌜ now (turned .exit) ≡ transposedRows (now (rows .entry)) ⌝ }
 {
     let mut b: usize = 0;
     while b < 16 {

@@ -23,7 +23,7 @@ unfoldable pub mended : Problem → State → (i v j w : ℕ) → ℕ
 mended P s i v j w = elim (s .active j && (not (eqb j i) && not (P .allowed i v j w))) [ true ↦ lowestLive P s j (λ w'. snakeServes P s i v j w w') | false ↦ w ]
 
 -- a plan of the right length whose values at the active variables other than i are in their domains
-pub record Left (t : List ℕ) (m : Masks) (i : ℕ) (plan : List ℕ) : Type 0 where
+pub record UndoneTo (t : List ℕ) (m : Masks) (i : ℕ) (plan : List ℕ) : Type 0 where
   pub long : length plan ≡ (held t) .n
   pub live : (j : ℕ) → T ((stateOf m) .active j) → j ≢ i → T ((stateOf m) .live j (planOf plan j))
 

@@ -15,7 +15,7 @@ ghost use Rattle.problem.specs.declared.Record.the-variants.{Snake, Triangle};
 ghost use Rattle.held.specs.Ready.{Ready, Value, Values};
 ghost use Rattle.sheet.specs.Bytes.{Is};
 ghost use Rattle.replay.specs.Walk.{checkedFrom};
-ghost use Rattle.undo.specs.Undone.{mended as mendedAt, Left, Undoable, UndoableFrom, undoneBy};
+ghost use Rattle.undo.specs.Undone.{mended as mendedAt, UndoneTo, Undoable, UndoableFrom, undoneBy};
 ghost use Rattle.undo.specs.Found.{isRecord, LawfulFound, afterFound, UndoableFound, undoneFound};
 use bounded::has32;
 use bounded::lowest16;
@@ -86,7 +86,7 @@ fn mended(t: &[u16], active: u32, on: &[u16; 32], i: usize, v: usize, j: usize, 
 
 // Each other item's setting that is barred with v changes.
 fn repair(t: &[u16], active: u32, on: &[u16; 32], i: usize, v: usize, out: &mut [u8])
-    requires { ⌜ Ready (now t) (sets active (now on)) × (Value (now t) i v × Left (now t) (sets active (now on)) i (now out)) ⌝ }
+    requires { ⌜ Ready (now t) (sets active (now on)) × (Value (now t) i v × UndoneTo (now t) (sets active (now on)) i (now out)) ⌝ }
     ensures { λ _. ⌜ now (out .exit) ≡ tab ((held (now (t .entry))) .n) (λ j. mendedAt (held (now (t .entry))) (stateOf (sets active (now (on .entry)))) i v j (planOf (now (out .entry)) j)) ⌝ }
 {
     let mut j: usize = 0;

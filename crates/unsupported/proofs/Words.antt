@@ -20,7 +20,7 @@ use Rattle.problem.specs.Masks.{stateOf}
 use Rattle.problem.specs.declared.Masks.{Masks}
 use Rattle.problem.proofs.Reflect.{turn, noneEmpty-iff}
 use Rattle.problem.specs.Sentences.{Active, Live, Allowed, Unsupported}
-use Rattle.problem.proofs.HeldTable.{row-tells, row-met, held-value}
+use Rattle.problem.proofs.HeldTable.{held-row-tells, row-met, held-value}
 use Rattle.held.specs.Ready.{Ready, Values, Near}
 use Rattle.held.proofs.Laws.{row-says, near-free, live-value, active-32}
 use Rattle.unsupported.specs.Bare.{Bare, BareOf, Alone, Mended}
@@ -79,7 +79,7 @@ module _ {t : List ℕ} (R : RowTable t) (lost domain l i : ℕ) (own : Values t
 
     -- the row of a value of the set
     row-of : (d c : ℕ) → T (bit domain d) → T (bit lost c) → bit (getD t (at + d) 0) c ≡ (held t) .allowed l d i c
-    row-of d c on h = ap (λ (x : ℕ). bit (getD t (x + d) 0) c) place ∙ row-tells R l d i (held-value R l d (there .within d on)) (λ e. apart (sym e)) c (held-value R i c (own .within c h))
+    row-of d c on h = ap (λ (x : ℕ). bit (getD t (x + d) 0) c) place ∙ held-row-tells R l d i (held-value R l d (there .within d on)) (λ e. apart (sym e)) c (held-value R i c (own .within c h))
 
     unbacked-unmet : (c : ℕ) → Unbacked c → T (bit unmet c)
     unbacked-unmet c x =

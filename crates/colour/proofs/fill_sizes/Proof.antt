@@ -5,12 +5,12 @@ use native.Mathlib.Omega.{arith}
 use borrow.Author.Needs.{needs}
 use Rattle.table.specs.Parts.{Wrote}
 use Rattle.table.proofs.Stores.{wrote-none, wrote-more}
-use Rattle.colour.specs.Parts.{sizeWord}
+use Rattle.colour.specs.Parts.{entrySize}
 use Rattle.colour.proofs.fill_sizes.Statement.{statement}
 use Rattle.colour.proofs.fill_sizes.Tie as tie
 
 abbrev Inv-loop : tie.InvT-loop
-Inv-loop n k t₀ i₀ t i = (i ≤ 32) × Wrote i t₀ t 0 (sizeWord n k)
+Inv-loop n k t₀ i₀ t i = (i ≤ 32) × Wrote i t₀ t 0 (entrySize n k)
 
 abbrev μ-loop : tie.MeasureT-loop
 μ-loop n k t₀ i₀ t i = 32 - i

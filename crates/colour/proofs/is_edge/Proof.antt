@@ -7,12 +7,12 @@ use denote.Ref.{now}
 use lib.Dec.{eqb, ltb}
 use lib.ListN.{getD}
 use borrow.Author.Needs.{needs}
-use Rattle.table.specs.Filling.{hasBlock}
+use Rattle.table.specs.Filling.{blockHere}
 use Rattle.colour.proofs.is_edge.Statement.{statement}
 use Rattle.colour.proofs.is_edge.Tie as tie
 
 returns : tie.Need-returns
-unfolding hasBlock
+unfolding blockHere
 returns c =
     let a = c .before .args in
     let e : 32 * (a .x / 32) + a .x % 32 ≡ a .x = omega arith in

@@ -12,7 +12,7 @@ use Rattle.problem.proofs.HeldTable.{held-few}
 use Rattle.compose.specs.Compose.{blockCount}
 use Rattle.compose.specs.Parts.{markOf}
 use Rattle.compose.proofs.Lengths.{count-few}
-use Rattle.compose.proofs.Writing.{count-step, count-beyond}
+use Rattle.compose.proofs.Writing.{count-step, written-beyond}
 use borrow.Author.Needs.{needs}
 use Rattle.compose.proofs.mark_blocks.Statement.{statement}
 use Rattle.compose.proofs.mark_blocks.Tie as tie
@@ -90,7 +90,7 @@ returns c =
     let l = c .before .loop in
     let p = c .before .before .before .before .pre .1 .0 in
     let e : l .x ≡ 32 * a .n = omega arith in
-    let s = count-beyond P (1024 - l .x) (l .x) (omega arith) in
+    let s = written-beyond P (1024 - l .x) (l .x) (omega arith) in
     let g = l .inv .1 .1 .1 in
     (l .inv .1 .1 .0 ∙ ap (λ (k : ℕ). filled k (markOf P) (a .marks .now)) e, omega arith)
 

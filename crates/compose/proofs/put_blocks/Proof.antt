@@ -8,7 +8,7 @@ use Rattle.problem.proofs.HeldTable.{held-few}
 use Rattle.sheet.specs.Sheet.{layout}
 use Rattle.compose.specs.Compose.{placeBytes, blocksBytes}
 use Rattle.compose.specs.Parts.{Underway}
-use Rattle.compose.proofs.Writing.{begins, writes, part-room, ends, blocks-step, blocks-beyond}
+use Rattle.compose.proofs.Writing.{starts, writes, part-room, ends, blocks-step, blocks-beyond}
 use borrow.Author.Needs.{needs}
 use Rattle.compose.proofs.put_blocks.Statement.{statement}
 use Rattle.compose.proofs.put_blocks.Tie as tie
@@ -23,7 +23,7 @@ add-p : tie.Need-add-p Inv-loop μ-loop
 add-p c = search needs
 
 loop-holds : tie.Need-loop-holds Inv-loop μ-loop
-loop-holds c = (omega arith, begins _ _ _ (c .before .before .before .pre .1 .1 .1))
+loop-holds c = (omega arith, starts _ _ _ (c .before .before .before .pre .1 .1 .1))
 
 mul-loop : tie.Need-mul-loop Inv-loop μ-loop
 mul-loop c = let few = held-few (now (c .before .before .before .before .args .t)) in let e = c .before .before .before .before .pre .1 .0 in omega arith

@@ -8,7 +8,7 @@ use Rattle.problem.proofs.HeldTable.{held-few}
 use Rattle.sheet.specs.Sheet.{layout}
 use Rattle.compose.specs.Compose.{hasBlock}
 use Rattle.compose.proofs.Rows.{has-block}
-use Rattle.compose.proofs.Writing.{place-hit, place-miss, marked-not, marked-true, wrote-none}
+use Rattle.compose.proofs.Writing.{place-hit, place-miss, marked-not, marked-true, bytes-wrote-none}
 use borrow.Author.Needs.{needs}
 use Rattle.compose.proofs.put_place.Statement.{statement}
 use Rattle.compose.proofs.put_place.Tie as tie
@@ -21,7 +21,7 @@ returns c =
     let a = c .before .before .before .before .before .args in
     let p = c .before .before .before .before .before .pre in
     let P = held (now (a .t)) in
-    rw (place-miss layout (a .v) P (a .x) (marked-not (hasBlock P (a .x)) (sym (p .0 .says (a .x) (p .1 .0)) ∙ c .if1 .taken))) (wrote-none _ _)
+    rw (place-miss layout (a .v) P (a .x) (marked-not (hasBlock P (a .x)) (sym (p .0 .says (a .x) (p .1 .0)) ∙ c .if1 .taken))) (bytes-wrote-none _ _)
 
 put-block-requires : tie.Need-put-block-requires
 put-block-requires c κs =

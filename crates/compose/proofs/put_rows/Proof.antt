@@ -13,7 +13,7 @@ use Rattle.compose.specs.Compose.{rowNumber, rowsBytes}
 use Rattle.compose.specs.Parts.{Underway}
 use Rattle.compose.proofs.Stands.{length-number}
 use Rattle.compose.proofs.Blocks.{layout-roomy}
-use Rattle.compose.proofs.Writing.{begins, writes, part-room, ends, wrote-number, rows-step, rows-none}
+use Rattle.compose.proofs.Writing.{starts, writes, part-room, ends, wrote-number, rows-step, rows-none}
 use borrow.Author.Needs.{needs}
 use Rattle.compose.proofs.put_rows.Statement.{statement}
 use Rattle.compose.proofs.put_rows.Tie as tie
@@ -38,7 +38,7 @@ loop-holds c =
     let a = c .before .before .before .before .before .args in
     let S = (held (now (a .t))) .size (a .i) in
     let z : S - 0 ≡ S = omega arith in
-    (omega arith, rw z (begins _ _ _ (c .before .before .before .before .before .pre .1 .1)))
+    (omega arith, rw z (starts _ _ _ (c .before .before .before .before .before .pre .1 .1)))
 
 row-number-requires : tie.Need-row-number-requires Inv-loop μ-loop
 row-number-requires c κs = let e = c .before .before .before .before .size .ensures in (c .before .before .before .before .before .before .before .pre .0, omega arith)

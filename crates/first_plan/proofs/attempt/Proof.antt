@@ -6,11 +6,11 @@ use Rattle.first_plan.proofs.Branches.{opens-state}
 use Rattle.first_plan.proofs.attempt.Statement.{statement}
 use Rattle.first_plan.proofs.attempt.Tie as tie
 
-narrow-requires : tie.Need-narrow-requires
-narrow-requires c κs = let p = c .before .before .before .pre .0 in rw (c .before .choose .ensures) (ready-held (p .table) (choose-fits (p .fits) _ _))
+propagate-requires : tie.Need-propagate-requires
+propagate-requires c κs = let p = c .before .before .before .pre .0 in rw (c .before .choose .ensures) (ready-held (p .table) (choose-fits (p .fits) _ _))
 
 returns : tie.Need-returns
-returns c = let p = c .before .before .before .before .pre .0 in opens-state _ (p .table) (choose-fits (p .fits) _ _) (c .before .before .choose .ensures) (c .narrow .ensures)
+returns c = let p = c .before .before .before .before .pre .0 in opens-state _ (p .table) (choose-fits (p .fits) _ _) (c .before .before .choose .ensures) (c .propagate .ensures)
 
 pub attempt-spec : {M : Type 1} → statement M
-attempt-spec = tie.close (tie.spec (λ c κs. search needs) narrow-requires returns)
+attempt-spec = tie.close (tie.spec (λ c κs. search needs) propagate-requires returns)

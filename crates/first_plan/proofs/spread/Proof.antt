@@ -9,19 +9,19 @@ use Rattle.bounded.proofs.Mask.{bit-without32}
 use Rattle.bounded.proofs.Members.{Left, left-all, left-next, left-lowest, left-other}
 use Rattle.problem.specs.Masks.{stateOf, sets}
 use Rattle.held.proofs.Laws.{domain-values}
-use Rattle.first_plan.specs.Steps.{Narrowed}
-use Rattle.first_plan.proofs.Supports.{union-supports, narrowed-same, swept, swept-empty, swept-active, emptied}
+use Rattle.first_plan.specs.Steps.{Pruned}
+use Rattle.first_plan.proofs.Supports.{union-supports, narrowed-same, swept, swept-empty, swept-active, some-emptied}
 use Rattle.first_plan.proofs.spread.Statement.{statement}
 use Rattle.first_plan.proofs.spread.Tie as tie
 
 abbrev Inv-loop : tie.InvT-loop
-Inv-loop t active on₀ i domain rest₀ changed₀ on rest changed = Left 32 rest₀ rest × Narrowed t (stateOf (sets active on₀)) (sets active on)
+Inv-loop t active on₀ i domain rest₀ changed₀ on rest changed = Left 32 rest₀ rest × Pruned t (stateOf (sets active on₀)) (sets active on)
 
 abbrev μ-loop : tie.MeasureT-loop
 μ-loop t active on₀ i domain rest₀ changed₀ on rest changed = rest
 
 returns : tie.Need-returns Inv-loop μ-loop
-returns c = let p = c .before .before .before .before .before .pre in record { narrowed = narrowed-same (p .0); dead = λ e. emptied _ (p .2) (c .if1 .taken) }
+returns c = let p = c .before .before .before .before .before .pre in record { narrowed = narrowed-same (p .0); dead = λ e. some-emptied _ (p .2) (c .if1 .taken) }
 
 loop-holds : tie.Need-loop-holds Inv-loop μ-loop
 loop-holds c = (left-all 32 _ (search needs), narrowed-same (c .before .before .before .before .before .pre .0))

@@ -3,7 +3,7 @@ use mathlib.Core.Path.{sym, ap, _∙_}
 use Prim.Native.Nat.{ℕ, _+_}
 use lib.ListN.{getD}
 use Rattle.bounded.specs.Mask.{bit}
-use Rattle.problem.proofs.HeldTable.{row-tells}
+use Rattle.problem.proofs.HeldTable.{held-row-tells}
 use Rattle.held.proofs.Laws.{allowed-apart}
 use borrow.Author.Needs.{needs}
 use Rattle.held.proofs.pair_allowed.Statement.{statement}
@@ -17,7 +17,7 @@ returns-2 c =
     let a = c .before .before .before .before .before .args in
     let p = c .before .before .before .before .before .pre in
     c .has16 .ensures ∙ ap (λ (x : ℕ). bit (getD (a .t .now) (x + a .a) 0) (a .b)) (c .before .before .rows-at .ensures .0)
-    ∙ row-tells (p .0) (a .i) (a .a) (a .j) (p .1 .listed) (λ e. c .before .before .before .if1 .left (sym e)) (a .b) (p .2 .listed)
+    ∙ held-row-tells (p .0) (a .i) (a .a) (a .j) (p .1 .listed) (λ e. c .before .before .before .if1 .left (sym e)) (a .b) (p .2 .listed)
 
 pub pair-allowed-spec : {M : Type 1} → statement M
 pair-allowed-spec =

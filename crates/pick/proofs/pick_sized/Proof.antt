@@ -2,7 +2,7 @@
 use mathlib.Core.Path.{_∙_, ap}
 use Rattle.problem.specs.Held.{held}
 use Rattle.pick.specs.Pick.{PickResult}
-use Rattle.pick.proofs.Job.{not-refused, state-left, trace-room, trace-left, trace-count, picked-done}
+use Rattle.pick.proofs.Job.{not-refused, state-left, trace-room, pick-trace-left, trace-count, picked-done}
 use borrow.Author.Needs.{needs}
 use Rattle.pick.proofs.pick_sized.Statement.{statement}
 use Rattle.pick.proofs.pick_sized.Tie as tie
@@ -38,7 +38,7 @@ put-first-requires c κs =
       a .pre .0,
       (
         state-left (held (a .args .t .now)) (a .args .trace .now) (a .pre .1 .0) _ (x .0),
-        (trace-left (held (a .args .t .now)) (a .args .trace .now) (a .pre .1 .0) _ (x .0) _ _ _ (c .before .before .before .outcome .given .1) _ (x .1), a .pre .1 .1),
+        (pick-trace-left (held (a .args .t .now)) (a .args .trace .now) (a .pre .1 .0) _ (x .0) _ _ _ (c .before .before .before .outcome .given .1) _ (x .1), a .pre .1 .1),
       ),
     )
 

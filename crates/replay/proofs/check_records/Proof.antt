@@ -70,8 +70,8 @@ use Rattle.trace.proofs.moved.Symbol.{name as #trace·moved}
 use Rattle.trace.proofs.moved.Met as moved-thm
 use Rattle.replay.specs.declared.Checking.{Checking}
 use Rattle.replay.specs.declared.TraceEnd.{TraceEnd}
-use Rattle.replay.specs.Walk.{checkedFrom, ended, goingOn, checkedTurn}
-use Rattle.replay.proofs.Turn.{Good, turns as turns-left, good-on, good-off, start-good, turn-good}
+use Rattle.replay.specs.Walk.{checkedFrom, walkEnded, goingOn, checkedTurn}
+use Rattle.replay.proofs.Turn.{Good, turns as turns-left, good-on, good-off, walk-start, turn-good}
 use Rattle.replay.proofs.Checking as P
 use Rattle.replay.proofs.Checking.Laws as P′
 use Rattle.replay.proofs.TraceEnd as Q
@@ -130,7 +130,7 @@ module _ {M : Type 1} (𝓤 : URA M) (H : Heap 𝓤) (A : Atoms 𝓤) (W : Given
   Table = ShrSlice (named 0) κ u16 .own t (v t ∷ [])
 
   abbrev answer : TraceEnd
-  answer = ended (held (now t)) (stateOf m) (checkedFrom (held (now t)) (now s) (stateOf m) 0 1)
+  answer = walkEnded (held (now t)) (stateOf m) (checkedFrom (held (now t)) (now s) (stateOf m) 0 1)
 
   exits : (c : Checking) → Is K.the-row m (f m ∷ []) → Is Q.the-row (c .end) (Q′.lowered (c .end) ∷ []) → c .end ≡ answer
       → ent 𝓤 (⋆ 𝓤 H A (‵ (own κ′ s) ∷ token 𝓤 κ′ q′ ∷ ‵ Table ∷ token 𝓤 κ q ∷ [])) (Post (Q′.lowered (c .end)))
@@ -273,7 +273,7 @@ module _ {M : Type 1} (𝓤 : URA M) (H : Heap 𝓤) (A : Atoms 𝓤) (W : Given
         calls-plain 𝓤 H A W ! fm (Going 𝓤 H A mem run) known-going to-going (goes-going known-m) P.the-row (goingOn m 0) (P′.lowered (goingOn m 0)) (P′.lowers .val-is (goingOn m 0)) _ (λ w. id⊢ 𝓤 _) going-said
         (and-then ! (load ! (from ! (stop !)) (look ! 17 refl)) (and-then ! (lit ! tt) (no-more !))) (λ is.
         land ! (from ! (stop !)) (init ! 12 refl (check-typed (goingOn m 0) is)) $
-        looped l₀ l₁ l₂ l₃ l₄ l₅ l₆ l₇ l₈ l₉ (record { c = goingOn m 0; p = 1; is = is; fits = lit< tt; good = start-good (now t) (now s) m ready })))))))))))))
+        looped l₀ l₁ l₂ l₃ l₄ l₅ l₆ l₇ l₈ l₉ (record { c = goingOn m 0; p = 1; is = is; fits = lit< tt; good = walk-start (now t) (now s) m ready })))))))))))))
 
 module _ {M : Type 1} (𝓤 : URA M) (H : Heap 𝓤) (A : Atoms 𝓤) (W : Given 𝓤 H A) (mem : Memory → SProp 𝓤) (run : Routine → Fun 𝓤) (𝓣 : Tables 𝓤 H) where
   records-meets : Triple 𝓤 (𝓣 .C #trace·placed) (Placed 𝓤 H A mem run) → Triple 𝓤 (𝓣 .C #replay·going) (Going 𝓤 H A mem run) → Triple 𝓤 (𝓣 .C #trace·peek) (Peek 𝓤 H A mem run)

@@ -6,7 +6,7 @@ use lib.ListN.{getD}
 use borrow.Author.Needs.{needs}
 use Rattle.bounded.specs.Mask.{bit, maskOf}
 use Rattle.bounded.proofs.Mask.{mask-none, mask-or}
-use Rattle.table.specs.Parts.{turnedRow}
+use Rattle.table.specs.Parts.{transposedRow}
 use Rattle.table.proofs.column.Statement.{statement}
 use Rattle.table.proofs.column.Tie as tie
 
@@ -17,7 +17,7 @@ abbrev μ-loop : tie.MeasureT-loop
 μ-loop r b w₀ a₀ w a = 16 - a
 
 pub column-spec : {M : Type 1} → statement M
-unfolding turnedRow
+unfolding transposedRow
 column-spec =
     tie.close
     (tie.spec Inv-loop μ-loop

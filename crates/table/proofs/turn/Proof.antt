@@ -8,12 +8,12 @@ use lib.ListN.{length, set}
 use borrow.Author.Needs.{needs}
 use Rattle.bounded.specs.Table.{filled}
 use Rattle.bounded.proofs.Table.{filled-none, filled-more, filled-end}
-use Rattle.table.specs.Parts.{turnedRow, turnedRows}
+use Rattle.table.specs.Parts.{transposedRow, transposedRows}
 use Rattle.table.proofs.turn.Statement.{statement}
 use Rattle.table.proofs.turn.Tie as tie
 
 abbrev Inv-loop : tie.InvT-loop
-Inv-loop r x₀ b₀ x b = (b ≤ 16) × (length x₀ ≡ 16) × (x ≡ filled b (turnedRow r) x₀)
+Inv-loop r x₀ b₀ x b = (b ≤ 16) × (length x₀ ≡ 16) × (x ≡ filled b (transposedRow r) x₀)
 
 abbrev μ-loop : tie.MeasureT-loop
 μ-loop r x₀ b₀ x b = 16 - b
@@ -24,11 +24,11 @@ loop-again c =
     let r = now (c .before .before .before .args .rows) in (
       omega arith,
       l .inv .1,
-      ap (λ (v : ℕ). set (l .turned) (l .b) v) (c .column .ensures) ∙ ap (λ (x : List ℕ). set x (l .b) (turnedRow r (l .b))) (l .inv .2) ∙ filled-more (l .b) _ _ (omega arith),
+      ap (λ (v : ℕ). set (l .turned) (l .b) v) (c .column .ensures) ∙ ap (λ (x : List ℕ). set x (l .b) (transposedRow r (l .b))) (l .inv .2) ∙ filled-more (l .b) _ _ (omega arith),
     )
 
 pub turn-spec : {M : Type 1} → statement M
-unfolding turnedRows
+unfolding transposedRows
 turn-spec =
     tie.close
     (tie.spec Inv-loop μ-loop

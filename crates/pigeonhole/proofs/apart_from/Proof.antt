@@ -1,11 +1,11 @@
--- `crowd::apart_from`: the variables passed that stayed are apart from i. Assumes nothing.
+-- `pigeonhole::apart_from`: the variables passed that stayed are apart from i. Assumes nothing.
 use borrow.Author.Needs.{needs}
 use Rattle.bounded.proofs.Mask.{bit-without32}
 use Rattle.bounded.proofs.Members.{Left, left-all, left-next, left-lowest, left-other}
 use Rattle.problem.specs.Held.{held}
-use Rattle.crowd.proofs.Laws.{Sifted, sift-none, sift-more, sift-end}
-use Rattle.crowd.proofs.apart_from.Statement.{statement}
-use Rattle.crowd.proofs.apart_from.Tie as tie
+use Rattle.pigeonhole.proofs.Laws.{Sifted, sift-none, sift-more, sift-end}
+use Rattle.pigeonhole.proofs.apart_from.Statement.{statement}
+use Rattle.pigeonhole.proofs.apart_from.Tie as tie
 
 abbrev Inv-loop : tie.InvT-loop
 Inv-loop t active i rest₀ far₀ rest far = Left 32 rest₀ rest × Sifted (held t) i far rest
@@ -24,8 +24,8 @@ apart-pair-requires c κs =
     let l = left-lowest 32 bit-without32 (w .inv .0) (c .before .before .loop-test .taken) (c .before .lowest32 .ensures) in
     (p .0, p .1, l .0, left-other 32 bit-without32 (a .active) (a .i) (w .inv .0) (c .before .before .before .before .without32 .ensures) (p .1) (l .0) (l .1))
 
-with-if-requires : tie.Need-with-if-requires Inv-loop μ-loop
-with-if-requires c κs = left-lowest 32 bit-without32 (c .before .before .before .before .loop .inv .0) (c .before .before .before .loop-test .taken) (c .before .before .lowest32 .ensures) .0
+without-unless-requires : tie.Need-without-unless-requires Inv-loop μ-loop
+without-unless-requires c κs = left-lowest 32 bit-without32 (c .before .before .before .before .loop .inv .0) (c .before .before .before .loop-test .taken) (c .before .before .lowest32 .ensures) .0
 
 loop-less : tie.Need-loop-less Inv-loop μ-loop
 loop-less c = rw (c .before .before .without322 .ensures) (left-lowest 32 bit-without32 (c .before .before .before .before .before .loop .inv .0) (c .before .before .before .before .loop-test .taken) (c .before .before .before .lowest32 .ensures) .2)
@@ -34,7 +34,7 @@ loop-again : tie.Need-loop-again Inv-loop μ-loop
 loop-again c =
     let w = c .before .before .before .before .before .loop in
     let l = left-lowest 32 bit-without32 (w .inv .0) (c .before .before .before .before .loop-test .taken) (c .before .before .before .lowest32 .ensures) .0 in
-    (rw (c .before .before .without322 .ensures) (left-next _ (w .inv .0)), rw (c .with-if .ensures, c .before .before .without322 .ensures) (sift-more _ _ _ _ _ _ l (c .before .apart-pair .ensures) (w .inv .1)))
+    (rw (c .before .before .without322 .ensures) (left-next _ (w .inv .0)), rw (c .without-unless .ensures, c .before .before .without322 .ensures) (sift-more _ _ _ _ _ _ l (c .before .apart-pair .ensures) (w .inv .1)))
 
 pub apart-from-spec : {M : Type 1} → statement M
 apart-from-spec =
@@ -45,7 +45,7 @@ apart-from-spec =
     (λ c κs. search needs)
     without32-requires-2
     apart-pair-requires
-    with-if-requires
+    without-unless-requires
     loop-less
     loop-again
     (λ c. sift-end _ _ _ _ (c .loop-test .left) (c .before .loop .inv .1)))

@@ -1,13 +1,13 @@
--- `crowd::crowded`. Assumes nothing.
+-- `pigeonhole::overfull`. Assumes nothing.
 use mathlib.Core.Path.{refl}
 use mathlib.Core.Bool.{false}
 use borrow.Author.Needs.{needs}
 use Rattle.bounded.proofs.Truth.{clash}
 use Rattle.bounded.proofs.Mask.{bit-without32}
 use Rattle.bounded.proofs.Members.{Left, left-all, left-next, left-lowest}
-use Rattle.crowd.proofs.Laws.{crowd-unsolved}
-use Rattle.crowd.proofs.crowded.Statement.{statement}
-use Rattle.crowd.proofs.crowded.Tie as tie
+use Rattle.pigeonhole.proofs.Laws.{pigeonhole-unsolved}
+use Rattle.pigeonhole.proofs.overfull.Statement.{statement}
+use Rattle.pigeonhole.proofs.overfull.Tie as tie
 
 abbrev Inv-loop : tie.InvT-loop
 Inv-loop t active on far rest₀ rest = Left 32 active rest
@@ -31,7 +31,7 @@ shl-first : tie.Need-shl-first Inv-loop μ-loop
 shl-first c = let l = left-lowest 32 bit-without32 (c .before .before .before .loop .inv) (c .before .before .loop-test .taken) (c .before .lowest32 .ensures) .0 in search needs
 
 returns : tie.Need-returns Inv-loop μ-loop
-returns c = crowd-unsolved _ (c .before .before .before .before .before .before .before .apart-all .ensures) _ (c .before .crowd-among .ensures) (c .if1 .taken) _
+returns c = pigeonhole-unsolved _ (c .before .before .before .before .before .before .before .apart-all .ensures) _ (c .before .overfull-among .ensures) (c .if1 .taken) _
 
 loop-less : tie.Need-loop-less Inv-loop μ-loop
 loop-less c = rw (c .before .before .before .without32 .ensures) (left-lowest 32 bit-without32 (c .before .before .before .before .before .before .loop .inv) (c .before .before .before .before .before .loop-test .taken) (c .before .before .before .before .lowest32 .ensures) .2)
@@ -39,8 +39,8 @@ loop-less c = rw (c .before .before .before .without32 .ensures) (left-lowest 32
 loop-again : tie.Need-loop-again Inv-loop μ-loop
 loop-again c = rw (c .before .before .before .without32 .ensures) (left-next _ (c .before .before .before .before .before .before .loop .inv))
 
-pub crowded-spec : {M : Type 1} → statement M
-crowded-spec =
+pub overfull-spec : {M : Type 1} → statement M
+overfull-spec =
     tie.close
     (tie.spec Inv-loop μ-loop
     (λ c κs. c .before .pre .table)

@@ -1,4 +1,4 @@
--- `crowd::apart_pair`: no value so far is allowed at both. Assumes nothing.
+-- `pigeonhole::apart_pair`: no value so far is allowed at both. Assumes nothing.
 use mathlib.Core.Path.{refl, sym, ap, _∙_}
 use mathlib.Core.Bool.{false}
 use Prim.Native.Nat.{ℕ, _-_, _≤_}
@@ -8,18 +8,18 @@ use Rattle.bounded.specs.Mask.{bit}
 use Rattle.bounded.proofs.Truth.{clash}
 use Rattle.problem.specs.Held.{held}
 use Rattle.problem.proofs.HeldTable.{held-narrow, held-value}
-use Rattle.crowd.proofs.Laws.{Below, below-none, below-more, below-end}
-use Rattle.crowd.proofs.apart_pair.Statement.{statement}
-use Rattle.crowd.proofs.apart_pair.Tie as tie
+use Rattle.pigeonhole.proofs.Laws.{ApartBelow, apart-none, below-more, below-end}
+use Rattle.pigeonhole.proofs.apart_pair.Statement.{statement}
+use Rattle.pigeonhole.proofs.apart_pair.Tie as tie
 
 abbrev Inv-loop : tie.InvT-loop
-Inv-loop t i j n a₀ a = (n ≤ 16) × Below (held t) i j a
+Inv-loop t i j n a₀ a = (n ≤ 16) × ApartBelow (held t) i j a
 
 abbrev μ-loop : tie.MeasureT-loop
 μ-loop t i j n a₀ a = n - a
 
 loop-holds : tie.Need-loop-holds Inv-loop μ-loop
-loop-holds c = (rw (c .size .ensures) (held-narrow (c .before .before .pre .0) _), below-none _ _ _)
+loop-holds c = (rw (c .size .ensures) (held-narrow (c .before .before .pre .0) _), apart-none _ _ _)
 
 row-requires : tie.Need-row-requires Inv-loop μ-loop
 row-requires c κs =

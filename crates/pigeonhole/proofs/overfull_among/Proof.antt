@@ -1,4 +1,4 @@
--- `crowd::crowd_among`: the values of the variables taken are as many as these. Assumes nothing.
+-- `pigeonhole::overfull_among`: the values of the variables taken are as many as these. Assumes nothing.
 use mathlib.Core.Path.{refl}
 use mathlib.Core.Bool.{false}
 use Prim.Native.Nat.{_≤_}
@@ -9,9 +9,9 @@ use borrow.Author.Needs.{needs}
 use Rattle.bounded.proofs.Truth.{clash}
 use Rattle.bounded.proofs.Mask.{bit-without32}
 use Rattle.bounded.proofs.Members.{Left, left-and, left-lowest}
-use Rattle.crowd.proofs.Laws.{Takes, take-none, take-more, left-both, at-most, too-many}
-use Rattle.crowd.proofs.crowd_among.Statement.{statement}
-use Rattle.crowd.proofs.crowd_among.Tie as tie
+use Rattle.pigeonhole.proofs.Laws.{Takes, take-none, take-more, left-both, at-most, too-many}
+use Rattle.pigeonhole.proofs.overfull_among.Statement.{statement}
+use Rattle.pigeonhole.proofs.overfull_among.Tie as tie
 
 abbrev Inv-loop : tie.InvT-loop
 Inv-loop active on far first rest₀ values₀ count₀ rest values count = Left 32 active rest × (count ≤ 16) × Takes active on far rest values count
@@ -60,8 +60,8 @@ loop-again c =
     let K = take-more _ (w .inv .0) (l .0) (l .1) (c .before .before .before .before .before .before .before .pre .domain-lt _ (l .0)) (w .inv .2) in
     rw (c .before .before .before .without32 .ensures) (left-both (a .far .now) _ (w .inv .0), at-most K (c .if1 .left), K)
 
-pub crowd-among-spec : {M : Type 1} → statement M
-crowd-among-spec =
+pub overfull-among-spec : {M : Type 1} → statement M
+overfull-among-spec =
     tie.close
     (tie.spec Inv-loop μ-loop
     loop-holds

@@ -1,4 +1,4 @@
--- `first_plan::narrow`: it may stop anywhere. Assumes nothing.
+-- `first_plan::propagate`: it may stop anywhere. Assumes nothing.
 use mathlib.Core.Path.{refl}
 use mathlib.Core.Bool.{true}
 use mathlib.Core.Logic.{_≢_}
@@ -11,13 +11,13 @@ use Rattle.bounded.proofs.Truth.{T-true, clash, neither}
 use Rattle.bounded.proofs.Mask.{bit-without32}
 use Rattle.bounded.proofs.Members.{Left, left-and, left-lowest}
 use Rattle.problem.specs.Masks.{stateOf, sets}
-use Rattle.first_plan.specs.Steps.{Narrowed}
+use Rattle.first_plan.specs.Steps.{Pruned}
 use Rattle.first_plan.proofs.Supports.{narrowed-same, narrowed-trans}
-use Rattle.first_plan.proofs.narrow.Statement.{statement}
-use Rattle.first_plan.proofs.narrow.Tie as tie
+use Rattle.first_plan.proofs.propagate.Statement.{statement}
+use Rattle.first_plan.proofs.propagate.Tie as tie
 
 abbrev Inv-loop : tie.InvT-loop
-Inv-loop t first active on₀ todo₀ turns₀ on todo turns = Left 32 active todo × Narrowed t (stateOf (sets active on₀)) (sets active on)
+Inv-loop t first active on₀ todo₀ turns₀ on todo turns = Left 32 active todo × Pruned t (stateOf (sets active on₀)) (sets active on)
 
 abbrev μ-loop : tie.MeasureT-loop
 μ-loop t first active on₀ todo₀ turns₀ on todo turns = turns
@@ -51,8 +51,8 @@ loop-again c = (left-and 32 _ (bitOr (c .before .without32 .result) (c .before .
 returns-2 : tie.Need-returns-2 Inv-loop μ-loop
 returns-2 c = record { narrowed = c .before .loop .inv .1; closed = λ e. absurd (clash {b = true} refl e) }
 
-pub narrow-spec : {M : Type 1} → statement M
-narrow-spec =
+pub propagate-spec : {M : Type 1} → statement M
+propagate-spec =
     tie.close
     (tie.spec Inv-loop μ-loop
     loop-holds

@@ -1,4 +1,4 @@
--- Why a crowd has no solution: the values of variables that all differ are as many as the variables. Assumes nothing.
+-- Why a pigeonhole has no solution: the values of variables that all differ are as many as the variables. Assumes nothing.
 use mathlib.Core.Path.{_≡_, refl, sym, ap, subst, _∙_}
 use mathlib.Core.Bool.{Bool, true, false, _||_, cond}
 use mathlib.Core.List.{List}
@@ -25,19 +25,19 @@ use Rattle.problem.specs.Masks.{stateOf, sets}
 use Rattle.problem.specs.Sentences.{Allowed, Solution}
 use Rattle.problem.proofs.HeldTable.{held-bounded}
 use Rattle.held.proofs.Laws.{row-says}
-use Rattle.crowd.specs.Crowd.{Apart, Told, AllApart, Rows, Differs, Crowd, Unsolved}
+use Rattle.pigeonhole.specs.Pigeonhole.{Apart, ApartIf, AllApart, Rows, Differs, Pigeonhole, Unsolved}
 
 -- ---- apart
 
 -- none of the values below k is allowed at both
-pub record Below (P : Problem) (i j k : ℕ) : Type 0 where
+pub record ApartBelow (P : Problem) (i j k : ℕ) : Type 0 where
   pub never : (a : ℕ) → a < k → Allowed P i a j a → ⊥
 
-pub below-none : (P : Problem) (i j : ℕ) → Below P i j 0
-below-none P i j = record { never = λ a l h. omega arith }
+pub apart-none : (P : Problem) (i j : ℕ) → ApartBelow P i j 0
+apart-none P i j = record { never = λ a l h. omega arith }
 
 module _ {t : List ℕ} (R : RowTable t) (i j : ℕ) where
-  pub below-more : (k : ℕ) → Below (held t) i j k → bit (rowWord (held t) i j k) k ≡ false → Below (held t) i j (k + 1)
+  pub below-more : (k : ℕ) → ApartBelow (held t) i j k → bit (rowWord (held t) i j k) k ≡ false → ApartBelow (held t) i j (k + 1)
   below-more k B e = record { never = λ a l h. go a l h (eq-dec a k) }
     where
       go : (a : ℕ) → a < k + 1 → Allowed (held t) i a j a → (a ≡ k) ⊎ (a ≢ k) → ⊥
@@ -45,7 +45,7 @@ module _ {t : List ℕ} (R : RowTable t) (i j : ℕ) where
       go a l h (inr d) = B .never a (omega arith) h
 
   -- a value that is allowed is one of the problem's
-  pub below-end : (k : ℕ) → (held t) .size i ≤ k → Below (held t) i j k → Apart (held t) i j
+  pub below-end : (k : ℕ) → (held t) .size i ≤ k → ApartBelow (held t) i j k → Apart (held t) i j
   below-end k l B = record { never = λ a h. B .never a (omega (arith, held-bounded R .listed i a j a h .1)) h }
 
 -- ---- a row of them
@@ -61,7 +61,7 @@ sift-none P i far l = record { small = l; each = λ j on off. absurd (off on) }
 small : (n x j : ℕ) → x < 2 ^ n → T (bit x j) → j < n
 small n x j l t = elim (lt-dec j n) [ inl h ↦ h | inr h ↦ absurd (T-not (bit-high n x j l h) t) ]
 
-pub sift-more : (P : Problem) (i far rest : ℕ) (b : Bool) (j : ℕ) → j < 32 → Told P i j b → Sifted P i far rest → Sifted P i (cond b far (without 32 far j)) (without 32 rest j)
+pub sift-more : (P : Problem) (i far rest : ℕ) (b : Bool) (j : ℕ) → j < 32 → ApartIf P i j b → Sifted P i far rest → Sifted P i (cond b far (without 32 far j)) (without 32 rest j)
 sift-more P i far rest true j l H S = record { small = S .small; each = λ k on off. go k on off (T-dec (bit rest k)) }
   where
     go : (k : ℕ) → T (bit far k) → (T (bit (without 32 rest j) k) → ⊥) → T (bit rest k) ⊎ (T (bit rest k) → ⊥) → Apart P i k
@@ -89,15 +89,15 @@ zeros (suc n) zero = refl
 zeros (suc n) (suc k) = zeros n k
 
 -- an entry that is not yet written has no variable
-pub record Written (P : Problem) (far : List ℕ) : Type 0 where
+pub record RowsWritten (P : Problem) (far : List ℕ) : Type 0 where
   pub long : length far ≡ 32
   pub rows : Rows P far
 
-pub written-none : (P : Problem) → Written P (replicate 32 0)
-written-none P = record { long = refl; rows = record { row = λ i. record { each = λ j h. absurd (T-not (ap (λ (x : ℕ). bit x j) (zeros 32 i) ∙ bit-none j) h) } } }
+pub rows-written-none : (P : Problem) → RowsWritten P (replicate 32 0)
+rows-written-none P = record { long = refl; rows = record { row = λ i. record { each = λ j h. absurd (T-not (ap (λ (x : ℕ). bit x j) (zeros 32 i) ∙ bit-none j) h) } } }
 
-pub written-more : {P : Problem} {far : List ℕ} (i x : ℕ) → i < 32 → AllApart P i x → Written P far → Written P (set far i x)
-written-more {P} {far} i x l A W = record { long = length-set far i x ∙ W .long; rows = record { row = λ k. go k (eq-dec k i) } }
+pub rows-written-more : {P : Problem} {far : List ℕ} (i x : ℕ) → i < 32 → AllApart P i x → RowsWritten P far → RowsWritten P (set far i x)
+rows-written-more {P} {far} i x l A W = record { long = length-set far i x ∙ W .long; rows = record { row = λ k. go k (eq-dec k i) } }
   where
     go : (k : ℕ) → (k ≡ i) ⊎ (k ≢ i) → AllApart P k (getD (set far i x) k 0)
     go k (inl e) = rw (e, getD-set-same far i x 0 (omega (arith, W .long))) A
@@ -132,7 +132,7 @@ count-ones (suc n) x =
 -- ---- the values taken
 
 -- `test` has at least `count` values, all of `values`, and no variable of `rest` has one of them in q
-pub record Taken (q : ℕ → ℕ) (rest values count : ℕ) : Type 0 where
+pub record Chosen (q : ℕ → ℕ) (rest values count : ℕ) : Type 0 where
   pub test : ℕ → Bool
   pub counts : count ≤ countBelow 16 test
   pub within : (c : ℕ) → T (test c) → T (bit values c)
@@ -141,7 +141,7 @@ pub record Taken (q : ℕ → ℕ) (rest values count : ℕ) : Type 0 where
 -- so it is with every q that differs
 pub record Takes (active : ℕ) (on far : List ℕ) (rest values count : ℕ) : Type 0 where
   pub narrow : values < 2 ^ 16
-  pub taken : (q : ℕ → ℕ) → Differs active on far q → Taken q rest values count
+  pub taken : (q : ℕ → ℕ) → Differs active on far q → Chosen q rest values count
 
 pub take-none : (active : ℕ) (on far : List ℕ) (rest : ℕ) → Takes active on far rest 0 0
 take-none active on far rest = record { narrow = omega arith; taken = λ q D. record { test = λ c. false; counts = omega arith; within = λ c h. absurd h; other = λ k c h g. absurd g } }
@@ -159,10 +159,10 @@ pub take-more : {active : ℕ} {on far : List ℕ} {rest values count : ℕ} (j 
     → Takes active on far rest values count → Takes active on far (leftOf far rest j) (bitOr values (getD on j 0)) (count + 1)
 take-more {active} {on} {far} {rest} {values} {count} j L l hj lt K = record { narrow = or-lt 16 values (getD on j 0) (K .narrow) lt; taken = step }
   where
-    step : (q : ℕ → ℕ) → Differs active on far q → Taken q (leftOf far rest j) (bitOr values (getD on j 0)) (count + 1)
+    step : (q : ℕ → ℕ) → Differs active on far q → Chosen q (leftOf far rest j) (bitOr values (getD on j 0)) (count + 1)
     step q D = record { test = f; counts = omega (arith, more, X .counts); within = within; other = other }
       where
-        X : Taken q rest values count
+        X : Chosen q rest values count
         X = K .taken q D
 
         f : ℕ → Bool
@@ -197,7 +197,7 @@ pub at-most : {active : ℕ} {on far : List ℕ} {rest values count : ℕ} → T
 at-most {values = values} K l = omega (arith, ones-le 16 values (K .narrow))
 
 -- more than the values that they have together
-pub too-many : {active : ℕ} {on far : List ℕ} {rest values count : ℕ} → Takes active on far rest values count → ones values < count → (b : Bool) → Crowd active on far b
+pub too-many : {active : ℕ} {on far : List ℕ} {rest values count : ℕ} → Takes active on far rest values count → ones values < count → (b : Bool) → Pigeonhole active on far b
 too-many {values = values} K l b =
     record {
       none = λ e q D. let X = K .taken q D in omega (arith, X .counts, count-le 16 (X .test) (bit values) (λ c m. X .within c), count-ones 16 values);
@@ -214,5 +214,5 @@ solution-differs t R q A =
       differ = λ i j hi hj d h e. R .row i .each j h .never (q i) (subst (λ (c : ℕ). Allowed (held t) i (q i) j c) (sym e) (A .ok i j hi hj d));
     }
 
-pub crowd-unsolved : (t : List ℕ) {active : ℕ} {on far : List ℕ} → Rows (held t) far → (b : Bool) → Crowd active on far b → b ≡ true → (r : Bool) → Unsolved (held t) (stateOf (sets active on)) r
-crowd-unsolved t R b C e r = record { none = λ _ S. C .none e (S .0) (solution-differs t R (S .0) (S .1)) }
+pub pigeonhole-unsolved : (t : List ℕ) {active : ℕ} {on far : List ℕ} → Rows (held t) far → (b : Bool) → Pigeonhole active on far b → b ≡ true → (r : Bool) → Unsolved (held t) (stateOf (sets active on)) r
+pigeonhole-unsolved t R b C e r = record { none = λ _ S. C .none e (S .0) (solution-differs t R (S .0) (S .1)) }

@@ -1,4 +1,4 @@
--- What the parts of the look for a crowd rely on and promise: more variables that must all differ than values for them. Every answer is
+-- What the parts of the look for a pigeonhole rely on and promise: more variables that must all differ than values for them. Every answer is
 -- one-sided: true says that it is so, and false says nothing.
 use mathlib.Core.Path.{_≡_}
 use mathlib.Core.Bool.{Bool, true}
@@ -16,7 +16,7 @@ pub record Apart (P : Problem) (i j : ℕ) : Type 0 where
   pub never : (a : ℕ) → Allowed P i a j a → ⊥
 
 -- where b holds, i and j are apart
-pub record Told (P : Problem) (i j : ℕ) (b : Bool) : Type 0 where
+pub record ApartIf (P : Problem) (i j : ℕ) (b : Bool) : Type 0 where
   pub apart : b ≡ true → Apart P i j
 
 -- every variable of the set x is apart from i
@@ -33,7 +33,7 @@ pub record Differs (active : ℕ) (on far : List ℕ) (q : ℕ → ℕ) : Type 0
   pub differ : (i j : ℕ) → T (bit active i) → T (bit active j) → i ≢ j → T (bit (getD far i 0) j) → q i ≢ q j
 
 -- where b holds, there is no such q
-pub record Crowd (active : ℕ) (on far : List ℕ) (b : Bool) : Type 0 where
+pub record Pigeonhole (active : ℕ) (on far : List ℕ) (b : Bool) : Type 0 where
   pub none : b ≡ true → (q : ℕ → ℕ) → Differs active on far q → ⊥
 
 -- where b holds, the state has no solution

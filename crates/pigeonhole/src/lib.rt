@@ -8,7 +8,7 @@ ghost use Rattle.bounded.specs.Mask.{without as withoutOf};
 ghost use Rattle.problem.specs.Held.{held, RowTable};
 ghost use Rattle.problem.specs.Masks.{stateOf, sets, Proper};
 ghost use Rattle.held.specs.Ready.{Ready};
-ghost use Rattle.crowd.specs.Crowd.{Told, AllApart, Rows, Crowd, Unsolved};
+ghost use Rattle.pigeonhole.specs.Pigeonhole.{ApartIf, AllApart, Rows, Pigeonhole, Unsolved};
 use bounded::has16;
 use bounded::lowest32;
 use bounded::without32;
@@ -16,7 +16,7 @@ use held::row;
 use held::size;
 
 // The set x, without j where b does not hold.
-fn with_if(x: u32, b: bool, j: usize) -> u32
+fn without_unless(x: u32, b: bool, j: usize) -> u32
     requires { ⌜ j < 32 ⌝ }
     ensures { λ r. ⌜ r ≡ cond b x (withoutOf 32 x j) ⌝ }
 {
@@ -28,7 +28,7 @@ fn with_if(x: u32, b: bool, j: usize) -> u32
 // No value is allowed at i and at j at once.
 fn apart_pair(t: &[u16], i: usize, j: usize) -> bool
     requires { ⌜ RowTable (now t) × (i < 32) × (j < 32) × (j ≢ i) ⌝ }
-    ensures { λ r. ⌜ Told (held (now (t .entry))) i j r ⌝ }
+    ensures { λ r. ⌜ ApartIf (held (now (t .entry))) i j r ⌝ }
 {
     let n = size(t, i);
     let mut a: usize = 0;
@@ -51,7 +51,7 @@ fn apart_from(t: &[u16], active: u32, i: usize) -> u32
     while rest != 0 {
         let j = lowest32(rest);
         rest = without32(rest, j);
-        far = with_if(far, apart_pair(t, i, j), j);
+        far = without_unless(far, apart_pair(t, i, j), j);
     }
     far
 }
@@ -71,13 +71,13 @@ fn apart_all(t: &[u16], active: u32) -> [u32; 32]
     far
 }
 
-// ---- the crowd
+// ---- more variables than values
 
 // Variables of the set `first` are taken, lowest first, each apart from all that were taken before it, until they are more than the values
 // that they have together.
-fn crowd_among(active: u32, on: &[u16; 32], far: &[u32; 32], first: u32) -> bool
+fn overfull_among(active: u32, on: &[u16; 32], far: &[u32; 32], first: u32) -> bool
     requires { ⌜ Proper (sets active (now on)) ⌝ }
-    ensures { λ r. ⌜ Crowd active (now (on .entry)) (now (far .entry)) r ⌝ }
+    ensures { λ r. ⌜ Pigeonhole active (now (on .entry)) (now (far .entry)) r ⌝ }
 {
     let mut rest = first & active;
     let mut values: u16 = 0;
@@ -96,7 +96,7 @@ fn crowd_among(active: u32, on: &[u16; 32], far: &[u32; 32], first: u32) -> bool
 
 // Some active variables that must all differ are more than the values that they have together. Looked for from each active variable
 // with those that are apart from it.
-pub fn crowded(t: &[u16], active: u32, on: &[u16; 32]) -> bool
+pub fn overfull(t: &[u16], active: u32, on: &[u16; 32]) -> bool
     requires { ⌜ Ready (now t) (sets active (now on)) ⌝ }
     ensures { λ r. ⌜ Unsolved (held (now (t .entry))) (stateOf (sets active (now (on .entry)))) r ⌝ }
 {
@@ -106,7 +106,7 @@ pub fn crowded(t: &[u16], active: u32, on: &[u16; 32]) -> bool
         let i = lowest32(rest);
         rest = without32(rest, i);
         let first = far[i] | (1u32 << i);
-        if crowd_among(active, on, &far, first) {
+        if overfull_among(active, on, &far, first) {
             return true;
         }
     }
