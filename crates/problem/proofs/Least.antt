@@ -123,20 +123,24 @@ module _ {P : Problem} {s : State} (F : Fits P s) where
   abbrev AtFourth : (k i b c : ℕ) → Record → Type 0
   AtFourth k i b c x = AtThird k i b x × (fourthOf x ≡ c)
 
-  -- how far the search goes in each field
+  -- how far the search goes in each field of a kind; no kind has another number
   unfoldable thirdBound : (k i : ℕ) → ℕ
   thirdBound zero i = 0
   thirdBound (suc zero) i = P .size i
   thirdBound (suc (suc zero)) i = P .size i
   thirdBound (suc (suc (suc zero))) i = P .n
-  thirdBound (suc (suc (suc (suc k)))) i = P .size i
+  thirdBound (suc (suc (suc (suc zero)))) i = P .size i
+  thirdBound (suc (suc (suc (suc (suc zero))))) i = P .size i
+  thirdBound (suc (suc (suc (suc (suc (suc k)))))) i = 0
 
   unfoldable fourthBound : (k i : ℕ) → ℕ
   fourthBound zero i = 0
   fourthBound (suc zero) i = P .n
   fourthBound (suc (suc zero)) i = 1
   fourthBound (suc (suc (suc zero))) i = 1
-  fourthBound (suc (suc (suc (suc k)))) i = P .size i
+  fourthBound (suc (suc (suc (suc zero)))) i = P .size i
+  fourthBound (suc (suc (suc (suc (suc zero))))) i = P .size i
+  fourthBound (suc (suc (suc (suc (suc (suc k)))))) i = 0
 
   live-item : (i a : ℕ) → T (s .live i a) → i < P .n
   live-item i a o = F .active-lt i (F .live-active i a o)
