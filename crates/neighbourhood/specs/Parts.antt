@@ -1,15 +1,15 @@
--- The search for a neighbourhood substitution, the format's cover, from a variable and from a value of it, with bounds that serve for every
--- table.
+-- What trying to substitute for a value of a variable, the format's cover, comes to.
+use mathlib.Core.Path.{_≡_}
+use mathlib.Core.Logic.{_↔_}
 use Prim.Native.Nat.{ℕ}
-use Rattle.problem.specs.Problem.{Problem, State, neighbourhood}
-use Rattle.problem.specs.Reduce.{stepIf, first}
-use Rattle.problem.specs.declared.Record.the-variants.{Neighbourhood}
-use Rattle.problem.specs.declared.Next.{Next}
+use lib.Dec.{T}
+use Rattle.bounded.specs.Mask.{bit}
+use Rattle.problem.specs.Problem.{Problem, State}
+use Rattle.problem.specs.Sentences.{Neighbourhood}
+use Rattle.rests.specs.Rests.{Rests, Of}
 
 module _ (P : Problem) (s : State) where
-  -- kind 4, with a; with b and a
-  unfoldable pub neighbourhoodValue : ℕ → ℕ → Next
-  neighbourhoodValue i b = first 16 (λ a. stepIf (neighbourhood P s i b a) (Neighbourhood i b a))
-
-  unfoldable pub neighbourhoodVariable : ℕ → Next
-  neighbourhoodVariable i = first 16 (λ b. neighbourhoodValue i b)
+  -- `left` has the values of i that substitute for b; where it has none, that rests on the variables of `rests`
+  pub record NeighbourhoodTried (i b left rests : ℕ) : Type 0 where
+    pub holds : (a : ℕ) → T (bit left a) ↔ Neighbourhood P s i b a
+    pub fails : left ≡ 0 → Rests P s (λ q. (a : ℕ) × Neighbourhood P q i b a) (Of rests)

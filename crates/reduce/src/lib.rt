@@ -18,10 +18,12 @@ use problem::Next;
 use run::RunAnswer;
 use run::RunOutcome;
 use run::RunRefusal;
-use search::advance;
-use search::next_step;
 use sheet::SheetRead;
-use unsupported::first_bare;
+use waiting::ROWS;
+use waiting::WAITING;
+use waiting_search::advance;
+use waiting_search::next_step;
+use waiting_unsupported::first_unsupported;
 
 // ---- the end
 
@@ -56,10 +58,10 @@ pub fn run_table(t: &[u16], b: &mut [u8]) -> RunAnswer
 {
     write_version(b);
     let mut state = full_masks(t);
-    let mut bare = [0u16; 32];
-    first_bare(t, state.active, &state.domains, &mut bare);
-    let mut pending = [65535u16; 160];
-    let mut waiting = [0u16; 6144];
+    let mut words = [0u16; 32];
+    first_unsupported(t, state.active, &state.domains, &mut words);
+    let mut pending = [65535u16; ROWS];
+    let mut waiting = [0u16; WAITING];
     let mut at: usize = 1;
     let mut steps: usize = 0;
     loop {
@@ -67,13 +69,13 @@ pub fn run_table(t: &[u16], b: &mut [u8]) -> RunAnswer
             t,
             state.active,
             &state.domains,
-            &bare,
+            &words,
             &mut pending,
             &mut waiting,
         ) {
             Next::Step(r) => {
                 at = trace::write_record(b, at, r);
-                state = advance(t, state, &mut bare, &mut pending, &mut waiting, r);
+                state = advance(t, state, &mut words, &mut pending, &mut waiting, r);
                 steps += 1;
             }
             Next::Nothing => {

@@ -1,41 +1,31 @@
--- The snake rule over words, what its failure rests on, and the search for a snake step. Assumes nothing.
+-- The snake rule over words, and what its failure rests on. Assumes nothing.
 use mathlib.Core.Path.{_≡_, sym, _∙_, subst}
 use mathlib.Core.Bool.{true, false, not, _&&_}
 use mathlib.Core.Logic.{inl, inr, ⊎-elim, _≢_, _↔_, Iff·rfl}
 use mathlib.Core.List.{List}
-use Prim.Native.Nat.{ℕ, _^_, _<_}
-use native.Mathlib.Omega.{arith}
+use Prim.Native.Nat.{ℕ, _<_}
 use lib.Dec.{T, eqb}
 use lib.Bits.{bitAnd}
 use lib.ListN.{getD}
-use borrow.Author.Tests.{ne-eqb, not-false}
+use borrow.Author.Tests.{not-false}
 use Rattle.bounded.specs.Bounded.{imp}
 use Rattle.bounded.specs.Mask.{bit, maskOf}
 use Rattle.bounded.proofs.Truth.{T-ext, T-of, T-not, T-true, T-false, T-dec, split, and-iff, imp-iff, imp-fails, not-iff, eqb-iff}
 use Rattle.bounded.proofs.Mask.{bit-and, bit-none, mask-is}
-use Rattle.bounded.proofs.Members.{Sought, left-and}
 use Rattle.problem.specs.Problem.{Problem, State, snakeServes, snake}
 use Rattle.problem.specs.Held.{rowWord, held}
 use Rattle.problem.specs.Masks.{stateOf}
 use Rattle.problem.specs.declared.Masks.{Masks}
 use Rattle.problem.proofs.Reflect.{allLive-iff, anyLive-iff, snakeServes-iff, snake-iff}
 use Rattle.problem.specs.Sentences.{Active, Live, Allowed, Fits, SnakeServes, Snake as SnakeHolds}
-use Rattle.problem.proofs.HeldTable.{held-few, held-narrow}
-use Rattle.memory.specs.Rests.{Tried}
-use Rattle.memory.specs.Memory.{rowOf, In, Remembered, Learned}
-use Rattle.memory.proofs.Rests.{rests-fails, snake-rests}
-use Rattle.memory.proofs.Memory.{remembered-fails, remembered-learned}
+use Rattle.rests.specs.Rests.{Tried}
+use Rattle.rests.proofs.Rests.{rests-fails, snake-rests}
 use Rattle.held.specs.Ready.{Ready, Value, Near}
 use Rattle.cover.specs.Words.{serversIn, allServedIn, others, thirds}
 use Rattle.cover.specs.Broken.{UnservedIn}
-use Rattle.snake.specs.Parts.{snakeAt, AtOther, snakeVariable}
-use Rattle.problem.specs.Reduce.{stepIf, first, nextSnake}
-use Rattle.problem.specs.declared.Record.the-variants.{Snake}
-use Rattle.problem.specs.declared.Next.the-variants.{Step, Nothing}
+use Rattle.snake.specs.Parts.{snakeAt, AtOther}
 use Rattle.held.proofs.Laws.{near-free, live-value, active-32, word-iff, bit-value}
-use Rattle.cover.proofs.Laws.{serversIn-iff, servers-lt, allServedIn-iff, broken-at, thirds-iff, others-iff, other-apart}
-use Rattle.problem.proofs.Search.{stepIf-on, first-off, first-at, wide-two, outside}
-use Rattle.held.proofs.Bounds.{no-value}
+use Rattle.cover.proofs.Laws.{broken-at, serversIn-iff, servers-lt, allServedIn-iff, thirds-iff, others-iff, other-apart}
 
 module _ {P : Problem} {s : State} (F : Fits P s) where
   snakeAt-iff : (i v j : ℕ) → T (snakeAt P s i v j) ↔ ((w : ℕ) → Live s j w → (Allowed P i v j w → ⊥) → (w' : ℕ) × Live s j w' × SnakeServes P s i v j w w')
@@ -127,51 +117,3 @@ module _ {t : List ℕ} {m : Masks} (R : Ready t m) where
         let u : T (bit rest j) = subst (λ (x : ℕ). T (bit x j)) (sym e) (others-iff (m .active) i j (bit-value R i v o .variable) l .1 (a, d)) in
         snakeAt-iff (R .fits) i v j .0 (imp-iff (bit rest j) (snakeAt (held t) (stateOf m) i v j) .0 (T-of (not-false (imp (bit rest j) (snakeAt (held t) (stateOf m) i v j)) (T-false _ (h j l)))) u),
   )
-
--- ---- the search
-
-module _ {t : List ℕ} {m : Masks} (R : Ready t m) where
-  abbrev P : Problem
-  P = held t
-
-  abbrev s : State
-  s = stateOf m
-
-  -- a value at which the rule holds is in its domain, and pending
-  pub snake-sought : {p w : List ℕ} → Remembered P s p w → (i : ℕ) → i < 32 → Sought 16 (snake P s i) (getD (m .domains) i 0) (bitAnd (getD p i 0) (getD (m .domains) i 0))
-  unfolding stateOf
-  snake-sought {p} H i l =
-      record {
-        left = left-and 16 (getD (m .domains) i 0) (getD p i 0) (R .proper .domain-lt i l);
-        all =
-            λ v k t. let S = snake-iff (R .fits) i v .0 t in
-            simp (bit-and, and-iff) (elim (T-dec (bit (getD p i 0) v)) [ inl y ↦ y | inr n ↦ absurd (remembered-fails (R .fits) H 0 i v (omega arith) l k (λ x. n (subst (λ (r : ℕ). In p r v) row x)) S) ], S .0);
-      }
-    where
-      row : rowOf 0 i ≡ i
-      row = omega arith
-
-  -- one at which it fails is passed
-  pub snake-failed : (i v : ℕ) {r : ℕ} → Tried P s (λ q. SnakeHolds P q i v) r → r ≢ 0 → snake P s i v ≡ false
-  snake-failed i v {r} K d = sym (tried-snake (R .fits) i v r K) ∙ ne-eqb r 0 d
-
-  -- and is not tried again before what it rests on changes
-  pub snake-learned : {p w q x : List ℕ} {r : ℕ} → Remembered P s p w → (i v : ℕ) → i < 32 → v < 16 → Tried P s (λ q. SnakeHolds P q i v) r → r ≢ 0 → r < 2 ^ 32 → Learned r i v p w q x → Remembered P s q x
-  snake-learned {p} {w} {q} {x} {r} H i v l k K d small E =
-      let row : i ≡ rowOf 0 i = omega arith in
-      remembered-learned H 0 i v (omega arith) l k (subst (λ (i : ℕ). Learned r i v p w q x) row E) (K .fails d) small
-
-  -- the lowest value at which it holds, or none
-  pub snake-here : (i v : ℕ) → v < 16 → ((c : ℕ) → c < v → T (snake P s i c) → ⊥) → SnakeHolds P s i v → Step (Snake i v) ≡ snakeVariable P s i
-  unfolding snakeVariable
-  snake-here i v l h S = sym (first-at 16 _ v _ l (λ c k. outside _ _ (h c k)) (stepIf-on _ _ (T-true _ (snake-iff (R .fits) i v .1 S))))
-
-  pub snake-nowhere : (i : ℕ) → ((c : ℕ) → c < 16 → T (snake P s i c) → ⊥) → Nothing ≡ snakeVariable P s i
-  unfolding snakeVariable
-  snake-nowhere i h = sym (first-off 16 _ (λ c k. outside _ _ (h c k)))
-
-  pub snake-first : first 32 (snakeVariable P s) ≡ nextSnake P s
-  unfolding snakeVariable nextSnake
-  snake-first =
-      wide-two (λ i v. stepIf (snake P s i v) (Snake i v)) (P .n) (P .size) 32 16 (held-few t) (held-narrow (R .table))
-      (λ i v o. outside _ _ (λ x. no-value R i v o (snake-iff (R .fits) i v .0 x .0)))

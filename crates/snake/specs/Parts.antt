@@ -1,17 +1,13 @@
--- The snake rule, the format's kind 2, in the parts that the code tests: at one other variable, and the search from a variable, with
--- bounds that serve for every table.
+-- The snake rule, the format's kind 2, in the parts that the code tests: at one other variable.
 use mathlib.Core.Path.{_≡_}
 use mathlib.Core.Bool.{Bool, not}
 use mathlib.Core.Logic.{_≢_}
 use Prim.Native.Nat.{ℕ}
 use lib.Dec.{T}
 use Rattle.bounded.specs.Bounded.{imp}
-use Rattle.problem.specs.Problem.{Problem, State, allLive, anyLive, snakeServes, snake}
-use Rattle.problem.specs.Reduce.{stepIf, first}
-use Rattle.problem.specs.declared.Record.the-variants as record·
-use Rattle.problem.specs.declared.Next.{Next}
+use Rattle.problem.specs.Problem.{Problem, State, allLive, anyLive, snakeServes}
 use Rattle.problem.specs.Sentences.{Snake}
-use Rattle.memory.specs.Rests.{Rests, Of}
+use Rattle.rests.specs.Rests.{Rests, Of}
 
 module _ (P : Problem) (s : State) where
   unfoldable pub snakeAt : (i v j : ℕ) → Bool
@@ -21,7 +17,3 @@ module _ (P : Problem) (s : State) where
   pub record AtOther (i v j r : ℕ) : Type 0 where
     pub holds : r ≡ 0 → T (snakeAt i v j)
     pub fails : r ≢ 0 → Rests P s (λ q. Snake P q i v) (Of r)
-
-  -- kind 2, with v
-  unfoldable pub snakeVariable : ℕ → Next
-  snakeVariable i = first 16 (λ v. stepIf (snake P s i v) (record·.Snake i v))

@@ -1,4 +1,4 @@
-// Kind 2, snake: the rule's test, the choice that undoing makes, and the search for the lowest step of the kind.
+// Kind 2, snake: the rule's test, what its failure rests on, and the choice that undoing makes.
 ghost use mathlib.Core.Path.{_≡_};
 ghost use mathlib.Core.Bool.{true, _&&_};
 ghost use mathlib.Core.Logic.{_≢_};
@@ -8,27 +8,19 @@ ghost use Rattle.bounded.specs.Mask.{bit, maskOf};
 ghost use Rattle.problem.specs.Problem.{snake as snakeHolds, snakeServes};
 ghost use Rattle.problem.specs.Held.{held};
 ghost use Rattle.problem.specs.Masks.{stateOf, sets};
-ghost use Rattle.problem.specs.Reduce.{nextSnake};
 ghost use Rattle.problem.specs.Sentences.{Snake};
-ghost use Rattle.memory.specs.Rests.{Tried};
-ghost use Rattle.memory.specs.Memory.{Remembered};
+ghost use Rattle.rests.specs.Rests.{Tried};
 ghost use Rattle.held.specs.Ready.{Ready, Value};
 ghost use Rattle.cover.specs.Words.{others};
-ghost use Rattle.snake.specs.Parts.{AtOther, snakeVariable};
+ghost use Rattle.snake.specs.Parts.{AtOther};
 use bounded::has16;
 use bounded::highest32;
-use bounded::lowest16;
-use bounded::without16;
 use bounded::without32;
 use cover::serving;
 use cover::third_set;
 use cover::unserved;
 use held::neighbours;
 use held::row_among;
-use memory::learn;
-use problem::Next;
-use problem::Record;
-use problem::is_step;
 
 // The values of another variable j that may take the place of w where i has v: they are allowed with v and cover w at every item other than
 // i and j.
@@ -61,7 +53,7 @@ fn snake_at(t: &[u16], active: u32, on: &[u16; 32], rest: u32, i: usize, v: usiz
 
 // Tries value v of i, which is in its domain: 0 where the snake rule holds, else the variables that its failure rests on. A variable that
 // has no block with i bars nothing with v, and is passed over.
-fn snake_rests(t: &[u16], active: u32, on: &[u16; 32], i: usize, v: usize) -> u32
+pub fn snake_rests(t: &[u16], active: u32, on: &[u16; 32], i: usize, v: usize) -> u32
     requires { ⌜ Ready (now t) (sets active (now on)) × (i < 32) × (v < 16) × (bit (getD (now on) i 0) v ≡ true) ⌝ }
     ensures { λ r. ⌜ Tried (held (now (t .entry))) (stateOf (sets active (now (on .entry)))) (λ q. Snake (held (now (t .entry))) q i v) r ⌝ }
 {
@@ -88,55 +80,4 @@ pub fn snake(t: &[u16], active: u32, on: &[u16; 32], i: usize, v: usize) -> bool
     } else {
         false
     }
-}
-
-// ---- the search
-
-// A field at a time, the lowest first, of what is pending: what is not has failed, and what it rests on has not changed.
-
-fn snake_variable(
-    t: &[u16],
-    active: u32,
-    on: &[u16; 32],
-    pending: &mut [u16; 160],
-    waiting: &mut [u16; 6144],
-    i: usize,
-) -> Next
-    requires { ⌜ Ready (now t) (sets active (now on)) × Remembered (held (now t)) (stateOf (sets active (now on))) (now pending) (now waiting) × (i < 32) ⌝ }
-    ensures is { λ r. ⌜ r ≡ snakeVariable (held (now (t .entry))) (stateOf (sets active (now (on .entry)))) i ⌝ }
-    ensures remembers { λ _. ⌜ Remembered (held (now (t .entry))) (stateOf (sets active (now (on .entry)))) (now (pending .exit)) (now (waiting .exit)) ⌝ }
-{
-    let mut left = pending[i] & on[i];
-    while left != 0 {
-        let v = lowest16(left);
-        let fails = snake_rests(t, active, on, i, v);
-        if fails == 0 {
-            return Next::Step(Record::Snake(i, v));
-        }
-        learn(pending, waiting, fails, i, v);
-        left = without16(left, v);
-    }
-    Next::Nothing
-}
-
-pub fn next_snake(
-    t: &[u16],
-    active: u32,
-    on: &[u16; 32],
-    pending: &mut [u16; 160],
-    waiting: &mut [u16; 6144],
-) -> Next
-    requires { ⌜ Ready (now t) (sets active (now on)) × Remembered (held (now t)) (stateOf (sets active (now on))) (now pending) (now waiting) ⌝ }
-    ensures is { λ r. ⌜ r ≡ nextSnake (held (now (t .entry))) (stateOf (sets active (now (on .entry)))) ⌝ }
-    ensures remembers { λ _. ⌜ Remembered (held (now (t .entry))) (stateOf (sets active (now (on .entry)))) (now (pending .exit)) (now (waiting .exit)) ⌝ }
-{
-    let mut i: usize = 0;
-    while i < 32 {
-        let found = snake_variable(t, active, on, pending, waiting, i);
-        if is_step(found) {
-            return found;
-        }
-        i += 1;
-    }
-    Next::Nothing
 }

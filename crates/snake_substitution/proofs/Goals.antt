@@ -1,11 +1,10 @@
 -- What is left of the goals of a variable once the values of others were asked, and that these are its slides. Assumes nothing.
 use mathlib.Core.Path.{_≡_, sym, ap, _∙_, subst}
-use mathlib.Core.Bool.{Bool, true, false, not, _&&_, _||_}
+use mathlib.Core.Bool.{Bool, false, not, _&&_}
 use mathlib.Core.List.{List}
 use mathlib.Core.Logic.{_⊎_, inl, inr, ⊎-elim, _≢_, _↔_}
-use Prim.Native.Nat.{ℕ, _+_, _^_, _<_}
+use Prim.Native.Nat.{ℕ, _^_, _<_}
 use native.Mathlib.Nat.{lt-of-le-of-lt}
-use native.Mathlib.Omega.{arith}
 use lib.Bits.{bitAnd, bitOr, and-le-l}
 use lib.Dec.{T, eqb}
 use lib.ListN.{getD}
@@ -13,33 +12,26 @@ use lib.Pow.{pow-pos}
 use borrow.Author.Tests.{ne-eqb}
 use Rattle.bounded.specs.Bounded.{anyBelow}
 use Rattle.bounded.specs.Mask.{bit, maskOf, without}
-use Rattle.bounded.proofs.Truth.{T-of, T-ext, T-dec, T-false, split, eq-dec, and-iff, or-iff, not-iff, eqb-iff}
+use Rattle.bounded.proofs.Truth.{T-of, T-dec, T-false, split, eq-dec, and-iff, or-iff}
 use Rattle.bounded.proofs.Bounded.{any-iff}
 use Rattle.bounded.proofs.Mask.{bit-and, bit-or, bit-none, bit-mask, bit-without16, bit-without32, mask-ext, member-lt, member-some, with-keeps, with-has}
 use Rattle.bounded.proofs.Members.{without-part, without-gone}
 use Rattle.problem.specs.Problem.{Problem, State, slideSpares}
 use Rattle.problem.specs.Held.{rowWord, held}
 use Rattle.problem.specs.Masks.{stateOf}
-use Rattle.problem.specs.Reduce.{stepIf, first}
 use Rattle.problem.specs.declared.Masks.{Masks}
-use Rattle.problem.specs.declared.Next.the-variants.{Nothing}
-use Rattle.problem.specs.declared.Record.the-variants as record·
-use Rattle.problem.proofs.Reflect.{turn, snakeSubstitution-iff}
+use Rattle.problem.proofs.Reflect.{turn}
 use Rattle.problem.specs.Sentences.{Live, Allowed, SnakeSubstitution}
-use Rattle.problem.proofs.Search.{first-ext}
-use Rattle.memory.specs.Rests.{Rests, Of, Broken}
-use Rattle.memory.specs.Memory.{Passes, Remembered}
-use Rattle.memory.proofs.Rests.{rests-fails, rests-more, substitution-rests}
-use Rattle.memory.proofs.Memory.{remembered-fails}
+use Rattle.rests.specs.Rests.{Rests, Of, Broken}
+use Rattle.rests.proofs.Rests.{rests-fails, rests-more, substitution-rests}
 use Rattle.held.specs.Ready.{Ready, Values, Near, Among}
 use Rattle.held.proofs.Laws.{near-free, live-value, active-32, word-iff, domain-among}
 use Rattle.cover.specs.Words.{serversIn, others, thirds}
 use Rattle.cover.specs.Broken.{BrokenIn}
 use Rattle.cover.proofs.Laws.{serversIn-iff, servers-lt, broken-at, others-iff, thirds-iff}
 use Rattle.support.specs.Words.{supportedBy, partnersOf}
-use Rattle.snake_substitution.proofs.Laws.{variable-off, variable-none}
 use Rattle.snake_substitution.proofs.Words.{without-still}
-use Rattle.snake_substitution.specs.Parts.{substitutionValue, substitutionVariable, Goal, lowestGoal, Goals, AllGoals, NoGoal, Closed, Limited, Served, Narrowed}
+use Rattle.snake_substitution.specs.Parts.{Goal, Goals, AllGoals, NoGoal, Closed, Limited, Served, Narrowed, AllTried}
 
 -- ---- the values of i that are allowed with one of a set
 
@@ -144,8 +136,8 @@ module _ {t : List ℕ} {m : Masks} (R : Ready t m) where
       set-iff a = let w = word-iff R k d i a in rw own (λ h. let y = w .0 h in (y .0, turn P k d i a (y .1)), λ y. w .1 (y .0, turn P i a k d (y .1)))
 
       -- nothing is asked of goals that are all among them
-      pub slide-idle : {x : List ℕ} → Goals s i x → Closed set x → Narrowed P s i (λ l c. (l ≡ k) × (c ≡ d)) x x 0
-      slide-idle {x} G C = narrowed-none G (λ b a h l c u. rw (u .0, u .1) (λ o al.
+      pub narrowed-idle : {x : List ℕ} → Goals s i x → Closed set x → Narrowed P s i (λ l c. (l ≡ k) × (c ≡ d)) x x 0
+      narrowed-idle {x} G C = narrowed-none G (λ b a h l c u. rw (u .0, u .1) (λ o al.
           let v = G .live b a h in
           self-serves i k d a o (set-iff a .0 (C .within b a (live-value R i a (v .1) .value) (set-iff b .1 (v .0, al)) h) .1)))
 
@@ -187,8 +179,8 @@ module _ {t : List ℕ} {m : Masks} (R : Ready t m) where
                 let v = third (y .0) (y .1) .0 (y .3) in
                 (y .0, (v .0 .1, v .1), λ c. with-keeps broken k (y .0) (y .2), y .4)
 
-        pub slide-limits : Narrowed P s i (λ l c. (l ≡ k) × (c ≡ d)) x y (bitOr broken (2 ^ k))
-        slide-limits =
+        pub narrowed-limits : Narrowed P s i (λ l c. (l ≡ k) × (c ≡ d)) x y (bitOr broken (2 ^ k))
+        narrowed-limits =
             record {
               long = L .long;
               part = λ b a h. L .to b a h .0;
@@ -250,35 +242,20 @@ module _ {t : List ℕ} {m : Masks} (R : Ready t m) where
     unfolding stateOf
     first-goal b a p q d = A .goal b a .1 (p, q, d)
 
-    slide-iff : (b a : ℕ) → Goal y b a ↔ SnakeSubstitution P s slideSpares i b a
+    goal-iff : (b a : ℕ) → Goal y b a ↔ SnakeSubstitution P s slideSpares i b a
     unfolding stateOf
-    slide-iff b a = (
+    goal-iff b a = (
       λ h. let z = A .goal b a .0 (N .part b a h) in (z .0, (z .1, (z .2, λ k act d c o al. N .served b a h k c d o al))),
       λ S. elim (T-dec (bit (getD y b 0) a)) [ inl h ↦ h | inr g ↦ absurd (rests-fails (R .fits) (N .gone b a (first-goal b a (S .0) (S .1 .0) (S .1 .1 .0)) g) S) ],
     )
 
-    -- so the lowest goal is the lowest slide
-    pub slides-first : first 16 (λ b. lowestGoal i b (getD y b 0)) ≡ substitutionVariable P s i
-    unfolding lowestGoal substitutionVariable substitutionValue
-    slides-first = first-ext 16 _ _ (λ b. first-ext 16 _ _ (λ a. ap (λ (h : Bool). stepIf h (record·.SnakeSubstitution i b a)) (T-ext (
-      λ h. snakeSubstitution-iff (R .fits) slideSpares i b a .1 (slide-iff b a .0 h),
-      λ h. slide-iff b a .1 (snakeSubstitution-iff (R .fits) slideSpares i b a .0 h),
-    ))))
-
-    -- where there is none, each pair that could slide has gone, for what its failure rests on
-    pub slides-rest : substitutionVariable P s i ≡ Nothing → Rests P s (Passes P 4 i 0) (Of r)
-    slides-rest e q F B K S =
-        let b = S .0 in
-        let a = S .1 in
-        let p = B .live i b (S .2 .0) in
-        let o = B .live i a (S .2 .1 .0) in
-        N .gone b a (first-goal b a p o (S .2 .1 .1 .0)) (λ h. variable-none R i e b a (slide-iff b a .0 h)) q F B K (S .2)
-
-  -- a test that is not pending has failed, and an empty domain has no slide
-  pub slides-none : {pending waiting : List ℕ} → Remembered P s pending waiting → (i : ℕ) → i < 32 → (has : Bool) → has ≡ bit (getD pending (128 + i) 0) 0 → (not has || eqb (getD (m .domains) i 0) 0) ≡ true → substitutionVariable P s i ≡ Nothing
-  unfolding stateOf
-  slides-none H i l has e h =
-      variable-off R i (λ b a S. ⊎-elim
-      (λ t. remembered-fails (R .fits) H 4 i 0 (omega arith) l (omega arith) (λ u. not-iff has .0 t (subst T (sym e) u)) (b, a, S))
-      (λ t. member-some (getD (m .domains) i 0) b (S .0) (eqb-iff (getD (m .domains) i 0) 0 .0 t))
-      (or-iff (not has) (eqb (getD (m .domains) i 0) 0) .0 (T-of h)))
+    -- where there is none, each pair that could be one has gone, for what its failure rests on
+    pub all-tried : AllTried P s i y r
+    all-tried =
+        record {
+          holds = goal-iff;
+          fails = λ none q F B K S.
+              let b = S .0 in
+              let a = S .1 in
+              N .gone b a (first-goal b a (B .live i b (S .2 .0)) (B .live i a (S .2 .1 .0)) (S .2 .1 .1 .0)) (none b a) q F B K (S .2);
+        }

@@ -1,4 +1,4 @@
--- Snake substitution over words, and the search for one. Assumes nothing.
+-- Snake substitution over words. Assumes nothing.
 use mathlib.Core.Path.{_≡_, sym, ap, _∙_}
 use mathlib.Core.Bool.{not}
 use mathlib.Core.Logic.{_⊎_, _≢_, inl, inr, _↔_, Iff·rfl, ⊎-elim}
@@ -14,30 +14,26 @@ use Rattle.bounded.proofs.Truth.{T-ext, T-of, T-not, T-true, T-false, T-dec, eq
 use Rattle.bounded.proofs.Bounded.{lowest-least}
 use Rattle.bounded.proofs.Members.{lowest-member}
 use Rattle.bounded.proofs.Mask.{bit-and, bit-none}
-use Rattle.problem.specs.Problem.{Problem, State, snakeSubstitution, slideSpares}
+use Rattle.problem.specs.Problem.{Problem, State, slideSpares}
 use Rattle.problem.specs.Held.{rowWord, held}
 use Rattle.problem.specs.Masks.{stateOf}
 use Rattle.problem.specs.declared.Masks.{Masks}
-use Rattle.problem.proofs.Reflect.{allLive-iff, anyLive-iff, slideServes-iff, snakeSubstitution-iff}
-use Rattle.problem.specs.Sentences.{Live, Allowed, Fits, Substitutes, SlideServes, SnakeSubstitution}
-use Rattle.problem.proofs.HeldTable.{held-few, held-narrow}
+use Rattle.problem.proofs.Reflect.{allLive-iff, anyLive-iff, slideServes-iff}
+use Rattle.problem.specs.Sentences.{Live, Allowed, Fits, Substitutes, SlideServes}
 use Rattle.held.specs.Ready.{Ready, Value, Near}
 use Rattle.cover.specs.Words.{allServedIn, others, thirds}
 use Rattle.cover.specs.Broken.{Fault, UnservedIn}
-use Rattle.snake_substitution.specs.Parts.{slideAt, substitutionValue, substitutionVariable, lowestGoal}
-use Rattle.problem.specs.Reduce.{stepIf, first, nextSnakeSubstitutionBy, nextSnakeSubstitution}
+use Rattle.snake_substitution.specs.Parts.{substitutionAt, lowestGoal}
 use Rattle.problem.specs.declared.Record.the-variants as record·
 use Rattle.problem.specs.declared.Next.the-variants.{Step, Nothing}
 use Rattle.held.proofs.Laws.{near-free, live-value, active-32, word-iff}
 use Rattle.cover.proofs.Laws.{broken-at, allServedIn-iff, thirds-iff, other-apart}
-use Rattle.problem.proofs.Run.{first-each, stepIf-none}
-use Rattle.problem.proofs.Search.{stepIf-on, stepIf-off, first-off, first-at, wide-three, outside}
-use Rattle.held.proofs.Bounds.{no-value}
+use Rattle.problem.proofs.Search.{stepIf-on, stepIf-off, first-off, first-at, outside}
 
 module _ {P : Problem} {s : State} (F : Fits P s) where
-  slideAt-iff : (i b a k : ℕ) → T (slideAt P s i b a k) ↔ ((d : ℕ) → Live s k d → Allowed P i b k d → (e : ℕ) × Live s k e × SlideServes P s slideSpares i a k d e)
-  unfolding slideAt
-  slideAt-iff i b a k = simp (allLive-iff F, anyLive-iff F, imp-iff, slideServes-iff F) Iff·rfl
+  substitutionAt-iff : (i b a k : ℕ) → T (substitutionAt P s i b a k) ↔ ((d : ℕ) → Live s k d → Allowed P i b k d → (e : ℕ) × Live s k e × SlideServes P s slideSpares i a k d e)
+  unfolding substitutionAt
+  substitutionAt-iff i b a k = simp (allLive-iff F, anyLive-iff F, imp-iff, slideServes-iff F) Iff·rfl
 
 -- the answer of the test is 0 exactly where each value is served: where it is not, each of `good` breaks for one
 pub unserved-test : {P : Problem} {s : State} {rest good bad j r : ℕ} → Fits P s → UnservedIn P s rest good bad j r → eqb r 0 ≡ allServedIn P s rest good bad j
@@ -52,14 +48,14 @@ unserved-test {P} {s} {rest} {good} {bad} {j} {r} F u =
 
 module _ {t : List ℕ} {m : Masks} (R : Ready t m) where
   -- slide: the values of k that are allowed with b are each served by one allowed with a; one allowed with both serves for itself
-  pub slide-word : (i b a k : ℕ) → i < 32 → k < 32 → allServedIn (held t) (stateOf m) (thirds (m .active) i k) (bitAnd (getD (m .domains) k 0) (rowWord (held t) i k a)) (bitAnd (getD (m .domains) k 0) (rowWord (held t) i k b)) k ≡ slideAt (held t) (stateOf m) i b a k
+  pub substitution-word : (i b a k : ℕ) → i < 32 → k < 32 → allServedIn (held t) (stateOf m) (thirds (m .active) i k) (bitAnd (getD (m .domains) k 0) (rowWord (held t) i k a)) (bitAnd (getD (m .domains) k 0) (rowWord (held t) i k b)) k ≡ substitutionAt (held t) (stateOf m) i b a k
   unfolding stateOf
-  slide-word i b a k p q =
+  substitution-word i b a k p q =
       T-ext (
-        λ h. slideAt-iff (R .fits) i b a k .1 (λ d o al. to d o al (T-dec (bit good d)) (allServedIn-iff (R .fits) set good bad k .0 h d (live-value R k d o .value))),
+        λ h. substitutionAt-iff (R .fits) i b a k .1 (λ d o al. to d o al (T-dec (bit good d)) (allServedIn-iff (R .fits) set good bad k .0 h d (live-value R k d o .value))),
         λ h. allServedIn-iff (R .fits) set good bad k .1
             (λ d lt x. let z = isBad d .0 (x .0) in
-            let y = slideAt-iff (R .fits) i b a k .0 h d (z .0) (z .1) in
+            let y = substitutionAt-iff (R .fits) i b a k .0 h d (z .0) (z .1) in
             (y .0, live-value R k (y .0) (y .1) .value, (isGood (y .0) .1 (y .1, y .2 .0), λ l ll u. let w = thirds-iff (m .active) i k l p q ll .0 u in y .2 .1 l (w .0 .0) (w .1) (λ n. w .0 .1 (n .1))))),
       )
     where
@@ -87,19 +83,17 @@ module _ {t : List ℕ} {m : Masks} (R : Ready t m) where
 
   -- a variable that has no block with i bars nothing with a: each of its values serves for itself, so each where the rule fails is a
   -- neighbour
-  pub slide-near : (rest i b a x : ℕ) → rest ≡ others (m .active) i → Value t i a → Near t i x → (k : ℕ) → k < 32 → T (not (imp (bit rest k) (slideAt (held t) (stateOf m) i b a k))) → T (bit (bitAnd rest x) k)
-  slide-near rest i b a x e val near k l h =
-      let y = imp-fails (bit rest k) (slideAt (held t) (stateOf m) i b a k) (not-iff (imp (bit rest k) (slideAt (held t) (stateOf m) i b a k)) .0 h) in
+  pub substitution-near : (rest i b a x : ℕ) → rest ≡ others (m .active) i → Value t i a → Near t i x → (k : ℕ) → k < 32 → T (not (imp (bit rest k) (substitutionAt (held t) (stateOf m) i b a k))) → T (bit (bitAnd rest x) k)
+  substitution-near rest i b a x e val near k l h =
+      let y = imp-fails (bit rest k) (substitutionAt (held t) (stateOf m) i b a k) (not-iff (imp (bit rest k) (substitutionAt (held t) (stateOf m) i b a k)) .0 h) in
       let d = other-apart rest (m .active) i k e (val .variable) (T-true _ (y .0)) in
       simp (bit-and, and-iff) (
         y .0,
         ⊎-elim
             (λ q. T-of q)
-            (λ q. absurd (y .1 (slideAt-iff (R .fits) i b a k .1 (λ w o al. (w, o, (near-free (R .table) i a k x val near l d q w (R .fits .live-lt k w o), λ n act ne sp c oc ac. ac))))))
+            (λ q. absurd (y .1 (substitutionAt-iff (R .fits) i b a k .1 (λ w o al. (w, o, (near-free (R .table) i a k x val near l d q w (R .fits .live-lt k w o), λ n act ne sp c oc ac. ac))))))
             (split (bit x k)),
       )
-
--- ---- the search
 
 -- the lowest goal of a word
 pub lowest-goal-none : (i b word : ℕ) → word ≡ 0 → Nothing ≡ lowestGoal i b word
@@ -111,29 +105,3 @@ unfolding lowestGoal
 lowest-goal-at i b word l d =
     let m = lowest-member 16 word l d in
     sym (first-at 16 _ (lowest 16 (bit word)) _ (m .0) (λ a k. outside _ _ (lowest-least 16 (bit word) a k)) (stepIf-on _ _ (T-true _ (m .1))))
-
-module _ {t : List ℕ} {m : Masks} (R : Ready t m) where
-  abbrev P : Problem
-  P = held t
-
-  abbrev s : State
-  s = stateOf m
-
-  substitution-none : (i b a : ℕ) → (Live s i b → Live s i a → ⊥) → stepIf (snakeSubstitution P s slideSpares i b a) (record·.SnakeSubstitution i b a) ≡ Nothing
-  substitution-none i b a h = outside _ _ (λ x. let y = snakeSubstitution-iff (R .fits) slideSpares i b a .0 x in h (y .0) (y .1 .0))
-
-  pub substitution-first : first 32 (substitutionVariable P s) ≡ nextSnakeSubstitution P s
-  unfolding substitutionVariable substitutionValue nextSnakeSubstitutionBy
-  substitution-first =
-      wide-three (λ i b a. stepIf (snakeSubstitution P s slideSpares i b a) (record·.SnakeSubstitution i b a)) (P .n) (P .size) (P .size) 32 16 16 (held-few t) (held-narrow (R .table)) (held-narrow (R .table))
-      (λ i b a o. substitution-none i b a (λ x y. ⊎-elim (λ l. no-value R i b (inl l) x) (λ q. ⊎-elim (λ l. no-value R i b (inr l) x) (λ l. no-value R i a (inr l) y) q) o))
-
-  -- no step from a variable where no value of it slides
-  pub variable-off : (i : ℕ) → ((b a : ℕ) → SnakeSubstitution P s slideSpares i b a → ⊥) → substitutionVariable P s i ≡ Nothing
-  unfolding substitutionVariable substitutionValue
-  variable-off i h = first-off 16 _ (λ b l. first-off 16 _ (λ a k. outside _ _ (λ t. h b a (snakeSubstitution-iff (R .fits) slideSpares i b a .0 t))))
-
-  pub variable-none : (i : ℕ) → substitutionVariable P s i ≡ Nothing → (b a : ℕ) → SnakeSubstitution P s slideSpares i b a → ⊥
-  unfolding substitutionVariable substitutionValue
-  variable-none i e b a S =
-      stepIf-none _ (record·.SnakeSubstitution i b a) (first-each 16 _ (first-each 16 _ e b (live-value R i b (S .0) .value)) a (live-value R i a (S .1 .0) .value)) (snakeSubstitution-iff (R .fits) slideSpares i b a .1 S)

@@ -1,5 +1,4 @@
--- Snake substitution, the format's slide, in the parts that the code tests: at one other variable, all slides of a variable at once, and
--- the search from a variable, with bounds that serve for every table.
+-- Snake substitution, the format's slide, in the parts that the code tests: at one other variable, and all of a variable at once.
 use mathlib.Core.Path.{_≡_}
 use mathlib.Core.Bool.{Bool}
 use mathlib.Core.Logic.{_≢_, _↔_}
@@ -9,23 +8,16 @@ use lib.Dec.{T}
 use lib.ListN.{length, getD}
 use Rattle.bounded.specs.Bounded.{imp}
 use Rattle.bounded.specs.Mask.{bit}
-use Rattle.problem.specs.Problem.{Problem, State, allLive, anyLive, slideServes, snakeSubstitution, slideSpares}
+use Rattle.problem.specs.Problem.{Problem, State, allLive, anyLive, slideServes, slideSpares}
 use Rattle.problem.specs.Reduce.{stepIf, first}
 use Rattle.problem.specs.declared.Record.the-variants as record·
 use Rattle.problem.specs.declared.Next.{Next}
 use Rattle.problem.specs.Sentences.{Live, Allowed, SlideServes, SnakeSubstitution}
-use Rattle.memory.specs.Rests.{Rests, Of}
+use Rattle.rests.specs.Rests.{Rests, Of}
 
 module _ (P : Problem) (s : State) where
-  unfoldable pub slideAt : (i b a k : ℕ) → Bool
-  slideAt i b a k = allLive P s k (λ d. imp (P .allowed i b k d) (anyLive P s k (λ e. slideServes P s slideSpares i a k d e)))
-
-  -- kind 5, with a; with b and a
-  unfoldable pub substitutionValue : ℕ → ℕ → Next
-  substitutionValue i b = first 16 (λ a. stepIf (snakeSubstitution P s slideSpares i b a) (record·.SnakeSubstitution i b a))
-
-  unfoldable pub substitutionVariable : ℕ → Next
-  substitutionVariable i = first 16 (λ b. substitutionValue i b)
+  unfoldable pub substitutionAt : (i b a k : ℕ) → Bool
+  substitutionAt i b a k = allLive P s k (λ d. imp (P .allowed i b k d) (anyLive P s k (λ e. slideServes P s slideSpares i a k d e)))
 
 -- ---- all slides of a variable: word b of `goals` has the values that its value b may still slide to
 
@@ -73,3 +65,8 @@ module _ (P : Problem) (s : State) (i : ℕ) where
     pub part : (b a : ℕ) → Goal after b a → Goal before b a
     pub served : (b a : ℕ) → Goal after b a → (k d : ℕ) → asked k d → Live s k d → Allowed P i b k d → Served k d a
     pub gone : (b a : ℕ) → Goal before b a → (Goal after b a → ⊥) → Rests P s (λ q. SnakeSubstitution P q slideSpares i b a) (Of rests)
+
+  -- the goals left are the substitutions of i; where there is none, that rests on the variables of a word
+  pub record AllTried (goals : List ℕ) (rests : ℕ) : Type 0 where
+    pub holds : (b a : ℕ) → Goal goals b a ↔ SnakeSubstitution P s slideSpares i b a
+    pub fails : ((b a : ℕ) → Goal goals b a → ⊥) → Rests P s (λ q. (b : ℕ) × (a : ℕ) × SnakeSubstitution P q slideSpares i b a) (Of rests)

@@ -1,4 +1,4 @@
-// Kind 5, slide: the test for a snake substitution, and the search for the lowest step of the kind.
+// Kind 5, slide: the test for a snake substitution, all that a variable has, and what it rests on that it has none.
 ghost use mathlib.Core.Path.{_≡_};
 ghost use mathlib.Core.Bool.{true, false};
 ghost use mathlib.Core.Logic.{_≢_};
@@ -11,12 +11,11 @@ ghost use Rattle.bounded.specs.Mask.{bit};
 ghost use Rattle.problem.specs.Problem.{allOther, slideSpares, snakeSubstitution};
 ghost use Rattle.problem.specs.Held.{held, RowTable};
 ghost use Rattle.problem.specs.Masks.{stateOf, sets};
-ghost use Rattle.problem.specs.Reduce.{first, nextSnakeSubstitution};
-ghost use Rattle.memory.specs.Memory.{Remembered};
+ghost use Rattle.problem.specs.Reduce.{first};
 ghost use Rattle.held.specs.Ready.{Ready, Value, Values};
 ghost use Rattle.cover.specs.Words.{others, thirds};
 ghost use Rattle.support.specs.Words.{partnersOf};
-ghost use Rattle.snake_substitution.specs.Parts.{slideAt, substitutionVariable, lowestGoal, Goals, AllGoals, Closed, Limited, NoGoal, Narrowed};
+ghost use Rattle.snake_substitution.specs.Parts.{substitutionAt, lowestGoal, Goals, AllTried, AllGoals, Closed, Limited, NoGoal, Narrowed};
 use bounded::has16;
 use bounded::highest16;
 use bounded::highest32;
@@ -30,7 +29,6 @@ use cover::serving;
 use cover::unserved;
 use held::neighbours;
 use held::row_among;
-use memory::learn;
 use problem::Next;
 use problem::Record;
 use problem::is_step;
@@ -39,7 +37,7 @@ use support::partners;
 // ---- the test
 
 // What the slide rule asks of k, one of `rest`: the active variables other than i. Covering is asked for at these but k.
-fn slide_at(
+fn substitution_at(
     t: &[u16],
     active: u32,
     on: &[u16; 32],
@@ -50,7 +48,7 @@ fn slide_at(
     k: usize,
 ) -> bool
     requires { ⌜ Ready (now t) (sets active (now on)) × Value (now t) i b × Value (now t) i a × (rest ≡ others active i) × (k < 32) × (bit rest k ≡ true) ⌝ }
-    ensures { λ r. ⌜ r ≡ imp (bit rest k) (slideAt (held (now (t .entry))) (stateOf (sets active (now (on .entry)))) i b a k) ⌝ }
+    ensures { λ r. ⌜ r ≡ imp (bit rest k) (substitutionAt (held (now (t .entry))) (stateOf (sets active (now (on .entry)))) i b a k) ⌝ }
 {
     let domain = on[k];
     let good = row_among(t, domain, i, k, a);
@@ -59,15 +57,15 @@ fn slide_at(
 }
 
 // A variable that has no block with i bars nothing with a: each of its values serves for itself, and it is passed over.
-fn slide_others(t: &[u16], active: u32, on: &[u16; 32], i: usize, b: usize, a: usize) -> bool
+fn substitution_others(t: &[u16], active: u32, on: &[u16; 32], i: usize, b: usize, a: usize) -> bool
     requires { ⌜ Ready (now t) (sets active (now on)) × Value (now t) i b × Value (now t) i a ⌝ }
-    ensures { λ r. ⌜ r ≡ allOther (held (now (t .entry))) (stateOf (sets active (now (on .entry)))) i (slideAt (held (now (t .entry))) (stateOf (sets active (now (on .entry)))) i b a) ⌝ }
+    ensures { λ r. ⌜ r ≡ allOther (held (now (t .entry))) (stateOf (sets active (now (on .entry)))) i (substitutionAt (held (now (t .entry))) (stateOf (sets active (now (on .entry)))) i b a) ⌝ }
 {
     let rest = without32(active, i);
     let mut left = rest & neighbours(t, i);
     while left != 0 {
         let k = lowest32(left);
-        if !slide_at(t, active, on, rest, i, b, a, k) {
+        if !substitution_at(t, active, on, rest, i, b, a, k) {
             return false;
         }
         left = without32(left, k);
@@ -89,7 +87,7 @@ pub fn snake_substitution(
 {
     let domain = on[i];
     if has16(domain, b) & (has16(domain, a) & (a != b)) {
-        slide_others(t, active, on, i, b, a)
+        substitution_others(t, active, on, i, b, a)
     } else {
         false
     }
@@ -151,7 +149,7 @@ fn reached(t: &[u16], domain: u16, set: u16, k: usize, i: usize) -> u16
 
 // What value d of k asks of the slides of i, where it is allowed with the values `set`: these, and what is allowed with a value in its place,
 // are kept as goals. It answers k and where others in the place of d break, or 0 where nothing was asked.
-fn slide_by(
+fn narrow_by(
     t: &[u16],
     active: u32,
     on: &[u16; 32],
@@ -175,7 +173,7 @@ fn slide_by(
 }
 
 // What the values of k ask, the highest first.
-fn slides_at(
+fn narrow_at(
     t: &[u16],
     active: u32,
     on: &[u16; 32],
@@ -191,7 +189,7 @@ fn slides_at(
     let mut left = on[k];
     while left != 0 {
         let d = highest16(left);
-        rests = rests | slide_by(t, active, on, goals, rest, i, k, d);
+        rests = rests | narrow_by(t, active, on, goals, rest, i, k, d);
         left = without16(left, d);
     }
     rests
@@ -212,7 +210,7 @@ fn some_goal(goals: &[u16; 16]) -> bool
 }
 
 // What all other variables ask, the highest first, while a goal is left.
-fn slides_from(t: &[u16], active: u32, on: &[u16; 32], goals: &mut [u16; 16], i: usize) -> u32
+fn narrow_from(t: &[u16], active: u32, on: &[u16; 32], goals: &mut [u16; 16], i: usize) -> u32
     requires { ⌜ Ready (now t) (sets active (now on)) × Goals (stateOf (sets active (now on))) i (now goals) × (i < 32) ⌝ }
     ensures { λ r. ⌜ Narrowed (held (now (t .entry))) (stateOf (sets active (now (on .entry)))) i (λ l c. l ≢ i) (now (goals .entry)) (now (goals .exit)) r ⌝ }
 {
@@ -221,10 +219,25 @@ fn slides_from(t: &[u16], active: u32, on: &[u16; 32], goals: &mut [u16; 16], i:
     let mut left = rest & neighbours(t, i);
     while (left != 0) & some_goal(goals) {
         let k = highest32(left);
-        rests = rests | slides_at(t, active, on, goals, without32(rest, k), i, k);
+        rests = rests | narrow_at(t, active, on, goals, without32(rest, k), i, k);
         left = without32(left, k);
     }
     rests
+}
+
+// Tries all values of i: the goals that are left are its substitutions, and where there is none, that rests on the variables of the answer.
+pub fn substitution_rests(
+    t: &[u16],
+    active: u32,
+    on: &[u16; 32],
+    goals: &mut [u16; 16],
+    i: usize,
+) -> u32
+    requires { ⌜ Ready (now t) (sets active (now on)) × (i < 32) × (length (now goals) ≡ 16) ⌝ }
+    ensures { λ r. ⌜ AllTried (held (now (t .entry))) (stateOf (sets active (now (on .entry)))) i (now (goals .exit)) r ⌝ }
+{
+    all_goals(on[i], goals);
+    narrow_from(t, active, on, goals, i)
 }
 
 // The lowest goal of b. Its word is handed over: of one in a lent array it is not known that it is a set of 16.
@@ -238,8 +251,8 @@ fn lowest_goal(word: u16, i: usize, b: usize) -> Next
     }
 }
 
-// The lowest value that has a goal, with its lowest goal.
-fn lowest_slide(goals: &[u16; 16], i: usize) -> Next
+// The step by the lowest value that has a goal, with its lowest goal.
+pub fn lowest_substitution(goals: &[u16; 16], i: usize) -> Next
     ensures { λ r. ⌜ r ≡ first 16 (λ b. lowestGoal i b (getD (now (goals .entry)) b 0)) ⌝ }
 {
     let mut b: usize = 0;
@@ -249,58 +262,6 @@ fn lowest_slide(goals: &[u16; 16], i: usize) -> Next
             return found;
         }
         b += 1;
-    }
-    Next::Nothing
-}
-
-// ---- the search
-
-// The slides of a variable are one test: where it is not pending it has failed, and what it rests on has not changed.
-fn substitution_variable(
-    t: &[u16],
-    active: u32,
-    on: &[u16; 32],
-    pending: &mut [u16; 160],
-    waiting: &mut [u16; 6144],
-    i: usize,
-) -> Next
-    requires { ⌜ Ready (now t) (sets active (now on)) × Remembered (held (now t)) (stateOf (sets active (now on))) (now pending) (now waiting) × (i < 32) ⌝ }
-    ensures is { λ r. ⌜ r ≡ substitutionVariable (held (now (t .entry))) (stateOf (sets active (now (on .entry)))) i ⌝ }
-    ensures remembers { λ _. ⌜ Remembered (held (now (t .entry))) (stateOf (sets active (now (on .entry)))) (now (pending .exit)) (now (waiting .exit)) ⌝ }
-{
-    let domain = on[i];
-    if !has16(pending[128 + i], 0) | (domain == 0) {
-        return Next::Nothing;
-    }
-    let mut goals = [0u16; 16];
-    all_goals(domain, &mut goals);
-    let rests = slides_from(t, active, on, &mut goals, i);
-    let found = lowest_slide(&goals, i);
-    if is_step(found) {
-        return found;
-    }
-    learn(pending, waiting, rests, 128 + i, 0);
-    Next::Nothing
-}
-
-pub fn next_substitution(
-    t: &[u16],
-    active: u32,
-    on: &[u16; 32],
-    pending: &mut [u16; 160],
-    waiting: &mut [u16; 6144],
-) -> Next
-    requires { ⌜ Ready (now t) (sets active (now on)) × Remembered (held (now t)) (stateOf (sets active (now on))) (now pending) (now waiting) ⌝ }
-    ensures is { λ r. ⌜ r ≡ nextSnakeSubstitution (held (now (t .entry))) (stateOf (sets active (now (on .entry)))) ⌝ }
-    ensures remembers { λ _. ⌜ Remembered (held (now (t .entry))) (stateOf (sets active (now (on .entry)))) (now (pending .exit)) (now (waiting .exit)) ⌝ }
-{
-    let mut i: usize = 0;
-    while i < 32 {
-        let found = substitution_variable(t, active, on, pending, waiting, i);
-        if is_step(found) {
-            return found;
-        }
-        i += 1;
     }
     Next::Nothing
 }

@@ -8,20 +8,20 @@ use Rattle.problem.specs.Problem.{liveCount}
 use Rattle.problem.specs.Held.{held}
 use Rattle.problem.specs.Masks.{stateOf}
 use Rattle.held.proofs.Full.{full-ready}
-use Rattle.memory.specs.Memory.{Remembered}
-use Rattle.memory.proofs.Memory.{remembered-fresh}
-use Rattle.unsupported.specs.Bare.{Bare}
+use Rattle.waiting.specs.Waiting.{Waits}
+use Rattle.waiting.proofs.Waiting.{waits-fresh}
+use Rattle.waiting_unsupported.specs.Words.{AllUnsupported}
 use Rattle.steps.proofs.States.{after-state}
 use Rattle.reduce.proofs.Running.{Running, first-lasts, running-start, running-next, same-length as kept-length, falls, record-room, step-counts, record-small, done-buffer, done-answer}
 use Rattle.reduce.proofs.run_table.Statement.{statement}
 use Rattle.reduce.proofs.run_table.Tie as tie
 
 abbrev Inv-loop : tie.InvT-loop
-Inv-loop t b₀ state₀ bare₀ pending₀ waiting₀ at₀ steps₀ b state bare pending waiting at steps =
-    Running t b₀ b state at steps × Bare (held t) (stateOf state) bare × Remembered (held t) (stateOf state) pending waiting
+Inv-loop t b₀ state₀ words₀ pending₀ waiting₀ at₀ steps₀ b state words pending waiting at steps =
+    Running t b₀ b state at steps × AllUnsupported (held t) (stateOf state) words × Waits (held t) (stateOf state) pending waiting
 
 abbrev μ-loop : tie.MeasureT-loop
-μ-loop t b₀ state₀ bare₀ pending₀ waiting₀ at₀ steps₀ b state bare pending waiting at steps = liveCount (held t) (stateOf state)
+μ-loop t b₀ state₀ words₀ pending₀ waiting₀ at₀ steps₀ b state words pending waiting at steps = liveCount (held t) (stateOf state)
 
 write-version-requires : tie.Need-write-version-requires Inv-loop μ-loop
 write-version-requires c κs = omega (arith, c .before .before .before .pre .1)
@@ -29,15 +29,15 @@ write-version-requires c κs = omega (arith, c .before .before .before .pre .1)
 full-masks-requires : tie.Need-full-masks-requires Inv-loop μ-loop
 full-masks-requires c κs = search needs
 
-first-bare-requires : tie.Need-first-bare-requires Inv-loop μ-loop
-first-bare-requires c κs =
+first-unsupported-requires : tie.Need-first-unsupported-requires Inv-loop μ-loop
+first-unsupported-requires c κs =
     let R = c .before .before .before .before .before .before .before .before .before .before .pre .0 in
     rw (c .before .before .before .full-masks .ensures) (full-ready R, first-lasts R, length-replicate {A = ℕ} 32 0)
 
 loop-holds : tie.Need-loop-holds Inv-loop μ-loop
 loop-holds c =
     let a = c .before .before .before .before .before .before .before .before .before .before .before in
-    (rw (c .before .before .before .before .full-masks .ensures, c .before .before .before .before .before .before .before .write-version .ensures) (running-start _ (a .args .b .now) (a .pre .0) (a .pre .1)), c .first-bare .ensures, remembered-fresh _ _)
+    (rw (c .before .before .before .before .full-masks .ensures, c .before .before .before .before .before .before .before .write-version .ensures) (running-start _ (a .args .b .now) (a .pre .0) (a .pre .1)), c .first-unsupported .ensures, waits-fresh _ _)
 
 next-step-requires : tie.Need-next-step-requires Inv-loop μ-loop
 next-step-requires c κs = let i = c .before .before .before .before .before .loop .inv in (i .0 .ready, i .1, i .2)
@@ -101,7 +101,7 @@ run-table-spec =
     μ-loop
     write-version-requires
     full-masks-requires
-    first-bare-requires
+    first-unsupported-requires
     loop-holds
     next-step-requires
     enum-known-r

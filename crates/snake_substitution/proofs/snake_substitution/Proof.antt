@@ -2,7 +2,7 @@
 use mathlib.Core.Path.{sym, _∙_}
 use Rattle.problem.specs.Problem.{snakeSubstitution}
 use Rattle.problem.specs.Masks.{stateOf}
-use Rattle.snake_substitution.specs.Parts.{slideAt}
+use Rattle.snake_substitution.specs.Parts.{substitutionAt}
 use Rattle.held.proofs.Laws.{bit-value}
 use Rattle.bounded.proofs.Guard.{guard, guard-met, guard-left}
 use borrow.Author.Needs.{needs}
@@ -21,15 +21,15 @@ has16-requires c κs = search needs
 has16-requires-2 : tie.Need-has16-requires-2
 has16-requires-2 c κs = search needs
 
-slide-others-requires : tie.Need-slide-others-requires
-slide-others-requires c κs =
+substitution-others-requires : tie.Need-substitution-others-requires
+substitution-others-requires c κs =
     let p = c .before .before .before .before .before .pre in
     let h = guard (c .before .before .has16 .result) (c .before .has162 .result) (c .before .before .before .before .before .args .a) (c .before .before .before .before .before .args .b) (c .if1 .taken) in
     (p .0, bit-value (p .0) _ _ (sym (c .before .before .has16 .ensures) ∙ h .0), bit-value (p .0) _ _ (sym (c .before .has162 .ensures) ∙ h .1))
 
 returns : tie.Need-returns
-unfolding snakeSubstitution slideAt stateOf
-returns c = c .slide-others .ensures ∙ sym (guard-met _ _ (c .before .before .before .has16 .ensures) (c .before .before .has162 .ensures) (c .before .if1 .taken))
+unfolding snakeSubstitution substitutionAt stateOf
+returns c = c .substitution-others .ensures ∙ sym (guard-met _ _ (c .before .before .before .has16 .ensures) (c .before .before .has162 .ensures) (c .before .if1 .taken))
 
 returns-2 : tie.Need-returns-2
 unfolding snakeSubstitution stateOf
@@ -43,6 +43,6 @@ snake-substitution-spec =
     element-copy-out-domain
     has16-requires
     has16-requires-2
-    slide-others-requires
+    substitution-others-requires
     returns
     returns-2)

@@ -20,15 +20,15 @@ has16-requires c κs = search needs
 has32-requires : tie.Need-has32-requires
 has32-requires c κs = search needs
 
-bare-at-requires : tie.Need-bare-at-requires
-bare-at-requires c κs =
+unsupported-at-requires : tie.Need-unsupported-at-requires
+unsupported-at-requires c κs =
     let p = c .before .before .before .before .before .pre in
     let h = guard (c .before .before .has16 .result) (c .before .has32 .result) (c .before .before .before .before .before .args .k) (c .before .before .before .before .before .args .i) (c .if1 .taken) in
     (p .0, bit-value (p .0) _ _ (sym (c .before .before .has16 .ensures) ∙ h .0), p .3, h .2)
 
 returns : tie.Need-returns
 unfolding unsupported stateOf
-returns c = c .bare-at .ensures ∙ sym (guard-met _ _ (c .before .before .before .has16 .ensures) (c .before .before .has32 .ensures) (c .before .if1 .taken))
+returns c = c .unsupported-at .ensures ∙ sym (guard-met _ _ (c .before .before .before .has16 .ensures) (c .before .before .has32 .ensures) (c .before .if1 .taken))
 
 returns-2 : tie.Need-returns-2
 unfolding unsupported stateOf
@@ -42,6 +42,6 @@ unsupported-spec =
     element-copy-out-has16
     has16-requires
     has32-requires
-    bare-at-requires
+    unsupported-at-requires
     returns
     returns-2)

@@ -1,4 +1,0 @@
-pub mod Rests
-pub mod Changes
-pub mod Memory
-pub mod Words
