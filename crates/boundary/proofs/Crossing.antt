@@ -12,9 +12,9 @@ use Rattle.bounded.proofs.Table.{length-tab, getD-tab}
 use Rattle.bounded.proofs.Truth.{lt-dec}
 use Rattle.problem.specs.Masks.{Proper}
 use Rattle.problem.specs.declared.Masks.{Masks}
-use Rattle.sheet.specs.Bytes.{byteAt, numberAt, numberBytes}
-use Rattle.boundary.specs.State.{wordsBytes, stateLength, masksBytes, masksIn}
-use Rattle.boundary.proofs.Bytes.{length-words}
+use Rattle.buffers.specs.Bytes.{byteAt, numberAt, numberBytes, wordsBytes}
+use Rattle.boundary.specs.State.{stateLength, masksBytes, masksIn}
+use Rattle.buffers.proofs.Words.{length-words}
 
 -- ---- the bytes of one number
 

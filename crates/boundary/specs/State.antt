@@ -1,14 +1,9 @@
 -- A state as bytes, as it crosses to C and Rust: the active variables in 4 bytes, then 32 domains in 2 bytes each, big-endian.
-use mathlib.Core.List.{List, [], _∷_, _++_}
+use mathlib.Core.List.{List, _++_}
 use Prim.Native.Nat.{ℕ, _+_, _*_}
 use Rattle.bounded.specs.Table.{tab}
 use Rattle.problem.specs.declared.Masks.{Masks}
-use Rattle.sheet.specs.Bytes.{numberAt, numberBytes}
-
--- the 2 bytes of each number of a list
-unfoldable pub wordsBytes : List ℕ → List ℕ
-wordsBytes [] = []
-wordsBytes (x ∷ l) = numberBytes 2 x ++ wordsBytes l
+use Rattle.buffers.specs.Bytes.{numberAt, numberBytes, wordsBytes}
 
 -- its bytes: 4 + 2 * 32
 abbrev pub stateLength : ℕ

@@ -1,45 +1,14 @@
 // The bytes of a state at the C boundary, and the numbers that are the boundary's own.
 ghost use mathlib.Core.Path.{_≡_};
-ghost use Prim.Native.Nat.{_+_, _*_, _≤_};
 ghost use lib.ListN.{length};
-ghost use Rattle.sheet.specs.Bytes.{numberAt, numberBytes};
-ghost use Rattle.trace.specs.Written.{written};
 ghost use Rattle.boundary.specs.State.{stateLength, masksBytes, masksIn};
 ghost use Rattle.boundary.specs.Numbers.{badState, badHandState};
+use buffers::long;
+use buffers::put_word;
+use buffers::word;
 use problem::Masks;
 
 // ---- the state's bytes
-
-// The number of two bytes.
-fn word(hi: u8, lo: u8) -> u16
-    ensures { λ r. ⌜ r ≡ hi * 256 + lo ⌝ }
-{
-    hi as u16 * 256 + lo as u16
-}
-
-// The number of two words.
-fn long(hi: u16, lo: u16) -> u32
-    ensures { λ r. ⌜ r ≡ hi * 65536 + lo ⌝ }
-{
-    hi as u32 * 65536 + lo as u32
-}
-
-// The word at a place.
-fn word_at(b: &[u8], at: usize) -> u16
-    requires { ⌜ at + 2 ≤ length (now b) ⌝ }
-    ensures { λ r. ⌜ r ≡ numberAt (now (b .entry)) 2 at ⌝ }
-{
-    word(b[at], b[at + 1])
-}
-
-// A word written at a place.
-fn put_word(b: &mut [u8], at: usize, x: u16)
-    requires { ⌜ at + 2 ≤ length (now b) ⌝ }
-    ensures { λ _. ⌜ now (b .exit) ≡ written (now (b .entry)) at (numberBytes 2 x) ⌝ }
-{
-    b[at] = (x / 256) as u8;
-    b[at + 1] = (x % 256) as u8;
-}
 
 // The state that 68 bytes say.
 pub fn read_state(b: &[u8]) -> Masks
@@ -47,10 +16,10 @@ pub fn read_state(b: &[u8]) -> Masks
     ensures { λ r. ⌜ r ≡ masksIn (now (b .entry)) ⌝ }
 {
     let mut m = problem::empty_masks();
-    m.active = long(word_at(b, 0), word_at(b, 2));
+    m.active = long(b, 0) as u32;
     let mut i: usize = 0;
     while i < 32 {
-        m.domains[i] = word_at(b, 4 + 2 * i);
+        m.domains[i] = word(b, 4 + 2 * i) as u16;
         i += 1;
     }
     m

@@ -11,8 +11,8 @@ use borrow.Author.Tests.{lt-ltb, le-ltb, eq-eqb, ne-eqb}
 use Rattle.bounded.proofs.Truth.{T-true, T-false, T-dec, lt-dec, eq-dec, split, clash}
 use Rattle.bounded.proofs.Causes.{cause-iff, number-iff}
 use Rattle.sheet.specs.Sheet.{layout}
-use Rattle.trace.specs.Trace.{fronted}
-use Rattle.trace.proofs.Fronted.{AtFront, fronted-bytes}
+use Rattle.buffers.specs.Written.{fronted, AtFront}
+use Rattle.buffers.proofs.Written.{fronted-bytes}
 use Rattle.graph.specs.Graph.{fileLines, lineAt, badFile, countLines, isEdge, statedEdges}
 use Rattle.graph.specs.declared.Line.the-variants.{Edge}
 use Rattle.graph.proofs.Turned.{BadFile, bad-file-iff, loop-iff}

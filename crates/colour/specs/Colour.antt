@@ -6,7 +6,7 @@ use lib.Dec.{eqb, ltb}
 use lib.ListN.{length}
 use Rattle.problem.specs.Problem.{Problem}
 use Rattle.sheet.specs.Sheet.{layout}
-use Rattle.trace.specs.Trace.{fronted}
+use Rattle.buffers.specs.Written.{fronted}
 use Rattle.graph.specs.Graph.{fileLines, badFile, anyLine, countLines, isLoop, isEdge, statedVertices, statedEdges}
 use Rattle.graph.specs.Colouring.{adjacent, colouring}
 use Rattle.compose.specs.Compose.{sheetBytes}

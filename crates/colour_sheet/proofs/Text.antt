@@ -5,8 +5,8 @@ use Prim.Native.Nat.{ℕ, _+_, _≤_}
 use native.Mathlib.Omega.{arith}
 use lib.ListN.{length, take}
 use Rattle.fields.specs.Print.{refusedLine}
-use Rattle.trace.specs.Written.{written}
-use Rattle.trace.proofs.Written.{take-written}
+use Rattle.buffers.specs.Written.{written}
+use Rattle.buffers.proofs.Written.{take-written}
 use Rattle.colour.specs.Colour.{ColourResult, colourNumber}
 use Rattle.colour.specs.declared.ColourRefusal.{ColourRefusal}
 use Rattle.colour.specs.declared.Coloured.{Coloured}

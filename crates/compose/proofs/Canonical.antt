@@ -12,14 +12,14 @@ use borrow.Author.Tests.{lt-ltb, le-leb, eq-eqb}
 use Rattle.bounded.specs.Table.{tab}
 use Rattle.bounded.proofs.Truth.{eq-dec, clash}
 use Rattle.problem.specs.Problem.{Problem}
-use Rattle.sheet.specs.Bytes.{byteAt, numberAt, numberBytes, AreBytes}
+use Rattle.buffers.specs.Bytes.{byteAt, numberAt, numberBytes, AreBytes}
 use Rattle.sheet.specs.Sheet.{Layout, versionOf, lengthOf, variablesOf, blocksOf, sizeAt, rowWidth, rowBytes, inOrder, Keeps}
 use Rattle.sheet.specs.Relation.{rowsFrom, rowsOf, sizeOf, problemOf}
 use Rattle.sheet.specs.declared.Rows.the-variants.{At, Unconstrained}
 use Rattle.sheet.proofs.Laws.{none-beyond, block-there, block-next, blocks-next, blocks-end}
 use Rattle.sheet.proofs.Accepted.{Good, Here, here, at-end, facts, is-pair, rows-hit, rows-miss, rows-of, size-in}
 use Rattle.compose.specs.Compose.{rowNumber, pairBars, hasBlock, blockCount, rowsBytes, blockBytes, blocksBytes, sheetLength, sheetBytes}
-use Rattle.compose.proofs.Stands.{byte-again, sizes-again, number-again}
+use Rattle.buffers.proofs.Stands.{byte-again, sizes-again, number-again}
 use Rattle.compose.proofs.Rows.{rows-passed, Block, has-block, block-has}
 use Rattle.compose.proofs.Lengths.{count-hit, count-miss, blocks-hit, blocks-miss}
 use Rattle.compose.proofs.Blocks.{sized, row-is, block-some, free-none}

@@ -9,11 +9,11 @@ use lib.ListN.{length, length-append}
 use Rattle.bounded.specs.Bounded.{oneIf}
 use Rattle.problem.specs.Problem.{Problem}
 use Rattle.problem.specs.Held.{Bounded}
-use Rattle.sheet.specs.Bytes.{numberBytes}
+use Rattle.buffers.specs.Bytes.{numberBytes}
 use Rattle.sheet.specs.Sheet.{Layout}
 use Rattle.sheet.proofs.Laws.{rows-small}
 use Rattle.compose.specs.Compose.{rowNumber, hasBlock, blockCount, rowsBytes, blockBytes, placeBytes, blocksBytes, Roomy}
-use Rattle.compose.proofs.Stands.{length-number}
+use Rattle.buffers.proofs.Stands.{length-number}
 
 -- ---- one place more, with a block and without
 module _ (P : Problem) (k x : ℕ) where

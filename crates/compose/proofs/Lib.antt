@@ -1,4 +1,3 @@
-pub mod Stands
 pub mod Rows
 pub mod Lengths
 pub mod Written

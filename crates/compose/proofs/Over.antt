@@ -9,7 +9,7 @@ use Rattle.problem.specs.Problem.{Problem}
 use Rattle.problem.specs.Held.{held, Bounded, Filled}
 use Rattle.problem.proofs.HeldTable.{held-filled}
 use Rattle.sheet.specs.Sheet.{Layout}
-use Rattle.trace.specs.Trace.{fronted}
+use Rattle.buffers.specs.Written.{fronted}
 use Rattle.compose.specs.Compose.{sheetBytes, sheetOver}
 use Rattle.compose.specs.declared.Composed.the-variants.{Written, TooShort}
 

@@ -12,7 +12,7 @@ use Rattle.bounded.proofs.Truth.{both}
 use Rattle.bounded.proofs.Loops.{any-intro, any-each}
 use Rattle.bounded.proofs.Mask.{mask-is, bit-mask, full-bit}
 use Rattle.problem.specs.Problem.{Problem}
-use Rattle.sheet.specs.Bytes.{byteAt}
+use Rattle.buffers.specs.Bytes.{byteAt}
 use Rattle.sheet.specs.Sheet.{Layout, badSizes}
 use Rattle.sheet.specs.Relation.{rowsFrom}
 use Rattle.sheet.specs.declared.Rows.the-variants.{Unconstrained}

@@ -9,7 +9,7 @@ use lib.ListN.{length, drop, length-append}
 use Rattle.bounded.specs.Table.{tab}
 use Rattle.problem.specs.Problem.{Problem}
 use Rattle.problem.specs.Held.{Bounded}
-use Rattle.sheet.specs.Bytes.{numberBytes}
+use Rattle.buffers.specs.Bytes.{numberBytes}
 use Rattle.sheet.specs.Sheet.{Layout, layout}
 use Rattle.sheet.proofs.Accepted.{rows-narrow}
 use Rattle.compose.specs.Compose.{rowNumber, hasBlock, blockCount, rowsBytes, blockBytes, blocksBytes, sheetBytes}

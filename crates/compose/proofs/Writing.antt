@@ -16,15 +16,14 @@ use Rattle.bounded.proofs.Truth.{lt-dec}
 use Rattle.bounded.proofs.Table.{length-tab, getD-tab}
 use Rattle.problem.specs.Problem.{Problem}
 use Rattle.problem.specs.Held.{held, RowTable}
-use Rattle.sheet.specs.Bytes.{numberBytes}
+use Rattle.buffers.specs.Bytes.{numberBytes}
 use Rattle.sheet.specs.Sheet.{Layout, layout}
 use Rattle.sheet.proofs.Versions.{test-taken}
-use Rattle.trace.specs.Written.{written}
-use Rattle.trace.proofs.Written.{sets-written, word-put, written-nil, written-one, written-more, written-front, length-written}
-use Rattle.trace.specs.Trace.{fronted}
+use Rattle.buffers.specs.Written.{written, fronted}
+use Rattle.buffers.proofs.Written.{sets-written, word-put, written-nil, written-one, written-more, written-front, length-written}
 use Rattle.compose.specs.Compose.{rowNumber, pairBars, hasBlock, blockCount, rowsBytes, blockBytes, placeBytes, blocksBytes, sheetLength, sheetBytes}
 use Rattle.compose.specs.Parts.{markOf, BlockMarked, BytesWrote, Underway, frontBytes}
-use Rattle.compose.proofs.Stands.{length-number}
+use Rattle.buffers.proofs.Stands.{length-number}
 
 -- ---- the settings of an item
 

@@ -17,7 +17,7 @@ use Rattle.bounded.proofs.Table.{length-tab, getD-tab}
 use Rattle.problem.specs.Problem.{Problem}
 use Rattle.problem.specs.Held.{Bounded}
 use Rattle.problem.proofs.Same.{problem-same}
-use Rattle.sheet.specs.Bytes.{byteAt, numberAt, numberBytes}
+use Rattle.buffers.specs.Bytes.{byteAt, numberAt, numberBytes}
 use Rattle.sheet.specs.Sheet.{Layout, versionOf, lengthOf, variablesOf, blocksOf, sizeAt, rowWidth, rowBytes, inOrder, allowsAll, blockOf, blockAt, Keeps}
 use Rattle.sheet.specs.Relation.{rowsFrom, rowsOf, rowIn, rowsAllow, sizeOf, allowedOf, problemOf}
 use Rattle.sheet.specs.declared.Rows.{Rows}
@@ -26,7 +26,7 @@ use Rattle.sheet.specs.declared.Block.the-variants.{Next}
 use Rattle.sheet.proofs.Laws.{none-beyond, full-rows, block-there, block-next, blocks-next, blocks-end, sheet-blocks}
 use Rattle.sheet.proofs.Accepted.{Good, is-pair, rows-hit, rows-miss, rows-of, size-in, size-out, listed-of, allowed-listed, pair-up, pair-down, bounded, longest}
 use Rattle.compose.specs.Compose.{rowNumber, pairBars, hasBlock, blockCount, rowsBytes, blockBytes, blocksBytes, sheetLength, sheetBytes, Roomy}
-use Rattle.compose.proofs.Stands.{Stands, length-number, stands-all, stands-at, stands-byte, stands-over, stands-next, stands-number}
+use Rattle.buffers.proofs.Stands.{Stands, length-number, stands-all, stands-at, stands-byte, stands-over, stands-next, stands-number}
 use Rattle.compose.proofs.Rows.{none-bad, rows-passed, mask-full, bars-none, none-bars, Block, has-block, no-block}
 use Rattle.compose.proofs.Lengths.{count-hit, count-miss, count-few, blocks-hit, blocks-miss, length-block, blocks-short}
 

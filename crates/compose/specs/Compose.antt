@@ -9,9 +9,9 @@ use Rattle.bounded.specs.Bounded.{anyBelow, oneIf}
 use Rattle.bounded.specs.Mask.{maskOf}
 use Rattle.bounded.specs.Table.{tab}
 use Rattle.problem.specs.Problem.{Problem}
-use Rattle.sheet.specs.Bytes.{numberBytes}
+use Rattle.buffers.specs.Bytes.{numberBytes}
 use Rattle.sheet.specs.Sheet.{Layout}
-use Rattle.trace.specs.Trace.{fronted}
+use Rattle.buffers.specs.Written.{fronted}
 use Rattle.compose.specs.declared.Composed.{Composed}
 use Rattle.compose.specs.declared.Composed.the-variants.{Written, TooShort}
 

@@ -7,9 +7,9 @@ use lib.ListN.{length}
 use Rattle.bounded.specs.Bounded.{oneIf}
 use Rattle.problem.specs.Problem.{Problem}
 use Rattle.problem.specs.Held.{held, RowTable}
-use Rattle.sheet.specs.Bytes.{byteAt, numberBytes}
+use Rattle.buffers.specs.Bytes.{byteAt, numberBytes}
 use Rattle.sheet.specs.Sheet.{layout}
-use Rattle.trace.specs.Written.{written}
+use Rattle.buffers.specs.Written.{written}
 use Rattle.compose.specs.Compose.{hasBlock}
 
 -- a version that is taken

@@ -5,10 +5,9 @@ ghost use Prim.Native.Nat.{_+_, _*_, _-_, _/_, _%_, _^_, _<_, _≤_};
 ghost use lib.ListN.{length};
 ghost use Rattle.bounded.specs.Table.{tab, filled};
 ghost use Rattle.problem.specs.Held.{held, RowTable};
-ghost use Rattle.sheet.specs.Bytes.{Is, numberBytes};
+ghost use Rattle.buffers.specs.Bytes.{Is, numberBytes};
 ghost use Rattle.sheet.specs.Sheet.{layout};
-ghost use Rattle.trace.specs.Trace.{fronted};
-ghost use Rattle.trace.specs.Written.{written};
+ghost use Rattle.buffers.specs.Written.{fronted, written};
 ghost use Rattle.compose.specs.Compose.{rowNumber, pairBars, blockCount, rowsBytes, blockBytes, placeBytes, blocksBytes, sheetLength, sheetBytes, sheetOver};
 ghost use Rattle.compose.specs.Parts.{Version, Pair, markOf, BlockMarked, BytesWrote, frontBytes};
 

@@ -21,7 +21,8 @@ use Rattle.sheet.specs.Relation.{problemOf}
 use Rattle.run.specs.Numbers.{endNumber}
 use Rattle.run.specs.Run.{runJob}
 use Rattle.put_back.specs.PutBack.{PutBackResult, planFits, putBackJob}
-use Rattle.trace.specs.Trace.{traceBytes, fronted}
+use Rattle.trace.specs.Trace.{traceBytes}
+use Rattle.buffers.specs.Written.{fronted}
 use Rattle.run.specs.declared.RunAnswer.{RunAnswer}
 use Rattle.run.specs.declared.RunOutcome.the-variants as run·
 use Rattle.put_back.specs.declared.PutBackOutcome.the-variants as back

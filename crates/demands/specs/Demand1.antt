@@ -13,7 +13,8 @@ use Rattle.sheet.specs.Sheet.{layout, readSheet, Keeps}
 use Rattle.sheet.specs.Causes.{ReadCause}
 use Rattle.sheet.specs.Refusals as sheet·
 use Rattle.sheet.specs.declared.SheetRead.{SheetRead}
-use Rattle.trace.specs.Trace.{traceBytes, fronted}
+use Rattle.trace.specs.Trace.{traceBytes}
+use Rattle.buffers.specs.Written.{fronted}
 use Rattle.boundary.specs.State.{stateLength}
 use Rattle.boundary.specs.Numbers.{badState, badHandState}
 use Rattle.run.specs.Numbers.{runNumber}

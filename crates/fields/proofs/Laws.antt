@@ -6,8 +6,8 @@ use native.Mathlib.Omega.{arith}
 use lib.ListN.{length, take, drop, set, getD, length-append}
 use lib.Seq.{paste, paste-zero, paste-suc, take-length}
 use native.Mathlib.Numerals.{add-one}
-use Rattle.trace.specs.Written.{written}
-use Rattle.trace.proofs.Written.{written-more}
+use Rattle.buffers.specs.Written.{written}
+use Rattle.buffers.proofs.Written.{written-more}
 
 -- w is written at p, and q is the place after it
 abbrev pub Puts : List ℕ → ℕ → List ℕ → List ℕ → ℕ → Type 0

@@ -6,7 +6,8 @@ ghost use Prim.Native.Nat.{_+_, _<_, _≤_};
 ghost use lib.ListN.{length};
 ghost use Rattle.problem.specs.Record.{fieldsOf};
 ghost use Rattle.fields.specs.Print.{decimal, field, fieldsText};
-ghost use Rattle.trace.specs.Written.{written, Small};
+ghost use Rattle.trace.specs.Trace.{Small};
+ghost use Rattle.buffers.specs.Written.{written};
 use problem::Record;
 use problem::parts_of;
 

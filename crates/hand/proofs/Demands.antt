@@ -12,7 +12,7 @@ use Rattle.problem.specs.Masks.{stateOf, masksOf, Proper}
 use Rattle.problem.specs.declared.Masks.{Masks}
 use Rattle.problem.specs.Sentences.{Active, Alike}
 use Rattle.problem.proofs.Bridge.{masks-back}
-use Rattle.sheet.specs.Bytes.{numberAt}
+use Rattle.buffers.specs.Bytes.{numberAt, wordsBytes}
 use Rattle.sheet.specs.Sheet.{layout, Keeps}
 use Rattle.sheet.specs.Relation.{problemOf}
 use Rattle.hand.specs.Hand.{handState, handFits, startJob, callJob, callsJob}
@@ -22,7 +22,7 @@ use Rattle.hand.specs.declared.CallOutcome.{CallOutcome}
 use Rattle.hand.specs.declared.CallOutcome.the-variants as called
 use Rattle.hand.proofs.HandOrder.{order-does-not-matter, start-meets}
 use Rattle.hand.proofs.Started.{started-iff}
-use Rattle.boundary.specs.State.{wordsBytes, masksBytes, masksIn}
+use Rattle.boundary.specs.State.{masksBytes, masksIn}
 use Rattle.hand.specs.Call.{OfBytes, handStateLength, handBytes, handIn, HandCall, startCall, handCall, handCalls}
 use Rattle.boundary.proofs.Crossing.{state-length}
 use Rattle.hand.proofs.Call.{hand-bytes-crossed, start-says, hand-says, start-state, Held, call-held, call-state}

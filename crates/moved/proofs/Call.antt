@@ -9,10 +9,10 @@ use Rattle.moved.specs.Call.{moveCrossed, moveCall, MoveCall}
 use mathlib.Core.Logic.{_⊎_, inl, inr, _≢_, _↔_}
 use native.Mathlib.Omega.{arith}
 use lib.ListN.{length, take}
-use Rattle.sheet.specs.Bytes.{AreBytes}
+use Rattle.buffers.specs.Bytes.{AreBytes}
 use Rattle.sheet.specs.Sheet.{layout, Keeps}
 use Rattle.sheet.proofs.Refusals.{sheet-number}
-use Rattle.trace.specs.Trace.{fronted}
+use Rattle.buffers.specs.Written.{fronted}
 use Rattle.boundary.proofs.Answers.{Refuses, refused-keeps, taken-iff, written-unpacked}
 use Rattle.moved.specs.declared.MoveRefusal.{MoveRefusal}
 use Rattle.moved.specs.declared.MoveRefusal.the-variants as not-moved

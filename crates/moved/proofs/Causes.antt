@@ -11,8 +11,8 @@ use Rattle.problem.specs.Problem.{Problem}
 use Rattle.sheet.specs.Sheet.{layout, versionOf, Keeps}
 use Rattle.sheet.specs.Relation.{problemOf}
 use Rattle.sheet.proofs.Refusals.{sheet-number}
-use Rattle.trace.specs.Trace.{fronted}
-use Rattle.trace.proofs.Fronted.{AtFront, fronted-bytes}
+use Rattle.buffers.specs.Written.{fronted, AtFront}
+use Rattle.buffers.proofs.Written.{fronted-bytes}
 use Rattle.jobs.proofs.SheetCause.{Told, sheet-iff}
 use Rattle.jobs.specs.Causes.{Whose, Sheets, Own, SheetCause}
 use Rattle.compose.specs.Compose.{sheetBytes}

@@ -9,7 +9,7 @@ use lib.ListN.{length, take, drop}
 use Rattle.bounded.proofs.Truth.{clash}
 use Rattle.problem.specs.Problem.{Problem}
 use Rattle.problem.specs.Extend.{solvesWhole}
-use Rattle.sheet.specs.Bytes.{AreBytes}
+use Rattle.buffers.specs.Bytes.{AreBytes}
 use Rattle.sheet.specs.Sheet.{layout, versionOf, variablesOf, sizeAt, Keeps}
 use Rattle.sheet.specs.Relation.{rowsOf, problemOf}
 use Rattle.sheet.specs.declared.Rows.{Rows}

@@ -7,7 +7,7 @@ use lib.ListN.{length}
 use Rattle.problem.specs.Problem.{Problem}
 use Rattle.sheet.specs.Sheet.{layout, versionOf, sheetNumber}
 use Rattle.sheet.specs.Relation.{problemOf}
-use Rattle.trace.specs.Trace.{fronted}
+use Rattle.buffers.specs.Written.{fronted}
 use Rattle.jobs.specs.WithSheet.{withSheet}
 use Rattle.compose.specs.Compose.{sheetBytes}
 use Rattle.moved.specs.declared.MoveRefusal.{MoveRefusal}

@@ -60,7 +60,7 @@ pub fn move_sheet(sheet: &[u8], target: &mut [u8]) -> Moved
         SheetRead::Accepted {
             variables: _,
             blocks: _,
-        } => move_over(&t, other_version(sheet::byte(sheet, 0)), target),
+        } => move_over(&t, other_version(buffers::byte(sheet, 0)), target),
     }
 }
 

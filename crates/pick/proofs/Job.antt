@@ -23,7 +23,7 @@ use Rattle.run.proofs.Opened.{run-accepted-over}
 use Rattle.run.proofs.Ran.{ran-iff-over}
 use Rattle.run.specs.Causes.{RunCauseOver}
 use Rattle.run.proofs.Worked.{run-worked-over}
-use Rattle.trace.proofs.Written.{length-fronted}
+use Rattle.buffers.proofs.Written.{length-fronted}
 use Rattle.first_plan.specs.First.{firstPlan}
 use Rattle.first_plan.specs.declared.Found.{Found}
 use Rattle.first_plan.proofs.Meaning.{first-long}

@@ -9,7 +9,8 @@ use Rattle.problem.specs.Reduce.{run, afterTrace, endOf}
 use Rattle.problem.specs.Masks.{masksOf, emptyMasks}
 use Rattle.problem.specs.declared.End.{End}
 use Rattle.sheet.specs.Sheet.{sheetNumber}
-use Rattle.trace.specs.Trace.{traceBytes, fronted}
+use Rattle.trace.specs.Trace.{traceBytes}
+use Rattle.buffers.specs.Written.{fronted}
 use Rattle.jobs.specs.WithSheet.{withSheet}
 use Rattle.run.specs.Run.{bufferShort}
 use Rattle.put_back.specs.PutBack.{putBackOver}

@@ -7,8 +7,8 @@ use native.Mathlib.Omega.{arith}
 use lib.ListN.{length, take, getD}
 use lib.Seq.{take-all}
 use Rattle.fields.specs.Print.{field}
-use Rattle.trace.specs.Written.{written}
-use Rattle.trace.proofs.Written.{written-nil, length-written}
+use Rattle.buffers.specs.Written.{written}
+use Rattle.buffers.proofs.Written.{written-nil, length-written}
 use Rattle.fields.proofs.Laws.{Puts, after}
 use Rattle.plan_report.specs.Planned.{settingFields}
 

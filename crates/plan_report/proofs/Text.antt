@@ -17,7 +17,7 @@ use Rattle.sheet.specs.declared.SheetRead.the-variants as read
 use Rattle.sheet.proofs.Accepted.{keeps, problem-bounded}
 use Rattle.fields.specs.Print.{refusedLine, runLines}
 use Rattle.jobs.proofs.Opened.{sheet-refused, sheet-kept}
-use Rattle.trace.specs.Written.{written}
+use Rattle.buffers.specs.Written.{written}
 use Rattle.fields.proofs.Laws.{Puts, after}
 use Rattle.report.specs.Report.{Ran}
 use Rattle.report.proofs.Text.{done-ran}

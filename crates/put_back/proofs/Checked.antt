@@ -21,7 +21,7 @@ use Rattle.problem.specs.Sentences.{Fits}
 use Rattle.problem.proofs.Trace.{trace-iff, trace-fits}
 use Rattle.problem.proofs.Spoiler.{names-iff}
 use Rattle.problem.specs.Causes.{CoverAlone, BreaksAt}
-use Rattle.sheet.specs.Bytes.{byteAt}
+use Rattle.buffers.specs.Bytes.{byteAt}
 use Rattle.trace.specs.Trace.{recordBytes, recordsBytes, traceBytes, recordAt}
 use Rattle.put_back.specs.Causes.{NoRecord, Carried}
 use Rattle.put_back.specs.PutBack.{Checked, Lawful, Fault, unnamed, unlawfulRecord, withRecord, checkFrom, checkTrace}

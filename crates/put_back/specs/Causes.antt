@@ -12,7 +12,7 @@ use Rattle.problem.specs.Sentences.{Active, Live, Allowed}
 use Rattle.problem.specs.Causes.{CoverAlone, BreaksAt}
 use Rattle.problem.specs.Published.{Published}
 use Rattle.problem.specs.declared.Record.{Record}
-use Rattle.sheet.specs.Bytes.{byteAt}
+use Rattle.buffers.specs.Bytes.{byteAt}
 use Rattle.jobs.specs.Causes.{Whose, Sheets, Own, SheetCause}
 use Rattle.trace.specs.Trace.{recordBytes, traceBytes}
 use Rattle.put_back.specs.PutBack.{PutBackResult, unnamed, planFits, putBackDone}

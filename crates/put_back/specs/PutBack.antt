@@ -12,7 +12,7 @@ use Rattle.problem.specs.Extend.{solves, planOf, undoTrace}
 use Rattle.problem.specs.declared.Record.{Record}
 use Rattle.problem.specs.declared.Break.{Break}
 use Rattle.problem.specs.declared.Break.the-variants.{At, Nowhere}
-use Rattle.sheet.specs.Bytes.{byteAt}
+use Rattle.buffers.specs.Bytes.{byteAt}
 use Rattle.trace.specs.Trace.{recordAt}
 use Rattle.jobs.specs.WithSheet.{withSheet}
 use Rattle.trace.specs.declared.RecordRead.the-variants as record·

@@ -20,7 +20,7 @@ use Rattle.problem.proofs.Reflect.{full-fits, allActive-or}
 use Rattle.problem.specs.Sentences.{Active, Live, Allowed, Fits, Solution}
 use Rattle.problem.proofs.Sound.{solves-iff}
 use Rattle.problem.proofs.Trace.{trace-fits}
-use Rattle.sheet.specs.Bytes.{byteAt}
+use Rattle.buffers.specs.Bytes.{byteAt}
 use Rattle.sheet.proofs.Refusals.{sheet-number}
 use Rattle.put_back.specs.Numbers.{putBackNumber}
 use Rattle.trace.specs.Trace.{recordBytes, traceBytes}

@@ -12,7 +12,7 @@ use lib.ListN.{length}
 use borrow.Author.Tests.{lt-ltb, le-ltb, le-leb, leb-true, eq-eqb, ne-eqb}
 use Rattle.bounded.proofs.Causes.{cause-iff, number-iff}
 use Rattle.bounded.proofs.Truth.{T-true, T-false, split, clash, eq-dec, lt-dec}
-use Rattle.sheet.specs.Bytes.{byteAt, numberAt}
+use Rattle.buffers.specs.Bytes.{byteAt, numberAt}
 use Rattle.sheet.specs.Sheet.{layout, sheetNumber, versionOf, lengthOf, variablesOf, blocksOf, sizeAt, rowWidth, rowBytes, inOrder, beyond, allowsAll, blockOf, blockAt, blocksFrom, badSizes, readSheet}
 use Rattle.sheet.specs.Relation.{rowIn}
 use Rattle.sheet.specs.Refusals.{readingNumber}

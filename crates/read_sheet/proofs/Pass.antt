@@ -13,7 +13,7 @@ use Rattle.bounded.proofs.Truth.{eq-dec}
 use Rattle.problem.specs.Held.{placeAt, Located, Filled}
 use Rattle.problem.specs.Filling.{Shows, Entered}
 use Rattle.problem.proofs.Filling.{Agrees, filled-pairs}
-use Rattle.sheet.specs.Bytes.{byteAt}
+use Rattle.buffers.specs.Bytes.{byteAt}
 use Rattle.sheet.specs.Sheet.{layout, variablesOf, blocksOf, sizeAt, rowWidth, blocksFrom, readSheet, Keeps, Front}
 use Rattle.sheet.specs.Relation.{rowsFrom, rowsOf, rowIn, sizeOf, problemOf}
 use Rattle.sheet.specs.declared.Rows.the-variants.{At}

@@ -11,7 +11,7 @@ use lib.Pow.{pow-pos}
 use borrow.Author.Tests.{ltb-false, le-ltb, eqb-true, eq-eqb}
 use Rattle.bounded.proofs.Truth.{lt-dec}
 use Rattle.bounded.proofs.Loops.{all-intro, all-each, any-intro, any-each}
-use Rattle.sheet.specs.Bytes.{numberAt}
+use Rattle.buffers.specs.Bytes.{numberAt}
 use Rattle.sheet.specs.Sheet.{layout, sizeAt, rowWidth, rowBytes, inOrder, beyond, allowsAll, blockOf}
 use Rattle.sheet.specs.declared.Block.the-variants.{Next, Fault}
 use Rattle.sheet.specs.declared.SheetRefusal.{SheetRefusal}

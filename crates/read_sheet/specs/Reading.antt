@@ -8,7 +8,7 @@ use lib.ListN.{length, getD}
 use Rattle.bounded.specs.Bounded.{allBelow, anyBelow}
 use Rattle.problem.specs.Held.{Located}
 use Rattle.problem.specs.Filling.{Shows}
-use Rattle.sheet.specs.Bytes.{numberAt}
+use Rattle.buffers.specs.Bytes.{numberAt}
 use Rattle.sheet.specs.Sheet.{layout, variablesOf, blocksOf, sizeAt, rowWidth, blocksFrom, readSheet, Front}
 use Rattle.sheet.specs.Relation.{sizeOf}
 use Rattle.sheet.specs.declared.Block.{Block}

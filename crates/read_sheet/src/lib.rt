@@ -5,19 +5,19 @@ ghost use mathlib.Core.Bool.{true};
 ghost use Prim.Native.Nat.{ℕ, _+_, _-_, _*_, _^_, _<_, _≤_};
 ghost use lib.ListN.{length};
 ghost use Rattle.problem.specs.Held.{tableLength, Filled};
-ghost use Rattle.sheet.specs.Bytes.{byteAt, numberAt};
+ghost use Rattle.buffers.specs.Bytes.{byteAt, numberAt};
 ghost use Rattle.sheet.specs.Sheet.{layout, variablesOf, blocksOf, inOrder, blockOf, blockAt, blocksFrom, badSizes, readSheet, Keeps, Front};
 ghost use Rattle.sheet.specs.Relation.{sizeOf, problemOf};
 ghost use Rattle.table.specs.Parts.{Wrote, Blank};
 ghost use Rattle.read_sheet.specs.Reading.{Inside, Clear, BlockRows, someBeyond, allFull, rowsTell, FrontRead, Free};
+use buffers::byte;
+use buffers::long;
+use buffers::word;
 use sheet::Block;
 use sheet::SheetRead;
 use sheet::SheetRefusal;
-use sheet::byte;
-use sheet::four;
 use sheet::row;
 use sheet::takes;
-use sheet::two;
 use sheet::width_of;
 use table::enter;
 use table::put_places;
@@ -146,7 +146,7 @@ fn after_blocks(s: &[u8], p: usize) -> SheetRead
     }
     SheetRead::Accepted {
         variables: byte(s, 5),
-        blocks: two(s, 6),
+        blocks: word(s, 6),
     }
 }
 
@@ -155,7 +155,7 @@ fn check(s: &[u8]) -> SheetRead
     requires { ⌜ Front (now s) ⌝ }
     ensures { λ r. ⌜ r ≡ blocksFrom layout (now (s .entry)) (blocksOf (now (s .entry))) 0 (8 + variablesOf (now (s .entry))) ⌝ }
 {
-    let mut left = two(s, 6);
+    let mut left = word(s, 6);
     let mut least: usize = 0;
     let mut at = 8 + byte(s, 5);
     while 0 < left {
@@ -180,7 +180,7 @@ fn blocks(s: &[u8], t: &mut [u16]) -> SheetRead
     ensures answer { λ r. ⌜ r ≡ blocksFrom layout (now (s .entry)) (blocksOf (now (s .entry))) 0 (8 + variablesOf (now (s .entry))) ⌝ }
     ensures filled { λ _. ⌜ (Keeps layout (now (s .entry)) → Filled (problemOf layout (now (s .entry))) (now (t .exit))) ⌝ }
 {
-    let mut left = two(s, 6);
+    let mut left = word(s, 6);
     let mut least: usize = 0;
     let mut at = 8 + byte(s, 5);
     while 0 < left {
@@ -270,7 +270,7 @@ fn front(s: &[u8]) -> SheetRead
     if !takes(byte(s, 0)) {
         return SheetRead::Refused(SheetRefusal::Version);
     }
-    if four(s, 1) != s.len() {
+    if long(s, 1) != s.len() {
         return SheetRead::Refused(SheetRefusal::Length);
     }
     let n = byte(s, 5);
@@ -288,7 +288,7 @@ fn front(s: &[u8]) -> SheetRead
     }
     SheetRead::Accepted {
         variables: n,
-        blocks: two(s, 6),
+        blocks: word(s, 6),
     }
 }
 

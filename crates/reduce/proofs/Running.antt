@@ -23,12 +23,12 @@ use Rattle.problem.proofs.Least.{holds-below}
 use Rattle.problem.proofs.Count.{full-count}
 use Rattle.problem.proofs.Run.{next-lawful, run-step, run-stop, run-enough}
 use Rattle.problem.proofs.Bridge.{masks-back}
-use Rattle.trace.specs.Trace.{recordBytes, recordsBytes, traceBytes, fronted}
+use Rattle.trace.specs.Trace.{recordBytes, recordsBytes, traceBytes, Small}
+use Rattle.buffers.specs.Written.{fronted, written}
 use Rattle.run.specs.Run.{runDone}
 use Rattle.run.specs.declared.RunOutcome.the-variants.{Done}
 use Rattle.run.proofs.Worked.{trace-length}
-use Rattle.trace.specs.Written.{written, Small}
-use Rattle.trace.proofs.Written.{fronted-more, length-fronted}
+use Rattle.buffers.proofs.Written.{fronted-more, length-fronted}
 use Rattle.trace.proofs.Back.{trace-more, record-most}
 use Rattle.held.specs.Ready.{Ready}
 use Rattle.held.proofs.Full.{full-ready, full-says}

@@ -12,7 +12,7 @@ use Rattle.problem.specs.Reduce.{lawful, brokenCover, after, lawfulTrace, after
 use Rattle.problem.specs.declared.Record.{Record}
 use Rattle.problem.specs.Masks.{masksOf}
 use Rattle.problem.specs.declared.Masks.{Masks}
-use Rattle.sheet.specs.Bytes.{byteAt}
+use Rattle.buffers.specs.Bytes.{byteAt}
 use Rattle.trace.specs.Trace.{recordAt}
 use Rattle.put_back.specs.PutBack.{Checked, Lawful as Records, Fault as Faulty, unlawfulRecord, withRecord, checkFrom, checkTrace}
 use Rattle.trace.specs.declared.RecordRead.{RecordRead}

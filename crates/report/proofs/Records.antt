@@ -5,13 +5,13 @@ use mathlib.Core.Logic.{inl, inr}
 use Prim.Native.Nat.{ℕ, zero, suc, _+_, _<_}
 use native.Mathlib.Omega.{arith}
 use lib.ListN.{length, drop, getD, length-append}
-use Rattle.sheet.specs.Bytes.{byteAt}
+use Rattle.buffers.specs.Bytes.{byteAt}
 use Rattle.problem.specs.declared.Record.{Record}
 use Rattle.problem.proofs.Apart.{Made, record-made}
-use Rattle.trace.specs.Trace.{recordBytes, recordsBytes, traceBytes, fronted, recordAt}
+use Rattle.trace.specs.Trace.{recordBytes, recordsBytes, traceBytes, recordAt, Small}
+use Rattle.buffers.specs.Written.{fronted}
 use Rattle.trace.specs.declared.RecordRead.{RecordRead}
 use Rattle.trace.specs.declared.RecordRead.the-variants.{Read, End, Malformed}
-use Rattle.trace.specs.Written.{Small}
 use Rattle.trace.proofs.Read.{read-from}
 use Rattle.trace.proofs.Back.{record-back}
 use Rattle.report.specs.Records.{withRead, recordsIn}

@@ -8,8 +8,8 @@ use Rattle.problem.specs.declared.Record.{Record}
 use Rattle.trace.specs.Trace.{recordAt}
 use Rattle.fields.specs.Print.{decimal, stepText, stepLines}
 use Rattle.trace.specs.declared.RecordRead.the-variants.{Read, End, Malformed}
-use Rattle.trace.specs.Written.{written}
-use Rattle.trace.proofs.Written.{written-nil, length-written}
+use Rattle.buffers.specs.Written.{written}
+use Rattle.buffers.proofs.Written.{written-nil, length-written}
 use Rattle.fields.proofs.Laws.{Puts, after}
 use Rattle.report.specs.Records.{recordsIn}
 use Rattle.report.proofs.Records.{one-read, none-read, end-read, malformed-read}

@@ -23,7 +23,8 @@ use Rattle.sheet.specs.declared.SheetRead.{SheetRead}
 use Rattle.sheet.specs.declared.SheetRead.the-variants as read
 use Rattle.sheet.proofs.Accepted.{keeps, problem-bounded}
 use Rattle.run.specs.Numbers.{runRefusalNumber}
-use Rattle.trace.specs.Trace.{traceBytes, fronted}
+use Rattle.trace.specs.Trace.{traceBytes}
+use Rattle.buffers.specs.Written.{fronted, written}
 use Rattle.run.specs.Run.{RunResult, runDone, runJob}
 use Rattle.fields.specs.Print.{field, sheetWord, endWord, stepLines, refusedLine, runLines, sheetLines}
 use Rattle.run.specs.declared.RunAnswer.{RunAnswer}
@@ -33,8 +34,7 @@ use Rattle.run.specs.declared.RunOutcome.the-variants.{Done, Refused}
 use Rattle.run.proofs.Ran.{ran-iff}
 use Rattle.jobs.proofs.Opened.{sheet-refused, sheet-kept}
 use Rattle.run.proofs.Opened.{run-sheet-refused, run-accepted}
-use Rattle.trace.specs.Written.{written}
-use Rattle.trace.proofs.Written.{written-front}
+use Rattle.buffers.proofs.Written.{written-front}
 use Rattle.fields.proofs.Laws.{Puts, after}
 use Rattle.report.specs.Records.{recordsIn}
 use Rattle.report.specs.Report.{textIn, Ran}

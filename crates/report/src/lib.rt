@@ -6,19 +6,18 @@ ghost use Rattle.bounded.specs.Bounded.{oneIf, countBelow, sumTo};
 ghost use Rattle.bounded.specs.Mask.{bit};
 ghost use Rattle.problem.specs.Problem.{sizeSum};
 ghost use Rattle.problem.specs.Masks.{stateOf};
-ghost use Rattle.sheet.specs.Bytes.{Is};
+ghost use Rattle.buffers.specs.Bytes.{Is};
 ghost use Rattle.sheet.specs.Sheet.{layout, Keeps};
 ghost use Rattle.sheet.specs.Relation.{problemOf};
-ghost use Rattle.trace.specs.Trace.{fronted};
+ghost use Rattle.buffers.specs.Written.{fronted, written};
 ghost use Rattle.fields.specs.Print.{stepLines, runLines, sheetLines};
-ghost use Rattle.trace.specs.Written.{written};
 ghost use Rattle.report.specs.Records.{recordsIn};
 ghost use Rattle.report.specs.Report.{reportRoom, reportText, Ran};
 use bounded::has32;
 use problem::End;
 use problem::Masks;
 use run::RunOutcome;
-use sheet::byte;
+use buffers::byte;
 use trace::RecordRead;
 
 // ---- counts of the last state

@@ -25,9 +25,10 @@ use Rattle.problem.specs.Sentences.{Fits}
 use Rattle.problem.proofs.Trace.{after-fits, trace-by-iff}
 use Rattle.problem.proofs.Wider.{lawful-widens, trace-stays, endBefore, Added, run-extends}
 use Rattle.sheet.specs.Sheet.{layout}
-use Rattle.sheet.specs.Bytes.{byteAt}
+use Rattle.buffers.specs.Bytes.{byteAt}
 use Rattle.sheet.specs.Relation.{problemOf}
-use Rattle.trace.specs.Trace.{recordBytes, recordsBytes, traceBytes, fronted, recordAt}
+use Rattle.trace.specs.Trace.{recordBytes, recordsBytes, traceBytes, recordAt}
+use Rattle.buffers.specs.Written.{fronted}
 use Rattle.put_back.specs.Numbers.{putBackNumber}
 use Rattle.run.specs.Run.{RunResult, ranThrough, bufferShort}
 use Rattle.put_back.specs.PutBack.{PutBackResult, unlawfulRecord, Checked, Lawful, Fault, withRecord, afterCheck}

@@ -10,7 +10,8 @@ use Rattle.trace.specs.Trace.{traceBytes}
 use Rattle.run.specs.Run.{runOver, runJob}
 use Rattle.run.proofs.Opened.{run-kept}
 use Rattle.run.proofs.Worked.{run-worked-over}
-use Rattle.trace.proofs.Fronted.{AtFront, fronted-bytes}
+use Rattle.buffers.proofs.Written.{fronted-bytes}
+use Rattle.buffers.specs.Written.{AtFront}
 
 -- the buffer of an accepted run
 pub run-bytes-over : (P : Problem) (b : List ℕ) → 1 + 5 * sizeSum P ≤ length b → AtFront (traceBytes (run P (full P))) b ((runOver P b) .buffer)

@@ -25,7 +25,8 @@ use Rattle.problem.proofs.Run.{run-lawful, run-complete, run-short, end-says}
 use Rattle.sheet.specs.Sheet.{layout, Keeps}
 use Rattle.sheet.specs.Relation.{problemOf}
 use Rattle.sheet.proofs.Accepted.{problem-bounded}
-use Rattle.trace.specs.Trace.{recordBytes, recordsBytes, traceBytes, fronted}
+use Rattle.trace.specs.Trace.{recordBytes, recordsBytes, traceBytes}
+use Rattle.buffers.specs.Written.{fronted}
 use Rattle.run.specs.Run.{RunResult, runDone, runOver, runJob}
 use Rattle.run.specs.declared.RunAnswer.{RunAnswer}
 use Rattle.run.specs.declared.RunOutcome.the-variants.{Done}

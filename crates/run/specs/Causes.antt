@@ -14,7 +14,8 @@ use Rattle.problem.specs.Order.{FirstLawful}
 use Rattle.problem.specs.Published.{Published}
 use Rattle.problem.specs.declared.Record.{Record}
 use Rattle.jobs.specs.Causes.{Whose, Sheets, Own, SheetCause}
-use Rattle.trace.specs.Trace.{traceBytes, fronted}
+use Rattle.trace.specs.Trace.{traceBytes}
+use Rattle.buffers.specs.Written.{fronted}
 use Rattle.run.specs.Run.{RunResult}
 use Rattle.run.specs.declared.RunOutcome.{RunOutcome}
 use Rattle.run.specs.declared.RunOutcome.the-variants.{Done, Refused}

@@ -8,7 +8,8 @@ use Rattle.problem.specs.Problem.{Problem, full, sizeSum}
 use Rattle.problem.specs.Reduce.{run, afterTrace, endOf}
 use Rattle.problem.specs.Masks.{masksOf, emptyMasks}
 use Rattle.problem.specs.declared.Record.{Record}
-use Rattle.trace.specs.Trace.{traceBytes, fronted}
+use Rattle.trace.specs.Trace.{traceBytes}
+use Rattle.buffers.specs.Written.{fronted}
 use Rattle.jobs.specs.WithSheet.{withSheet}
 use Rattle.run.specs.declared.RunAnswer.{RunAnswer}
 use Rattle.run.specs.declared.RunRefusal.{RunRefusal}

@@ -14,7 +14,7 @@ use Rattle.bounded.proofs.Truth.{T-true, T-of, T-not, both, neither}
 use Rattle.bounded.proofs.Bounded.{count-lt}
 use Rattle.problem.specs.Held.{Bounded}
 use Rattle.problem.proofs.BothWays.{both-up, both-down, both-same}
-use Rattle.sheet.specs.Bytes.{byteAt}
+use Rattle.buffers.specs.Bytes.{byteAt}
 use Rattle.sheet.specs.Sheet.{Layout, oneByte, layout, versionOf, lengthOf, variablesOf, blocksOf, sizeAt, rowWidth, rowBytes, allowsAll, blockAt, refuseIf, afterBlock, blocksFrom, badCount, badSizes, readSheet, Keeps, Front}
 use Rattle.sheet.specs.Relation.{rowsFrom, rowsOf, rowIn, rowsAllow, pairAllowed, sizeOf, listed, allowedOf, problemOf}
 use Rattle.sheet.specs.Parts.{BlockAt}

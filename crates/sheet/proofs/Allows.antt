@@ -8,7 +8,7 @@ use lib.ListN.{length}
 use lib.Pow.{pow-pos, pow-mono}
 use Rattle.bounded.specs.Mask.{bit}
 use Rattle.bounded.proofs.Truth.{T-true, T-false}
-use Rattle.sheet.specs.Bytes.{byteAt, numberAt}
+use Rattle.buffers.specs.Bytes.{byteAt, numberAt}
 use Rattle.sheet.specs.Sheet.{Layout, sizeAt, rowWidth, rowBytes, inOrder, blockOf}
 use Rattle.sheet.specs.Relation.{rowsOf, rowIn, rowsAllow, listed, allowedOf}
 use Rattle.sheet.specs.declared.Block.the-variants.{Next}

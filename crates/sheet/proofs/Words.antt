@@ -14,7 +14,7 @@ use Rattle.bounded.proofs.Mask.{mask-lt, bit-mask, bit-high, full-bit}
 use Rattle.problem.specs.Problem.{Problem}
 use Rattle.problem.specs.Held.{rowWord}
 use Rattle.problem.proofs.HeldTable.{row-only, row-word}
-use Rattle.sheet.specs.Bytes.{numberAt}
+use Rattle.buffers.specs.Bytes.{numberAt}
 use Rattle.sheet.specs.Sheet.{Layout, layout, versionOf, variablesOf, sizeAt, rowWidth, Keeps}
 use Rattle.sheet.specs.Relation.{rowsFrom, rowsOf, rowIn, rowsAllow, pairAllowed, listed, problemOf}
 use Rattle.sheet.specs.Parts.{pairRows}

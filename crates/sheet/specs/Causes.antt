@@ -4,7 +4,7 @@ use mathlib.Core.List.{List}
 use mathlib.Core.Logic.{_⊎_, _≢_}
 use Prim.Native.Nat.{ℕ, zero, suc, _+_, _*_, _^_, _≤_, _<_}
 use lib.ListN.{length}
-use Rattle.sheet.specs.Bytes.{byteAt}
+use Rattle.buffers.specs.Bytes.{byteAt}
 use Rattle.sheet.specs.Sheet.{layout, versionOf, lengthOf, variablesOf, blocksOf, sizeAt, rowBytes}
 use Rattle.sheet.specs.Relation.{rowIn}
 use Rattle.sheet.specs.declared.SheetRefusal.{SheetRefusal}

@@ -1,4 +1,3 @@
-pub mod Bytes
 pub mod Sheet
 pub mod Relation
 pub mod Row

@@ -5,7 +5,7 @@ use mathlib.Core.List.{List}
 use Prim.Native.Nat.{ℕ, _+_, _-_, _≤_, _<_}
 use lib.Dec.{ltb}
 use lib.ListN.{length}
-use Rattle.sheet.specs.Bytes.{byteAt}
+use Rattle.buffers.specs.Bytes.{byteAt}
 use Rattle.sheet.specs.Sheet.{Layout, variablesOf, rowBytes}
 use Rattle.sheet.specs.Relation.{rowsOf}
 use Rattle.sheet.specs.declared.Rows.{Rows}

@@ -6,7 +6,7 @@ use Prim.Native.Nat.{ℕ, zero, suc, _+_, _*_}
 use lib.Dec.{ltb, eqb}
 use Rattle.bounded.specs.Mask.{bit}
 use Rattle.problem.specs.Problem.{Problem, bothWays, both-ways-symmetric}
-use Rattle.sheet.specs.Bytes.{byteAt, numberAt}
+use Rattle.buffers.specs.Bytes.{byteAt, numberAt}
 use Rattle.sheet.specs.Sheet.{Layout, variablesOf, blocksOf, sizeAt, rowWidth, rowBytes}
 use Rattle.sheet.specs.declared.Rows.{Rows}
 use Rattle.sheet.specs.declared.Rows.the-variants.{At, Unconstrained}

@@ -5,7 +5,7 @@ use mathlib.Core.List.{List, [], _∷_}
 use Prim.Native.Nat.{ℕ, _+_, _-_, _*_, _^_}
 use lib.Dec.{ltb, eqb}
 use Rattle.bounded.specs.Mask.{bit, maskOf}
-use Rattle.sheet.specs.Bytes.{byteAt}
+use Rattle.buffers.specs.Bytes.{byteAt}
 use Rattle.sheet.specs.Sheet.{layout, sizeAt, rowWidth}
 use Rattle.sheet.specs.Relation.{rowsOf}
 use Rattle.sheet.specs.declared.Rows.{Rows}

@@ -1,11 +1,13 @@
-// The sheet's layout: its types, the numbers of its refusals, and its numbers and rows read at a place.
+// The sheet's layout: its types, the numbers of its refusals, and its rows read at a place.
 ghost use mathlib.Core.Path.{_≡_};
 ghost use Prim.Native.Nat.{_+_, _*_, _<_, _≤_};
 ghost use lib.ListN.{length};
-ghost use Rattle.sheet.specs.Bytes.{byteAt, numberAt, Is};
+ghost use Rattle.buffers.specs.Bytes.{numberAt, Is};
 ghost use Rattle.sheet.specs.Sheet.{layout, sheetNumber, variablesOf, rowWidth, Front};
 ghost use Rattle.sheet.specs.Parts.{Width};
 ghost use Rattle.sheet.specs.declared.Rows.the-variants.{At};
+use buffers::byte;
+use buffers::word;
 
 // Why a sheet is turned away: one case for each row of the format's table.
 pub enum SheetRefusal {
@@ -59,34 +61,6 @@ pub fn sheet_number(r: SheetRefusal) -> u8
     }
 }
 
-// ---- reading numbers
-
-// The byte at k.
-pub fn byte(s: &[u8], k: usize) -> usize
-    requires { ⌜ k < length (now s) ⌝ }
-    ensures { λ r. ⌜ Is (byteAt (now (s .entry)) k) 256 r ⌝ }
-{
-    s[k] as usize
-}
-
-// The number of two bytes at k, the first worth the most.
-pub fn two(s: &[u8], k: usize) -> usize
-    requires { ⌜ k + 1 < length (now s) ⌝ }
-    ensures { λ r. ⌜ Is (numberAt (now (s .entry)) 2 k) 65536 r ⌝ }
-{
-    let high = byte(s, k);
-    let low = byte(s, k + 1);
-    high * 256 + low
-}
-
-// The number of four bytes at k.
-pub fn four(s: &[u8], k: usize) -> usize
-    requires { ⌜ k + 3 < length (now s) ⌝ }
-    ensures { λ r. ⌜ Is (numberAt (now (s .entry)) 4 k) 4294967296 r ⌝ }
-{
-    two(s, k) * 65536 + two(s, k + 2)
-}
-
 // ---- what the version decides
 
 // Whether a version is taken.
@@ -110,7 +84,7 @@ pub fn row(s: &[u8], w: usize, p: usize) -> usize
     requires { ⌜ (1 ≤ w) × ((w ≤ 2) × (p + w ≤ length (now s))) ⌝ }
     ensures { λ r. ⌜ Is (numberAt (now (s .entry)) w p) 65536 r ⌝ }
 {
-    if w == 1 { byte(s, p) } else { two(s, p) }
+    if w == 1 { byte(s, p) } else { word(s, p) }
 }
 
 // The bytes of a row of a block whose second item is j.

@@ -6,7 +6,7 @@ use native.Mathlib.Nat.{add-zero}
 use native.Mathlib.Omega.{arith}
 use lib.ListN.{length, getD, length-append}
 use lib.Seq.{getD-append-add}
-use Rattle.sheet.specs.Bytes.{byteAt}
+use Rattle.buffers.specs.Bytes.{byteAt}
 use Rattle.problem.specs.Record.{fieldsOf, recordOf}
 use Rattle.problem.specs.declared.Record.{Record}
 use Rattle.problem.proofs.Apart.{kind-fields, fields-few}

@@ -6,7 +6,7 @@ use Prim.Native.Nat.{ℕ, _+_, _≤_, _<_}
 use native.Mathlib.Omega.{arith}
 use lib.ListN.{length}
 use borrow.Author.Tests.{lt-ltb, le-ltb}
-use Rattle.sheet.specs.Bytes.{byteAt}
+use Rattle.buffers.specs.Bytes.{byteAt}
 use Rattle.problem.specs.declared.Record.{Record}
 use Rattle.trace.specs.Trace.{recordAt}
 use Rattle.trace.specs.declared.RecordRead.the-variants.{Read}

@@ -10,7 +10,7 @@ use lib.Seq.{drop-cons}
 use Rattle.problem.specs.Record.{kindOf, fieldsOf}
 use Rattle.problem.specs.declared.Record.{Record}
 use Rattle.problem.proofs.Apart.{record-made}
-use Rattle.sheet.specs.Bytes.{byteAt}
+use Rattle.buffers.specs.Bytes.{byteAt}
 use Rattle.trace.specs.Trace.{recordBytes, recordAt}
 use Rattle.trace.specs.declared.RecordRead.the-variants.{Read, End}
 use Rattle.trace.proofs.Read.{ReadFrom, end-only, read-from}

@@ -1,11 +1,11 @@
 -- The trace: "byte 0, version 1, then one record a step: first a length byte (4 for kinds 1, 4, 5; 3 for kinds 2, 3), then the bytes above".
 use mathlib.Core.Bool.{true, false, _&&_}
 use mathlib.Core.List.{List, [], _∷_, _++_}
-use Prim.Native.Nat.{ℕ, suc, _+_}
+use Prim.Native.Nat.{ℕ, suc, _+_, _<_}
 use lib.Dec.{ltb, eqb}
-use lib.ListN.{length, drop}
-use Rattle.sheet.specs.Bytes.{byteAt}
-use Rattle.problem.specs.Record.{kindOf, fieldsOf, recordOf}
+use lib.ListN.{length}
+use Rattle.buffers.specs.Bytes.{byteAt}
+use Rattle.problem.specs.Record.{itemOf, thirdOf, fourthOf, kindOf, fieldsOf, recordOf}
 use Rattle.problem.specs.declared.Record.{Record}
 use Rattle.problem.specs.declared.Numbered.{Numbered}
 use Rattle.problem.specs.declared.Numbered.the-variants.{Kind, NoKind}
@@ -25,9 +25,9 @@ recordsBytes (r ∷ t) = recordBytes r ++ recordsBytes t
 unfoldable pub traceBytes : List Record → List ℕ
 traceBytes t = 1 ∷ recordsBytes t
 
--- "the trace at its front and its old bytes after that"
-abbrev pub fronted : List ℕ → List ℕ → List ℕ
-fronted w d = w ++ drop (length w) d
+-- each field of the record fits a byte
+abbrev pub Small : Record → Type 0
+Small r = (itemOf r < 256) × (thirdOf r < 256) × (fourthOf r < 256)
 
 -- ---- records from bytes
 

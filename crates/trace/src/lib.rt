@@ -2,10 +2,10 @@
 ghost use mathlib.Core.Path.{_≡_};
 ghost use Prim.Native.Nat.{_+_, _<_, _≤_};
 ghost use lib.ListN.{length};
-ghost use Rattle.sheet.specs.Bytes.{byteAt};
-ghost use Rattle.trace.specs.Trace.{recordBytes, numberedAt, recordAt};
-ghost use Rattle.trace.specs.Written.{written, Small};
+ghost use Rattle.trace.specs.Trace.{recordBytes, numberedAt, recordAt, Small};
+ghost use Rattle.buffers.specs.Written.{written};
 ghost use Rattle.trace.specs.Place.{placeAfter};
+use buffers::byte_at;
 use problem::Numbered;
 use problem::Record;
 use problem::parts_of;
@@ -20,26 +20,16 @@ pub enum RecordRead {
 
 // ---- reading
 
-// The byte at k, or 0 past the end.
-fn byte(s: &[u8], k: usize) -> usize
-    ensures { λ r. ⌜ r ≡ byteAt (now (s .entry)) k ⌝ }
-{
-    if k < s.len() {
-        return s[k] as usize;
-    }
-    0
-}
-
 // The record that the bytes after a length byte at p make.
 fn numbered_at(s: &[u8], p: usize) -> Numbered
     requires { ⌜ p < length (now s) ⌝ }
     ensures { λ r. ⌜ r ≡ numberedAt (now (s .entry)) p ⌝ }
 {
     record_of(
-        byte(s, p + 1),
-        byte(s, p + 2),
-        byte(s, p + 3),
-        byte(s, p + 4),
+        byte_at(s, p + 1),
+        byte_at(s, p + 2),
+        byte_at(s, p + 3),
+        byte_at(s, p + 4),
     )
 }
 
@@ -50,7 +40,7 @@ pub fn record_at(s: &[u8], at: usize) -> RecordRead
     if s.len() <= at {
         return RecordRead::End;
     }
-    let n = byte(s, at);
+    let n = byte_at(s, at);
     // Cut short.
     if s.len() - at <= n {
         return RecordRead::Malformed;
@@ -77,7 +67,7 @@ fn place_after(s: &[u8], at: usize) -> usize
     if s.len() <= at {
         return at;
     }
-    let n = byte(s, at);
+    let n = byte_at(s, at);
     if n < s.len() - at {
         return at + 1 + n;
     }

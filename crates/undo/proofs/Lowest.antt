@@ -19,7 +19,7 @@ use Rattle.problem.specs.declared.Masks.{Masks}
 use Rattle.problem.proofs.HeldTable.{held-narrow}
 use Rattle.held.specs.Ready.{Ready, Values}
 use Rattle.held.proofs.Laws.{live-value}
-use Rattle.sheet.specs.Bytes.{Is}
+use Rattle.buffers.specs.Bytes.{Is}
 
 -- the lowest member of a set of values, or the size where it has none
 module _ {t : List ℕ} (R : RowTable t) (i set : ℕ) (own : Values t i set) where

@@ -13,7 +13,7 @@ ghost use Rattle.problem.specs.Held.{held, RowTable};
 ghost use Rattle.problem.specs.Masks.{stateOf, sets};
 ghost use Rattle.problem.specs.declared.Record.the-variants.{Snake, Triangle};
 ghost use Rattle.held.specs.Ready.{Ready, Value, Values};
-ghost use Rattle.sheet.specs.Bytes.{Is};
+ghost use Rattle.buffers.specs.Bytes.{Is};
 ghost use Rattle.replay.specs.Walk.{checkedFrom};
 ghost use Rattle.undo.specs.Undone.{mended as mendedAt, UndoneTo, Undoable, UndoableFrom, undoneBy};
 ghost use Rattle.undo.specs.Found.{isRecord, LawfulFound, afterFound, UndoableFound, undoneFound};

@@ -6,10 +6,10 @@ use native.Mathlib.Omega.{arith}
 use lib.ListN.{length, getD, take}
 use mir.Val.{Fits}
 use mir.Syntax.{w32}
-use Rattle.sheet.specs.Bytes.{numberBytes}
-use Rattle.trace.specs.Written.{written}
-use Rattle.boundary.specs.State.{wordsBytes}
-use Rattle.boundary.proofs.Bytes.{words-none, words-put, state-put}
+use Rattle.buffers.specs.Bytes.{numberBytes, wordsBytes}
+use Rattle.buffers.specs.Written.{written}
+use Rattle.boundary.proofs.Bytes.{state-put}
+use Rattle.buffers.proofs.Words.{words-none, words-put}
 use borrow.Author.Needs.{needs}
 use Rattle.boundary.proofs.put_state.Statement.{statement}
 use Rattle.boundary.proofs.put_state.Tie as tie
@@ -33,7 +33,7 @@ put-word-requires-2 : tie.Need-put-word-requires-2 Inv-loop μ-loop
 put-word-requires-2 c κs = search needs
 
 loop-holds : tie.Need-loop-holds Inv-loop μ-loop
-loop-holds c = (search needs, search needs, sym (words-none _))
+loop-holds c = (search needs, search needs, sym (words-none _ _))
 
 mul-put-word : tie.Need-mul-put-word Inv-loop μ-loop
 mul-put-word c = search needs
@@ -64,7 +64,7 @@ loop-again c =
     let k : length (m .domains) ≡ 32 = search needs in
     let l : length b ≡ 68 = search needs in
     let e = c .before .before .put-word3 .ensures ∙ ap (λ (d : List ℕ). written d (4 + 2 * w .i) (numberBytes 2 (getD (m .domains) (w .i) 0))) (w .inv .2) in
-    (omega arith, search needs, e ∙ words-put b (m .domains) (w .i) (omega arith) (omega arith))
+    (omega arith, search needs, e ∙ words-put b (m .domains) 4 (w .i) (omega arith) (omega arith))
 
 same-length : tie.Need-same-length Inv-loop μ-loop
 same-length c = search needs

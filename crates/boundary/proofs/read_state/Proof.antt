@@ -7,7 +7,7 @@ use denote.Ref.{now}
 use Rattle.bounded.specs.Table.{filled}
 use Rattle.bounded.proofs.Table.{filled-none, filled-more, filled-end}
 use Rattle.problem.specs.declared.Masks.{Masks}
-use Rattle.sheet.specs.Bytes.{numberAt}
+use Rattle.buffers.specs.Bytes.{numberAt}
 use Rattle.boundary.specs.State.{masksIn}
 use borrow.Author.Needs.{needs}
 use Rattle.boundary.proofs.read_state.Statement.{statement}

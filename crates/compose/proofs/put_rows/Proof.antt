@@ -7,11 +7,11 @@ use denote.Ref.{now}
 use lib.ListN.{length}
 use Rattle.problem.specs.Held.{held}
 use Rattle.problem.proofs.HeldTable.{held-few, held-narrow}
-use Rattle.sheet.specs.Bytes.{numberBytes}
+use Rattle.buffers.specs.Bytes.{numberBytes}
 use Rattle.sheet.specs.Sheet.{layout}
 use Rattle.compose.specs.Compose.{rowNumber, rowsBytes}
 use Rattle.compose.specs.Parts.{Underway}
-use Rattle.compose.proofs.Stands.{length-number}
+use Rattle.buffers.proofs.Stands.{length-number}
 use Rattle.compose.proofs.Blocks.{layout-roomy}
 use Rattle.compose.proofs.Writing.{starts, writes, part-room, ends, wrote-number, rows-step, rows-none}
 use borrow.Author.Needs.{needs}

@@ -8,7 +8,7 @@ use lib.ListN.{length, set, length-set}
 use Rattle.bounded.specs.Table.{tab}
 use Rattle.problem.specs.Held.{held}
 use Rattle.problem.proofs.HeldTable.{held-few, held-narrow}
-use Rattle.trace.specs.Written.{written}
+use Rattle.buffers.specs.Written.{written}
 use Rattle.compose.proofs.Writing.{tab-none, tab-next}
 use borrow.Author.Needs.{needs}
 use Rattle.compose.proofs.put_sizes.Statement.{statement}

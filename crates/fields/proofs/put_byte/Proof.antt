@@ -1,7 +1,7 @@
 -- `fields::put_byte`: one store.
 use mathlib.Core.Path.{refl}
 use native.Mathlib.Omega.{arith}
-use Rattle.trace.proofs.Written.{written-one}
+use Rattle.buffers.proofs.Written.{written-one}
 use borrow.Author.Needs.{needs}
 use Rattle.fields.proofs.put_byte.Statement.{statement}
 use Rattle.fields.proofs.put_byte.Tie as tie

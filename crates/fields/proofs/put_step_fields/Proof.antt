@@ -6,7 +6,7 @@ use native.Mathlib.Omega.{arith}
 use lib.ListN.{length}
 use Rattle.problem.proofs.Apart.{parts-two, parts-three}
 use Rattle.fields.specs.Print.{field, fieldsText}
-use Rattle.trace.proofs.Written.{small-parts}
+use Rattle.trace.proofs.Parts.{small-parts}
 use Rattle.fields.proofs.Laws.{same-text, after}
 use borrow.Author.Needs.{needs}
 use Rattle.fields.proofs.put_step_fields.Statement.{statement}

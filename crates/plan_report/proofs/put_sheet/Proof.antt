@@ -7,7 +7,7 @@ use lib.Seq.{length-take-le}
 use Rattle.sheet.specs.Sheet.{layout}
 use Rattle.sheet.proofs.Accepted.{keeps}
 use Rattle.fields.specs.Print.{refusedLine}
-use Rattle.trace.specs.Written.{written}
+use Rattle.buffers.specs.Written.{written}
 use Rattle.plan_report.proofs.Text.{refused-lines, few-items, blank-plan}
 use borrow.Author.Needs.{needs}
 use Rattle.plan_report.proofs.put_sheet.Statement.{statement}

@@ -15,15 +15,15 @@ returns c = λ least. sym (blocks-over layout (now (c .before .before .args .s))
 byte-requires : tie.Need-byte-requires
 byte-requires c κs = let f = c .before .before .pre .room in omega arith
 
-two-requires : tie.Need-two-requires
-two-requires c κs = let f = c .before .before .before .pre .room in omega arith
+word-requires : tie.Need-word-requires
+word-requires c κs = let f = c .before .before .before .pre .room in omega arith
 
 returns-2 : tie.Need-returns-2
 returns-2 c =
     let s = now (c .before .before .before .before .args .s) in
     λ least.
-    ap (λ (x : ℕ). Accepted x (c .two .result)) (c .before .byte .ensures .is) ∙ ap (Accepted (variablesOf s)) (c .two .ensures .is)
+    ap (λ (x : ℕ). Accepted x (c .word .result)) (c .before .byte .ensures .is) ∙ ap (Accepted (variablesOf s)) (c .word .ensures .is)
     ∙ sym (blocks-end layout s least (c .before .before .before .before .args .p) (c .before .before .if1 .left))
 
 pub after-blocks-spec : {M : Type 1} → statement M
-after-blocks-spec = tie.close (tie.spec returns byte-requires two-requires returns-2)
+after-blocks-spec = tie.close (tie.spec returns byte-requires word-requires returns-2)

@@ -5,7 +5,7 @@ use native.Mathlib.Omega.{arith}
 use lib.ListN.{length}
 use denote.Ref.{now}
 use borrow.Author.Needs.{needs}
-use Rattle.sheet.specs.Bytes.{byteAt}
+use Rattle.buffers.specs.Bytes.{byteAt}
 use Rattle.sheet.specs.Sheet.{layout, variablesOf, blocksOf, blocksFrom}
 use Rattle.sheet.proofs.Laws.{in-order, Whole, whole, blocks-fault, blocks-next}
 use Rattle.read_sheet.proofs.Stores.{clear-local}
@@ -30,8 +30,8 @@ pair c =
     let o = in-order layout s (l .least) (byteAt s (l .at)) (byteAt s (l .at + 1)) (block c .order) in
     (o .0, omega (arith, o .1 .0, c .before .before .before .before .before .before .before .before .before .before .pre .0 .few))
 
-two-requires : tie.Need-two-requires Inv-loop μ-loop
-two-requires c κs = let f = c .before .before .pre .0 .room in omega arith
+word-requires : tie.Need-word-requires Inv-loop μ-loop
+word-requires c κs = let f = c .before .before .pre .0 .room in omega arith
 
 byte-requires : tie.Need-byte-requires Inv-loop μ-loop
 byte-requires c κs = let f = c .before .before .before .pre .0 .room in omega arith
@@ -43,7 +43,7 @@ loop-holds : tie.Need-loop-holds Inv-loop μ-loop
 loop-holds c =
     let p = c .before .before .before .before .pre in
     let f = p .0 .room in
-    rw (c .byte .ensures .is, c .before .two .ensures .is) (refl, omega arith, pass-first _ _ (p .0) (p .1))
+    rw (c .byte .ensures .is, c .before .word .ensures .is) (refl, omega arith, pass-first _ _ (p .0) (p .1))
 
 block-at-requires : tie.Need-block-at-requires Inv-loop μ-loop
 block-at-requires c κs = (c .before .before .before .before .before .before .before .pre .0, c .before .before .loop .inv .1, clear-local)
@@ -119,7 +119,7 @@ blocks-spec =
     (tie.spec
     Inv-loop
     μ-loop
-    two-requires
+    word-requires
     byte-requires
     add-at
     loop-holds

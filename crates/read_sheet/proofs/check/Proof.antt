@@ -17,8 +17,8 @@ Inv-loop s left₀ least₀ at₀ left least at = (blocksFrom layout s (blocksOf
 abbrev μ-loop : tie.MeasureT-loop
 μ-loop s left₀ least₀ at₀ left least at = left
 
-two-requires : tie.Need-two-requires Inv-loop μ-loop
-two-requires c κs = let f = c .before .pre .room in omega arith
+word-requires : tie.Need-word-requires Inv-loop μ-loop
+word-requires c κs = let f = c .before .pre .room in omega arith
 
 byte-requires : tie.Need-byte-requires Inv-loop μ-loop
 byte-requires c κs = let f = c .before .before .pre .room in omega arith
@@ -27,7 +27,7 @@ add-at : tie.Need-add-at Inv-loop μ-loop
 add-at c = search needs
 
 loop-holds : tie.Need-loop-holds Inv-loop μ-loop
-loop-holds c = let f = c .before .before .before .pre .room in rw (c .byte .ensures .is, c .before .two .ensures .is) (refl, omega arith)
+loop-holds c = let f = c .before .before .before .pre .room in rw (c .byte .ensures .is, c .before .word .ensures .is) (refl, omega arith)
 
 block-at-requires : tie.Need-block-at-requires Inv-loop μ-loop
 block-at-requires c κs = (c .before .before .before .before .before .before .pre, c .before .before .loop .inv .1, clear-local)
@@ -73,7 +73,7 @@ check-spec =
     (tie.spec
     Inv-loop
     μ-loop
-    two-requires
+    word-requires
     byte-requires
     add-at
     loop-holds

@@ -41,8 +41,8 @@ takes-requires c κs = search needs
 returns-2 : tie.Need-returns-2
 returns-2 c = front-refused _ _ (sheet-version _ _ (omega arith) (tested false (c .before) (not-true _ (c .if2 .taken))))
 
-four-requires : tie.Need-four-requires
-four-requires c κs = search needs
+long-requires : tie.Need-long-requires
+long-requires c κs = search needs
 
 returns-3 : tie.Need-returns-3
 returns-3 c = front-refused _ _ (sheet-length _ _ (omega arith) (version (c .before .before)) (λ e. c .if3 .taken (omega arith)))
@@ -72,8 +72,8 @@ returns-7 c =
     let f : c .before .before .before .before .before .byte2 .result ≡ 0 → ⊥ = c .before .before .before .before .if4 .left in
     front-refused _ _ (sheet-sizes _ _ (omega arith) (version (c .before .before .before .before .before .before .before .before)) (omega arith) (omega arith) (omega arith) (omega arith) (sizes true (c .before) (c .if7 .taken)))
 
-two-requires : tie.Need-two-requires
-two-requires c κs = search needs
+word-requires : tie.Need-word-requires
+word-requires c κs = search needs
 
 returns-8 : tie.Need-returns-8
 returns-8 c =
@@ -91,7 +91,7 @@ front-spec =
     byte-requires
     takes-requires
     returns-2
-    four-requires
+    long-requires
     returns-3
     byte-requires-2
     returns-4
@@ -100,5 +100,5 @@ front-spec =
     returns-6
     bad-sizes-requires
     returns-7
-    two-requires
+    word-requires
     returns-8)

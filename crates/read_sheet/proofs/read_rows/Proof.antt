@@ -5,7 +5,7 @@ use native.Mathlib.Nat.{add-mul}
 use native.Mathlib.Omega.{arith}
 use denote.Ref.{now}
 use borrow.Author.Needs.{needs}
-use Rattle.sheet.specs.Bytes.{numberAt}
+use Rattle.buffers.specs.Bytes.{numberAt}
 use Rattle.sheet.proofs.Laws.{row-within}
 use Rattle.table.specs.Parts.{Wrote}
 use Rattle.table.proofs.Stores.{wrote-none}

@@ -4,7 +4,7 @@ use native.Mathlib.Nat.{zero-add}
 use native.Mathlib.Omega.{arith}
 use lib.ListN.{length}
 use Rattle.fields.specs.Print.{refusedLine}
-use Rattle.trace.specs.Written.{written}
+use Rattle.buffers.specs.Written.{written}
 use Rattle.report.proofs.Text.{done-keeps, done-ran, read-lines, refused-text}
 use borrow.Author.Needs.{needs}
 use Rattle.report.proofs.put_sheet.Statement.{statement}

@@ -2,7 +2,7 @@
 use mathlib.Core.Path.{_≡_, sym, ap, _∙_}
 use Prim.Native.Nat.{ℕ}
 use denote.Ref.{now}
-use Rattle.sheet.specs.Bytes.{numberAt}
+use Rattle.buffers.specs.Bytes.{numberAt}
 use borrow.Author.Needs.{needs}
 use native.Mathlib.Omega.{arith}
 use Rattle.sheet.proofs.row.Statement.{statement}
@@ -11,8 +11,8 @@ use Rattle.sheet.proofs.row.Tie as tie
 byte-requires : tie.Need-byte-requires
 byte-requires c κs = search needs
 
-two-requires : tie.Need-two-requires
-two-requires c κs = search needs
+word-requires : tie.Need-word-requires
+word-requires c κs = search needs
 
 returns : tie.Need-returns
 returns c =
@@ -24,7 +24,7 @@ returns-2 c =
     let n : c .before .before .before .args .w ≡ 1 → ⊥ = c .before .if1 .left in
     let t : c .before .before .before .args .w ≡ 2 = omega arith in
     let e = ap (λ (w : ℕ). numberAt (now (c .before .before .before .args .s)) w (c .before .before .before .args .p)) t in
-    record { is = c .two .ensures .is ∙ sym e; below = omega arith }
+    record { is = c .word .ensures .is ∙ sym e; below = omega arith }
 
 pub row-spec : {M : Type 1} → statement M
-row-spec = tie.close (tie.spec byte-requires two-requires returns returns-2)
+row-spec = tie.close (tie.spec byte-requires word-requires returns returns-2)

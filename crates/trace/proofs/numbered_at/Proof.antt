@@ -13,4 +13,4 @@ numbered-at-spec =
     (λ c. search needs) (λ c κs. search needs)
     (λ c. search needs) (λ c κs. search needs)
     (λ c κs. search needs)
-    (λ c. c .record-of .ensures ∙ rw (c .before .byte4 .ensures, c .before .before .byte3 .ensures, c .before .before .before .byte2 .ensures, c .before .before .before .before .byte .ensures)))
+    (λ c. c .record-of .ensures ∙ rw (c .before .byte-at4 .ensures, c .before .before .byte-at3 .ensures, c .before .before .before .byte-at2 .ensures, c .before .before .before .before .byte-at .ensures)))

@@ -25,7 +25,7 @@ record-at-spec =
     (λ c. let w = c .before .before .before in
     let r = w .before .«record» .given .0 .0 in
     let k = parts-few _ r (c .before .before .parts-of .ensures) .0 in
-    let n = w .before .before .before .before .before .byte .ensures in
+    let n = w .before .before .before .before .before .byte-at .ensures in
     sym (at-wrong _ _ r (omega arith) (sym (w .before .before .before .numbered-at .ensures) ∙ w .before .«record» .given .1) (λ e. c .if3 .taken (omega arith))))
     (λ c. search needs)
     (λ c. search needs)
@@ -33,6 +33,6 @@ record-at-spec =
     (λ c. let w = c .before .before .before in
     let r = w .before .«record» .given .0 .0 in
     let k = parts-few _ r (c .before .before .parts-of .ensures) .0 in
-    let n = w .before .before .before .before .before .byte .ensures in
+    let n = w .before .before .before .before .before .byte-at .ensures in
     let a = w .before .before .before .before .before .before .before .before .args in
     ap (λ (x : ℕ). Read r (a .at + 1 + x)) n ∙ sym (at-record _ _ r (omega arith) (sym (w .before .before .before .numbered-at .ensures) ∙ w .before .«record» .given .1) (omega arith))))

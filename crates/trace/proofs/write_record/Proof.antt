@@ -4,8 +4,9 @@ use native.Mathlib.Omega.{arith}
 use native.Mathlib.Numerals.{towards-suc}
 use lib.ListN.{length, length-set}
 use Rattle.problem.proofs.Apart.{parts-few}
-use Rattle.trace.specs.Written.{written}
-use Rattle.trace.proofs.Written.{sets-written, small-parts, two-bytes, three-bytes}
+use Rattle.buffers.specs.Written.{written}
+use Rattle.buffers.proofs.Written.{sets-written}
+use Rattle.trace.proofs.Parts.{small-parts, two-bytes, three-bytes}
 use borrow.Author.Needs.{needs}
 use Rattle.trace.proofs.write_record.Statement.{statement}
 use Rattle.trace.proofs.write_record.Tie as tie

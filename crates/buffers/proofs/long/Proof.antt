@@ -1,24 +1,24 @@
--- `sheet::four`: the third and the fourth byte stand two places on.
+-- `buffers::long`: the third and the fourth byte stand two places on.
 use mathlib.Core.Path.{_≡_, ap}
 use Prim.Native.Nat.{_+_}
 use denote.Ref.{now}
-use Rattle.sheet.specs.Bytes.{byteAt}
+use Rattle.buffers.specs.Bytes.{byteAt}
 use borrow.Author.Needs.{needs}
 use native.Mathlib.Omega.{arith}
-use Rattle.sheet.proofs.four.Statement.{statement}
-use Rattle.sheet.proofs.four.Tie as tie
+use Rattle.buffers.proofs.long.Statement.{statement}
+use Rattle.buffers.proofs.long.Tie as tie
 
-two-requires : tie.Need-two-requires
-two-requires c κs = search needs
+word-requires : tie.Need-word-requires
+word-requires c κs = search needs
 
 mul-result : tie.Need-mul-result
 mul-result c = search needs
 
-add-two : tie.Need-add-two
-add-two c = search needs
+add-word : tie.Need-add-word
+add-word c = search needs
 
-two-requires-2 : tie.Need-two-requires-2
-two-requires-2 c κs = search needs
+word-requires-2 : tie.Need-word-requires-2
+word-requires-2 c κs = search needs
 
 add-result : tie.Need-add-result
 add-result c = search needs
@@ -33,5 +33,5 @@ returns c =
     let f = ap (byteAt s) q in
     record { is = omega arith; below = omega arith }
 
-pub four-spec : {M : Type 1} → statement M
-four-spec = tie.close (tie.spec two-requires mul-result add-two two-requires-2 add-result returns)
+pub long-spec : {M : Type 1} → statement M
+long-spec = tie.close (tie.spec word-requires mul-result add-word word-requires-2 add-result returns)

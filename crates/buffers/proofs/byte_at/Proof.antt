@@ -1,10 +1,10 @@
--- `trace::byte`: past the end a list has its default.
+-- `buffers::byte_at`: past the end a list has its default.
 use mathlib.Core.Path.{sym}
 use native.Mathlib.Omega.{arith}
 use lib.ListN.{List·getD-eq-default}
 use borrow.Author.Needs.{needs}
-use Rattle.trace.proofs.byte.Statement.{statement}
-use Rattle.trace.proofs.byte.Tie as tie
+use Rattle.buffers.proofs.byte_at.Statement.{statement}
+use Rattle.buffers.proofs.byte_at.Tie as tie
 
 shared-slice-read-result : tie.Need-shared-slice-read-result
 shared-slice-read-result c = search needs
@@ -18,5 +18,5 @@ returns c = search needs
 returns-2 : tie.Need-returns-2
 returns-2 c = sym (List·getD-eq-default (c .before .args .s .now) 0 (c .if1 .left))
 
-pub byte-spec : {M : Type 1} → statement M
-byte-spec = tie.close (tie.spec shared-slice-read-result cast-result returns returns-2)
+pub byte-at-spec : {M : Type 1} → statement M
+byte-at-spec = tie.close (tie.spec shared-slice-read-result cast-result returns returns-2)

@@ -1,19 +1,14 @@
--- Laws of a list written over a list. Assumes nothing.
+-- Laws of a list written over a list, and of one at its front. Assumes nothing.
 use mathlib.Core.Path.{_≡_, sym, ap, _∙_}
-use mathlib.Core.List.{List, [], _∷_, _++_, append-assoc}
-use Prim.Native.Nat.{ℕ, suc, _+_, _/_, _%_, _^_, _≤_, _<_}
+use mathlib.Core.List.{List, [], _∷_, _++_, append-assoc, append-nil}
+use Prim.Native.Nat.{ℕ, _+_, _-_, _/_, _%_, _^_, _≤_, _<_}
 use native.Mathlib.Nat.{zero-add, add-zero, add-assoc}
 use native.Mathlib.Numerals.{add-one}
 use native.Mathlib.Omega.{arith}
-use lib.ListN.{length, take, drop, set, length-append, length-drop, take-append-drop}
-use lib.Seq.{sets, sets-eq, length-take-le, take-at, drop-at, drop-drop}
-use Rattle.sheet.specs.Bytes.{numberBytes}
-use Rattle.problem.specs.Record.{fieldsOf, partsOf}
-use Rattle.problem.specs.declared.Record.{Record}
-use Rattle.problem.specs.declared.Parts.{Parts}
-use Rattle.problem.proofs.Apart.{parts-few, parts-two, parts-three}
-use Rattle.trace.specs.Trace.{recordBytes, fronted}
-use Rattle.trace.specs.Written.{written, Small}
+use lib.ListN.{length, take, drop, set, length-append, length-drop, take-append-drop, drop-of-length-le, List·getD-append}
+use lib.Seq.{sets, sets-eq, length-take-le, take-at, drop-at, drop-drop, getD-append-add, getD-drop}
+use Rattle.buffers.specs.Bytes.{byteAt, numberBytes}
+use Rattle.buffers.specs.Written.{written, fronted, AtFront}
 
 -- stores one after the other are one list written
 pub sets-written : (l : List ℕ) (p : ℕ) (w : List ℕ) → p + length w ≤ length l → sets l p w ≡ written l p w
@@ -66,6 +61,11 @@ module _ (b : List ℕ) (p : ℕ) where
       ∙ ap (λ (k : ℕ). drop k b) (add-assoc p (length w) (length v) ∙ ap (λ (k : ℕ). p + k) (sym (length-append w v))) in
       (λ i. take-written w h i ++ (v ++ e i)) ∙ simp append-assoc
 
+-- a list written over the whole of a list
+pub written-all : (b w : List ℕ) → length b ≡ length w → written b 0 w ≡ w
+unfolding written
+written-all b w e = ap (λ (r : List ℕ). w ++ r) (drop-of-length-le b {i = 0 + length w} (omega arith)) ∙ append-nil w
+
 -- the front of a buffer
 pub written-front : (d w : List ℕ) → written d 0 w ≡ fronted w d
 unfolding written
@@ -82,12 +82,13 @@ fronted-more w v d h =
 pub length-fronted : (w d : List ℕ) → length w ≤ length d → length (fronted w d) ≡ length d
 length-fronted w d h = ap length (sym (written-front d w)) ∙ length-written d 0 w (omega arith)
 
--- a record whose fields fit a byte, and its bytes, by its parts
-pub small-parts : (x : Parts) (r : Record) → x ≡ partsOf r → Small r → (x .item < 256) × (x .third < 256) × (x .fourth < 256)
-small-parts x r e h = let i = ap (λ (y : Parts). y .item) e in let j = ap (λ (y : Parts). y .third) e in let k = ap (λ (y : Parts). y .fourth) e in (omega arith, omega arith, omega arith)
-
-pub two-bytes : (x : Parts) (r : Record) → x ≡ partsOf r → x .count ≡ 2 → (1 + x .count) ∷ x .kind ∷ x .item ∷ x .third ∷ [] ≡ recordBytes r
-two-bytes x r e n = let o : 1 + x .count ≡ suc (length (fieldsOf r)) = omega (arith, parts-few x r e .0) in λ t. o t ∷ e t .kind ∷ parts-two x r e n t
-
-pub three-bytes : (x : Parts) (r : Record) → x ≡ partsOf r → (x .count ≡ 2 → ⊥) → (1 + x .count) ∷ x .kind ∷ x .item ∷ x .third ∷ x .fourth ∷ [] ≡ recordBytes r
-three-bytes x r e n = let o : 1 + x .count ≡ suc (length (fieldsOf r)) = omega (arith, parts-few x r e .0) in λ t. o t ∷ e t .kind ∷ parts-three x r e n t
+-- byte by byte
+pub fronted-bytes : (w d : List ℕ) → length w ≤ length d → AtFront w d (fronted w d)
+fronted-bytes w d h =
+    record {
+      long = length-fronted w d h;
+      front = λ k l. List·getD-append w (drop (length w) d) 0 k l;
+      rest = λ k l.
+          let e : k ≡ length w + (k - length w) = omega arith in
+          ap (byteAt (fronted w d)) e ∙ getD-append-add w (drop (length w) d) (k - length w) 0 ∙ getD-drop (length w) d (k - length w) 0 ∙ ap (byteAt d) (sym e);
+    }

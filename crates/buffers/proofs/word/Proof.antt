@@ -1,8 +1,8 @@
--- `sheet::two`: the first byte is worth the most. Assumes nothing.
+-- `buffers::word`: the first byte is worth the most. Assumes nothing.
 use native.Mathlib.Omega.{arith}
 use borrow.Author.Needs.{needs}
-use Rattle.sheet.proofs.two.Statement.{statement}
-use Rattle.sheet.proofs.two.Tie as tie
+use Rattle.buffers.proofs.word.Statement.{statement}
+use Rattle.buffers.proofs.word.Tie as tie
 
 add-byte : tie.Need-add-byte
 add-byte c = search needs
@@ -22,5 +22,5 @@ add-result c = search needs
 returns : tie.Need-returns
 returns c = record { is = omega arith; below = omega arith }
 
-pub two-spec : {M : Type 1} → statement M
-two-spec = tie.close (tie.spec byte-requires add-byte byte-requires-2 mul-result add-result returns)
+pub word-spec : {M : Type 1} → statement M
+word-spec = tie.close (tie.spec byte-requires add-byte byte-requires-2 mul-result add-result returns)

@@ -1,6 +1,6 @@
 -- Numbers in a list of bytes. "Numbers are big-endian."
 use mathlib.Core.Path.{_≡_}
-use mathlib.Core.List.{List, [], _∷_}
+use mathlib.Core.List.{List, [], _∷_, _++_}
 use Prim.Native.Nat.{ℕ, zero, suc, _+_, _*_, _/_, _%_, _^_, _<_}
 use lib.ListN.{getD}
 
@@ -17,6 +17,11 @@ numberAt s (suc w) p = byteAt s p * 256 ^ w + numberAt s w (p + 1)
 abbrev pub numberBytes : ℕ → ℕ → List ℕ
 numberBytes zero x = []
 numberBytes (suc w) x = x / 256 ^ w % 256 ∷ numberBytes w x
+
+-- the 2 bytes of each number of a list
+unfoldable pub wordsBytes : List ℕ → List ℕ
+wordsBytes [] = []
+wordsBytes (x ∷ l) = numberBytes 2 x ++ wordsBytes l
 
 -- each number of a list is a byte's: so it is of every list that is lent
 abbrev pub AreBytes : List ℕ → Type 0

@@ -1,9 +1,9 @@
--- `sheet::byte`: a byte is below 256.
+-- `buffers::byte`: a byte is below 256.
 use mathlib.Core.Path.{refl}
 use borrow.Author.Needs.{needs}
 use native.Mathlib.Omega.{arith}
-use Rattle.sheet.proofs.byte.Statement.{statement}
-use Rattle.sheet.proofs.byte.Tie as tie
+use Rattle.buffers.proofs.byte.Statement.{statement}
+use Rattle.buffers.proofs.byte.Tie as tie
 
 shared-slice-read-result : tie.Need-shared-slice-read-result
 shared-slice-read-result c = search needs

@@ -1,10 +1,10 @@
--- `boundary::put_word`: two bytes stored are a word written. Assumes nothing.
+-- `buffers::put_word`: two bytes stored are a word written. Assumes nothing.
 use native.Mathlib.Omega.{arith}
 use lib.ListN.{length-set}
-use Rattle.trace.proofs.Written.{word-put}
+use Rattle.buffers.proofs.Written.{word-put}
 use borrow.Author.Needs.{needs}
-use Rattle.boundary.proofs.put_word.Statement.{statement}
-use Rattle.boundary.proofs.put_word.Tie as tie
+use Rattle.buffers.proofs.put_word.Statement.{statement}
+use Rattle.buffers.proofs.put_word.Tie as tie
 
 cast-b : tie.Need-cast-b
 cast-b c = search needs

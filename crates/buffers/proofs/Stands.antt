@@ -7,7 +7,7 @@ use native.Mathlib.Omega.{arith}
 use lib.ListN.{length, getD, drop, length-append}
 use lib.Seq.{drop-drop, drop-append-seam, drop-cons, getD-drop}
 use Rattle.bounded.specs.Table.{tab}
-use Rattle.sheet.specs.Bytes.{byteAt, numberAt, numberBytes, AreBytes}
+use Rattle.buffers.specs.Bytes.{byteAt, numberAt, numberBytes, AreBytes}
 
 -- ---- the bytes of a number
 
