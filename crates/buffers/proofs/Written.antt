@@ -1,12 +1,14 @@
 -- Laws of a list written over a list, and of one at its front. Assumes nothing.
-use mathlib.Core.Path.{_≡_, sym, ap, _∙_}
+use mathlib.Core.Path.{_≡_, refl, sym, ap, _∙_}
 use mathlib.Core.List.{List, [], _∷_, _++_, append-assoc, append-nil}
-use Prim.Native.Nat.{ℕ, _+_, _-_, _/_, _%_, _^_, _≤_, _<_}
+use Prim.Native.Nat.{ℕ, zero, suc, _+_, _-_, _/_, _%_, _^_, _≤_, _<_}
 use native.Mathlib.Nat.{zero-add, add-zero, add-assoc}
 use native.Mathlib.Numerals.{add-one}
 use native.Mathlib.Omega.{arith}
 use lib.ListN.{length, take, drop, set, length-append, length-drop, take-append-drop, drop-of-length-le, List·getD-append}
 use lib.Seq.{sets, sets-eq, length-take-le, take-at, drop-at, drop-drop, getD-append-add, getD-drop}
+use Rattle.bounded.specs.Table.{tab}
+use Rattle.bounded.proofs.Table.{length-tab}
 use Rattle.buffers.specs.Bytes.{byteAt, numberBytes}
 use Rattle.buffers.specs.Written.{written, fronted, AtFront}
 
@@ -60,6 +62,30 @@ module _ (b : List ℕ) (p : ℕ) where
       sym (drop-drop (length v) (p + length w) (written b p w)) ∙ ap (drop (length v)) (drop-written w h) ∙ drop-drop (length v) (p + length w) b
       ∙ ap (λ (k : ℕ). drop k b) (add-assoc p (length w) (length v) ∙ ap (λ (k : ℕ). p + k) (sym (length-append w v))) in
       (λ i. take-written w h i ++ (v ++ e i)) ∙ simp append-assoc
+
+-- a list given by its entries, one more
+tab-suc : (f : ℕ → ℕ) (i : ℕ) → tab i f ++ (f i ∷ []) ≡ tab (suc i) f
+unfolding tab
+tab-suc f zero = refl
+tab-suc f (suc i) = ap {B = List ℕ} (λ l. f zero ∷ l) (tab-suc (λ k. f (suc k)) i)
+
+tab-more : (f : ℕ → ℕ) (i : ℕ) → tab i f ++ (f i ∷ []) ≡ tab (i + 1) f
+tab-more f i = tab-suc f i ∙ ap (λ (k : ℕ). tab k f) (sym (add-one i))
+
+-- entries written one after the other
+pub tab-none : (b : List ℕ) (p : ℕ) (f : ℕ → ℕ) → written b p (tab 0 f) ≡ b
+unfolding tab
+tab-none b p f = written-nil b p
+
+pub tab-next : (b : List ℕ) (p : ℕ) (f : ℕ → ℕ) (i : ℕ) → p + i < length b → set (written b p (tab i f)) (p + i) (f i) ≡ written b p (tab (i + 1) f)
+tab-next b p f i h =
+    let l = length-tab i f in
+    let m = length-written b p (tab i f) (omega arith) in
+    let e : p + i ≡ p + length (tab i f) = omega arith in
+    written-one (written b p (tab i f)) (p + i) (f i) (omega arith)
+    ∙ ap (λ (k : ℕ). written (written b p (tab i f)) k (f i ∷ [])) e
+    ∙ written-more b p (tab i f) (f i ∷ []) (omega arith)
+    ∙ ap (written b p) (tab-more f i)
 
 -- a list written over the whole of a list
 pub written-all : (b w : List ℕ) → length b ≡ length w → written b 0 w ≡ w

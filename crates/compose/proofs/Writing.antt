@@ -116,14 +116,11 @@ module _ (b : List ℕ) (p : ℕ) (w b′ : List ℕ) (q : ℕ) where
   pub ends : Underway b p w b′ q [] → BytesWrote b p w b′ q
   ends u = let e = u .place in record { is = sym (written-nil b′ q) ∙ u .rest; next = omega arith }
 
--- the bytes of a number, stored
+-- a number of one byte, stored
 pub put-byte : (b : List ℕ) (p w x : ℕ) → w ≡ 1 → x < 256 → p < length b → set b p x ≡ written b p (numberBytes w x)
 put-byte b p w x e l h =
     let f : x ≡ x / 256 ^ 0 % 256 = omega arith in
     written-one b p x h ∙ ap (λ (y : ℕ). written b p (y ∷ [])) f ∙ ap (λ (k : ℕ). written b p (numberBytes k x)) (sym e)
-
-pub put-word : (b : List ℕ) (p w x : ℕ) → w ≡ 2 → x < 65536 → p + 2 ≤ length b → set (set b p (x / 256)) (p + 1) (x % 256) ≡ written b p (numberBytes w x)
-put-word b p w x e l h = word-put b p x l h ∙ ap (λ (k : ℕ). written b p (numberBytes k x)) (sym e)
 
 -- a number written, by another name of its width and of itself
 pub wrote-number : (b : List ℕ) (p : ℕ) (c : List ℕ) (w w′ x x′ : ℕ) → w ≡ w′ → x ≡ x′ → c ≡ written b p (numberBytes w x) → BytesWrote b p (numberBytes w′ x′) c (p + w)
@@ -203,30 +200,6 @@ module _ (L : Layout) (v : ℕ) (P : Problem) where
   pub sheet-parts : sheetBytes L v P ≡ frontBytes v (sheetLength L v P) (P .n) (blockCount P 1024 0) ++ (tab (P .n) (P .size) ++ blocksBytes L v P 1024 0)
   unfolding sheetBytes
   sheet-parts = refl
-
--- a list given by its entries, one more
-tab-suc : (f : ℕ → ℕ) (i : ℕ) → tab i f ++ (f i ∷ []) ≡ tab (suc i) f
-unfolding tab
-tab-suc f zero = refl
-tab-suc f (suc i) = ap {B = List ℕ} (λ l. f zero ∷ l) (tab-suc (λ k. f (suc k)) i)
-
-tab-more : (f : ℕ → ℕ) (i : ℕ) → tab i f ++ (f i ∷ []) ≡ tab (i + 1) f
-tab-more f i = tab-suc f i ∙ ap (λ (k : ℕ). tab k f) (sym (add-one i))
-
--- entries written one after the other
-pub tab-none : (b : List ℕ) (p : ℕ) (f : ℕ → ℕ) → written b p (tab 0 f) ≡ b
-unfolding tab
-tab-none b p f = written-nil b p
-
-pub tab-next : (b : List ℕ) (p : ℕ) (f : ℕ → ℕ) (i : ℕ) → p + i < length b → set (written b p (tab i f)) (p + i) (f i) ≡ written b p (tab (i + 1) f)
-tab-next b p f i h =
-    let l = length-tab i f in
-    let m = length-written b p (tab i f) (omega arith) in
-    let e : p + i ≡ p + length (tab i f) = omega arith in
-    written-one (written b p (tab i f)) (p + i) (f i) (omega arith)
-    ∙ ap (λ (k : ℕ). written (written b p (tab i f)) k (f i ∷ [])) e
-    ∙ written-more b p (tab i f) (f i ∷ []) (omega arith)
-    ∙ ap (written b p) (tab-more f i)
 
 -- a version is a byte
 pub version-byte : (v : ℕ) → layout .takes v ≡ true → v < 256

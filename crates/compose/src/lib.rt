@@ -10,6 +10,7 @@ ghost use Rattle.sheet.specs.Sheet.{layout};
 ghost use Rattle.buffers.specs.Written.{fronted, written};
 ghost use Rattle.compose.specs.Compose.{rowNumber, pairBars, blockCount, rowsBytes, blockBytes, placeBytes, blocksBytes, sheetLength, sheetBytes, sheetOver};
 ghost use Rattle.compose.specs.Parts.{Version, Pair, markOf, BlockMarked, BytesWrote, frontBytes};
+use buffers::put_word;
 
 // What writing a sheet answers: its length, or that the buffer is shorter than the sheet.
 pub enum Composed {
@@ -116,8 +117,7 @@ fn put_row(out: &mut [u8], at: usize, w: usize, x: usize)
         out[at] = x as u8;
         return;
     }
-    out[at] = (x / 256) as u8;
-    out[at + 1] = (x % 256) as u8;
+    put_word(out, at, x as u16);
 }
 
 // The rows of i towards j; the place after them.

@@ -1,18 +1,15 @@
 -- Demand 3 where C and Rust stand: from buffer to buffer, over the definitions that the exported functions' contracts cite. Assumes nothing.
 use mathlib.Core.Path.{_≡_, refl, sym, ap, _∙_, subst, fun-ext}
 use mathlib.Core.List.{List, [], _∷_}
-use Prim.Native.Nat.{ℕ, zero, suc, _+_, _*_, _<_}
-use native.Mathlib.Omega.{arith}
+use Prim.Native.Nat.{ℕ}
 use lib.Dec.{T}
-use lib.ListN.{length, getD}
-use Rattle.bounded.proofs.Table.{length-tab, getD-tab}
+use lib.ListN.{length}
 use Rattle.problem.specs.Problem.{Problem, State}
 use Rattle.problem.specs.Manual.{finished, arcConsistent}
 use Rattle.problem.specs.Masks.{stateOf, masksOf, Proper}
 use Rattle.problem.specs.declared.Masks.{Masks}
 use Rattle.problem.specs.Sentences.{Active, Alike}
 use Rattle.problem.proofs.Bridge.{masks-back}
-use Rattle.buffers.specs.Bytes.{numberAt, wordsBytes}
 use Rattle.sheet.specs.Sheet.{layout, Keeps}
 use Rattle.sheet.specs.Relation.{problemOf}
 use Rattle.hand.specs.Hand.{handState, handFits, startJob, callJob, callsJob}
@@ -24,37 +21,10 @@ use Rattle.hand.proofs.HandOrder.{order-does-not-matter, start-meets}
 use Rattle.hand.proofs.Started.{started-iff}
 use Rattle.boundary.specs.State.{masksBytes, masksIn}
 use Rattle.hand.specs.Call.{OfBytes, handStateLength, handBytes, handIn, HandCall, startCall, handCall, handCalls}
-use Rattle.boundary.proofs.Crossing.{state-length}
+use Rattle.boundary.proofs.Crossing.{state-length, state-below, in-proper}
 use Rattle.hand.proofs.Call.{hand-bytes-crossed, start-says, hand-says, start-state, Held, call-held, call-state}
 
 -- ---- the bytes of a state
-
-words-below : (l : List ℕ) (k : ℕ) → getD (wordsBytes l) k 0 < 256
-unfolding wordsBytes
-words-below [] k = omega arith
-words-below (x ∷ l) zero = omega arith
-words-below (x ∷ l) (suc zero) = omega arith
-words-below (x ∷ l) (suc (suc k)) = words-below l k
-
-state-below : (m : Masks) (k : ℕ) → getD (masksBytes m) k 0 < 256
-unfolding masksBytes
-state-below m zero = omega arith
-state-below m (suc zero) = omega arith
-state-below m (suc (suc zero)) = omega arith
-state-below m (suc (suc (suc zero))) = omega arith
-state-below m (suc (suc (suc (suc k)))) = words-below (m .domains) k
-
--- the state that bytes say is one that the struct can hold
-in-proper : (b : List ℕ) → OfBytes b → Proper (masksIn b)
-unfolding masksIn
-in-proper b h =
-    record {
-      active-lt = (let h₀ = h 0 (omega arith) in let h₁ = h 1 (omega arith) in let h₂ = h 2 (omega arith) in let h₃ = h 3 (omega arith) in omega arith);
-      length-is = length-tab 32 (λ i. numberAt b 2 (4 + 2 * i));
-      domain-lt = λ i l.
-          rw (getD-tab 32 (λ i. numberAt b 2 (4 + 2 * i)) i 0 l)
-          (let h₀ = h (4 + 2 * i) (omega arith) in let h₁ = h (4 + 2 * i + 1) (omega arith) in omega arith);
-    }
 
 -- buffers that say alike states are the same
 bytes-same : (b c : List ℕ) → length b ≡ handStateLength → OfBytes b → length c ≡ handStateLength → OfBytes c

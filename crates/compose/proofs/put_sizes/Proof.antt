@@ -9,7 +9,7 @@ use Rattle.bounded.specs.Table.{tab}
 use Rattle.problem.specs.Held.{held}
 use Rattle.problem.proofs.HeldTable.{held-few, held-narrow}
 use Rattle.buffers.specs.Written.{written}
-use Rattle.compose.proofs.Writing.{tab-none, tab-next}
+use Rattle.buffers.proofs.Written.{tab-none, tab-next}
 use borrow.Author.Needs.{needs}
 use Rattle.compose.proofs.put_sizes.Statement.{statement}
 use Rattle.compose.proofs.put_sizes.Tie as tie
