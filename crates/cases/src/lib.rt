@@ -1,6 +1,6 @@
 // The lines of a bench program: a text is read in pieces, a line is fields with a space between them, a field is a word or hexadecimal
 // digits. And what an answer is written with: words, numbers, bytes and states. A line ends with a newline, or where the input ends.
-ghost use Prim.Native.Nat.{_<_, _≤_};
+ghost use Prim.Native.Nat.{suc, _<_, _≤_, min};
 ghost use lib.ListN.{length};
 ghost use Rattle.io.specs.Counts.{Counts};
 use libc::STDIN_FILENO;
@@ -49,19 +49,27 @@ pub fn keep(text: &mut [u8], from: usize, to: usize) -> usize
     k
 }
 
-// The place after the line that a place stands in.
-pub fn next_line(text: &[u8], from: usize) -> usize
-    requires { ⌜ from < length (now text) ⌝ }
-    ensures { λ r. ⌜ (from < r) × (r ≤ length (now (text .entry))) ⌝ }
+// The place after the first byte `end` from a place on, the text's end where there is none.
+fn after(text: &[u8], from: usize, end: u8) -> usize
+    requires { ⌜ from ≤ length (now text) ⌝ }
+    ensures { λ r. ⌜ (r ≤ length (now (text .entry))) × (min (suc from) (length (now (text .entry))) ≤ r) ⌝ }
 {
     let mut at = from;
     while at < text.len() {
-        if text[at] == b'\n' {
+        if text[at] == end {
             return at + 1;
         }
         at += 1;
     }
     at
+}
+
+// The place after the line that a place stands in.
+pub fn next_line(text: &[u8], from: usize) -> usize
+    requires { ⌜ from < length (now text) ⌝ }
+    ensures { λ r. ⌜ (from < r) × (r ≤ length (now (text .entry))) ⌝ }
+{
+    after(text, from, b'\n')
 }
 
 // ---- a line
@@ -70,14 +78,7 @@ pub fn next_line(text: &[u8], from: usize) -> usize
 pub fn next_field(line: &[u8]) -> usize
     ensures { λ r. ⌜ r ≤ length (now (line .entry)) ⌝ }
 {
-    let mut at: usize = 0;
-    while at < line.len() {
-        if line[at] == b' ' {
-            return at + 1;
-        }
-        at += 1;
-    }
-    at
+    after(line, 0, b' ')
 }
 
 // The value of a hexadecimal digit, 16 for any other byte.

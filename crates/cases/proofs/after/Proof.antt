@@ -1,15 +1,15 @@
--- `cases::next_field`: the place is within the line. Assumes nothing.
+-- `cases::after`: the place is within the text, and past where it began unless the text ends there. Assumes nothing.
 use Prim.Native.Nat.{_≤_, _-_}
 use lib.ListN.{length}
 use borrow.Author.Needs.{needs}
-use Rattle.cases.proofs.next_field.Statement.{statement}
-use Rattle.cases.proofs.next_field.Tie as tie
+use Rattle.cases.proofs.after.Statement.{statement}
+use Rattle.cases.proofs.after.Tie as tie
 
 abbrev Inv-loop : tie.InvT-loop
-Inv-loop line at₀ at = at ≤ length line
+Inv-loop text from end at₀ at = (from ≤ at) × (at ≤ length text)
 
 abbrev μ-loop : tie.MeasureT-loop
-μ-loop line at₀ at = length line - at
+μ-loop text from end at₀ at = length text - at
 
 loop-holds : tie.Need-loop-holds Inv-loop μ-loop
 loop-holds c = search needs
@@ -35,8 +35,8 @@ loop-again c = search needs
 returns-2 : tie.Need-returns-2 Inv-loop μ-loop
 returns-2 c = search needs
 
-pub next-field-spec : {M : Type 1} → statement M
-next-field-spec =
+pub after-spec : {M : Type 1} → statement M
+after-spec =
     tie.close
     (tie.spec
     Inv-loop
