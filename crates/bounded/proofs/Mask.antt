@@ -1,21 +1,21 @@
 -- Sets of small numbers as one number: members, the bitwise operations, and equality by members. Assumes nothing.
 use Prim.Native.Nat.{ℕ, zero, suc, _+_, _-_, _*_, _/_, _%_, _^_, _<_, _≤_, min, max}
 use mathlib.Core.Path.{_≡_, refl, sym, ap, _∙_, subst}
-use mathlib.Core.Bool.{Bool, true, false, cond, not, _&&_, _||_, Bool·beq, and-true}
+use mathlib.Core.Bool.{Bool, true, false, cond, not, _&&_, _||_, and-true}
 use mathlib.Core.Logic.{_⊎_, inl, inr, ⊎-elim, _≢_}
-use native.Mathlib.Nat.{not-suc-le-zero, one-mul, mul-comm, mul-assoc, add-mul-div-right, zero-div, lt-of-le-of-lt, lt-of-lt-of-le, div-eq-of-lt, pow-le-pow-right}
+use native.Mathlib.Nat.{not-suc-le-zero, one-mul, mul-comm, mul-assoc, add-mul-div-right, zero-div, lt-of-le-of-lt, lt-of-lt-of-le, div-eq-of-lt, mod-eq-of-lt, pow-le-pow-right}
 use native.Mathlib.Numerals.{add-one}
 use native.Mathlib.Omega.{arith}
-use lib.Dec.{T, eqb}
+use lib.Dec.{T, eqb, ltb}
 use lib.Bits.{bitAnd, and-step, and-shr, and-le-l, and-le-r, bitOr, or-step, or-shr, or-lt, or-zero-r, or-shifted-r}
 use lib.Count.{leadingZeros, leading-top, trailingZeros, under}
 use lib.Pow.{shr-shr, pow-add, pow-mono, pow-pos, high}
-use borrow.Author.Tests.{eq-eqb, ne-eqb, eqb-true, eqb-false}
+use borrow.Author.Tests.{eq-eqb, ne-eqb, eqb-true, eqb-false, lt-ltb, le-ltb}
 use Rattle.bounded.specs.Bounded.{allBelow, anyBelow, lowest, atLowest, imp}
 use Rattle.bounded.specs.Mask.{bit, maskOf, without, Highest}
 use Rattle.bounded.proofs.Truth.{T-ext, T-of, T-not, and-iff, or-iff, imp-iff, eqb-iff, split, clash, at-or-below, eq-dec, lt-dec}
 use Rattle.bounded.proofs.Bounded.{all-iff, lowest-here, lowest-later}
-use Rattle.bounded.proofs.Loops.{all-each, any-each, any-intro, at-lowest-some, at-lowest-end}
+use Rattle.bounded.proofs.Loops.{any-each, any-intro, at-lowest-some, at-lowest-end}
 
 -- ---- a digit is 0 or 1
 
@@ -166,30 +166,13 @@ mask-all (suc z) = let e = mask-all z in let p = double z in let q = pow-pos z i
 pub full-bit : (z b : ℕ) → b < z → bit (2 ^ z - 1) b ≡ true
 full-bit z b h = ap (λ (x : ℕ). bit x b) (sym (mask-all z)) ∙ bit-mask z (λ _. true) b h
 
--- ---- one member taken out
-
--- both sides of a computed test of Bools agree
-beq-true : (a b : Bool) → Bool·beq a b ≡ true → a ≡ b
-beq-true true true e = refl
-beq-true true false e = sym e
-beq-true false true e = e
-beq-true false false e = refl
-
--- one computed test of all places, for each of the two sizes of set
-others : (n : ℕ) → allBelow n (λ b. allBelow n (λ c. Bool·beq (bit (2 ^ n - 1 - 2 ^ b) c) (not (eqb c b)))) ≡ true → (b c : ℕ) → b < n → c < n → bit (2 ^ n - 1 - 2 ^ b) c ≡ not (eqb c b)
-others n e b c l m =
-    beq-true _ _ (all-each (λ c. Bool·beq (bit (2 ^ n - 1 - 2 ^ b) c) (not (eqb c b))) n (all-each (λ b. allBelow n (λ c. Bool·beq (bit (2 ^ n - 1 - 2 ^ b) c) (not (eqb c b)))) n e b l) c m)
-
-bit-without : (n : ℕ) → ((b c : ℕ) → b < n → c < n → bit (2 ^ n - 1 - 2 ^ b) c ≡ not (eqb c b)) → (x b c : ℕ) → b < n → c < n → bit (without n x b) c ≡ (bit x c && not (eqb c b))
-bit-without n h x b c l m = bit-and x (2 ^ n - 1 - 2 ^ b) c ∙ ap (λ (t : Bool). bit x c && t) (h b c l m)
-
-pub bit-without16 : (x b c : ℕ) → b < 16 → c < 16 → bit (without 16 x b) c ≡ (bit x c && not (eqb c b))
-unfolding allBelow
-bit-without16 = bit-without 16 (others 16 refl)
-
-pub bit-without32 : (x b c : ℕ) → b < 32 → c < 32 → bit (without 32 x b) c ≡ (bit x c && not (eqb c b))
-unfolding allBelow
-bit-without32 = bit-without 32 (others 32 refl)
+-- and as a set of numbers below n
+pub below-mask : (n z : ℕ) → z ≤ n → 2 ^ z - 1 ≡ maskOf n (λ c. ltb c z)
+below-mask n z l = let p : 2 ^ z ≤ 2 ^ n = pow-mono l in mask-is n (2 ^ z - 1) (λ c. ltb c z) (omega (arith, pow-pos z)) (λ c k. go c (lt-dec c z))
+  where
+    go : (c : ℕ) → (c < z) ⊎ (z ≤ c) → bit (2 ^ z - 1) c ≡ ltb c z
+    go c (inl h) = full-bit z c h ∙ sym (lt-ltb c z h)
+    go c (inr h) = bit-high z (2 ^ z - 1) c (omega (arith, pow-pos z)) h ∙ sym (le-ltb c z h)
 
 -- ---- the members left out, and the lowest member
 
@@ -237,6 +220,13 @@ bit-single b c =
     (eq-dec c b))
     (lt-dec c b)
 
+single-lt : (n b : ℕ) → b < n → 2 ^ b < 2 ^ n
+single-lt n b l = lt-of-lt-of-le (omega (arith, double b, pow-pos b)) (pow-le-pow-right (omega arith) l)
+
+-- 2 ^ b as a word of n bits, as a shift makes it
+pub one-shifted : (n b : ℕ) → b < n → (1 * 2 ^ b) % 2 ^ n ≡ 2 ^ b
+one-shifted n b l = ap (λ (x : ℕ). x % 2 ^ n) (one-mul (2 ^ b)) ∙ mod-eq-of-lt (single-lt n b l)
+
 and-zero : (t : Bool) → (t && false) ≡ false
 and-zero true = refl
 and-zero false = refl
@@ -277,7 +267,7 @@ mask-or f w n y e h = ap (λ (v : ℕ). bitOr v y) e ∙ ap (λ (v : ℕ). bitOr
         ap (λ (v : ℕ). bitOr (maskOf n f) v) (sym (one-mul (2 ^ n))) ∙ q ∙ (let z : 1 * 2 ^ n + maskOf n f ≡ maskOf n f + 2 ^ n = omega arith in z)
     go false = or-zero-r (maskOf n f) ∙ (let z : maskOf n f ≡ maskOf n f + 0 = omega arith in z)
 
--- ---- one member put in
+-- ---- one member put in or taken out
 
 pub bit-with : (x b c : ℕ) → bit (bitOr x (2 ^ b)) c ≡ (bit x c || eqb c b)
 bit-with x b c = bit-or x (2 ^ b) c ∙ ap (λ (t : Bool). bit x c || t) (bit-single b c)
@@ -289,7 +279,16 @@ pub with-has : (x b : ℕ) → T (bit (bitOr x (2 ^ b)) b)
 with-has x b = subst T (sym (bit-with x b b)) (or-iff (bit x b) (eqb b b) .1 (inr (eqb-iff b b .1 refl)))
 
 pub with-lt : (n x b : ℕ) → x < 2 ^ n → b < n → bitOr x (2 ^ b) < 2 ^ n
-with-lt n x b l m = or-lt n x (2 ^ b) l (lt-of-lt-of-le (omega (arith, double b, pow-pos b)) (pow-le-pow-right (omega arith) m))
+with-lt n x b l m = or-lt n x (2 ^ b) l (single-lt n b m)
+
+pub bit-without : (n x b c : ℕ) → b < n → c < n → bit (without n x b) c ≡ (bit x c && not (eqb c b))
+bit-without n x b c l m = bit-and x (2 ^ n - 1 - 2 ^ b) c ∙ ap (λ (t : Bool). bit x c && t) (bit-not n (2 ^ b) c (single-lt n b l) m ∙ ap not (bit-single b c))
+
+pub bit-without16 : (x b c : ℕ) → b < 16 → c < 16 → bit (without 16 x b) c ≡ (bit x c && not (eqb c b))
+bit-without16 = bit-without 16
+
+pub bit-without32 : (x b c : ℕ) → b < 32 → c < 32 → bit (without 32 x b) c ≡ (bit x c && not (eqb c b))
+bit-without32 = bit-without 32
 
 -- ---- two sets side by side
 

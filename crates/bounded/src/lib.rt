@@ -2,9 +2,9 @@
 ghost use mathlib.Core.Path.{_≡_};
 ghost use mathlib.Core.Bool.{cond};
 ghost use mathlib.Core.Logic.{_≢_};
-ghost use Prim.Native.Nat.{_^_, _<_, _≤_};
+ghost use Prim.Native.Nat.{_-_, _^_, _<_, _≤_};
 ghost use lib.Bits.{bitOr};
-ghost use Rattle.bounded.specs.Bounded.{lowest};
+ghost use Rattle.bounded.specs.Bounded.{lowest, oneIf};
 ghost use Rattle.bounded.specs.Mask.{bit, without as withoutOf, Highest};
 
 // Whether c is in a set of 32.
@@ -91,6 +91,30 @@ pub fn power(z: usize) -> usize
     ensures { λ r. ⌜ r ≡ 2 ^ z ⌝ }
 {
     1 << z
+}
+
+// The set of the numbers below n, of 32.
+pub fn below32(n: usize) -> u32
+    requires { ⌜ n ≤ 32 ⌝ }
+    ensures { λ r. ⌜ r ≡ 2 ^ n - 1 ⌝ }
+{
+    (power(n) - 1) as u32
+}
+
+// The set of the numbers below n, of 16.
+pub fn below16(n: usize) -> u16
+    requires { ⌜ n ≤ 16 ⌝ }
+    ensures { λ r. ⌜ r ≡ 2 ^ n - 1 ⌝ }
+{
+    below32(n) as u16
+}
+
+// 1 for true, 0 for false.
+pub fn one_if(b: bool) -> usize
+    ensures is { λ r. ⌜ r ≡ oneIf b ⌝ }
+    ensures within { λ r. ⌜ r ≤ 1 ⌝ }
+{
+    if b { 1 } else { 0 }
 }
 
 // What a set of 16 gains where b comes in: 2^b where t holds, else 0.

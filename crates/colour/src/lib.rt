@@ -67,7 +67,7 @@ fn edge_rows(k: usize) -> [u16; 16]
     requires { ⌜ k ≤ 16 ⌝ }
     ensures { λ r. ⌜ r ≡ edgeRows k ⌝ }
 {
-    let all = (bounded::power(k) - 1) as u16;
+    let all = bounded::below16(k);
     let mut rows = [0u16; 16];
     let mut a: usize = 0;
     while a < 16 {

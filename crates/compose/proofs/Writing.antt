@@ -28,7 +28,7 @@ use Rattle.buffers.proofs.Stands.{length-number}
 -- ---- the settings of an item
 
 -- the settings of j, as the code counts them
-pub full-is : (p y z : ℕ) → p ≡ 2 ^ y → y ≡ z → p - 1 + 1 ≡ 2 ^ z
+pub full-is : (p y z : ℕ) → p ≡ 2 ^ y - 1 → y ≡ z → p + 1 ≡ 2 ^ z
 full-is p y z e f = let q = pow-pos y in let g = ap (λ (x : ℕ). 2 ^ x) f in omega arith
 
 -- ---- the marks

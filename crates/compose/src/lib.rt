@@ -34,7 +34,7 @@ fn bars(t: &[u16], i: usize, j: usize) -> bool
     ensures { λ r. ⌜ r ≡ pairBars (held (now (t .entry))) i j ⌝ }
 {
     let z = held::size(t, i);
-    let full = bounded::power(held::size(t, j)) - 1;
+    let full = bounded::below32(held::size(t, j)) as usize;
     let mut a: usize = 0;
     while a < z {
         if row_number(t, i, j, a) != full {

@@ -2,15 +2,12 @@
 use mathlib.Core.Path.{_≡_, refl, sym, ap, _∙_}
 use mathlib.Core.Bool.{Bool, _&&_}
 use mathlib.Core.List.{List}
-use mathlib.Core.Logic.{_⊎_, inl, inr}
-use Prim.Native.Nat.{ℕ, _-_, _^_, _≤_, _<_}
+use Prim.Native.Nat.{ℕ, _≤_, _<_}
 use native.Mathlib.Omega.{arith}
 use lib.Dec.{ltb}
-use lib.Pow.{pow-pos}
 use borrow.Author.Tests.{lt-ltb, le-ltb}
-use Rattle.bounded.specs.Mask.{bit, maskOf}
-use Rattle.bounded.proofs.Truth.{lt-dec}
-use Rattle.bounded.proofs.Mask.{bit-high, bit-none, full-bit, mask-is}
+use Rattle.bounded.specs.Mask.{maskOf}
+use Rattle.bounded.proofs.Mask.{bit-none, mask-is}
 use Rattle.problem.specs.Problem.{Problem, full}
 use Rattle.problem.specs.Held.{held, RowTable}
 use Rattle.problem.specs.Masks.{stateOf, masksOf}
@@ -24,14 +21,6 @@ module _ {t : List ℕ} (R : RowTable t) where
 
   pub full-says : stateOf (masksOf (full (held t))) ≡ full (held t)
   full-says = state-held R (full-fits (held t))
-
--- the set of the numbers below z
-pub below-mask : (n z : ℕ) → z ≤ n → 2 ^ z ≤ 2 ^ n → 2 ^ z - 1 ≡ maskOf n (λ c. ltb c z)
-below-mask n z l p = mask-is n (2 ^ z - 1) (λ c. ltb c z) (omega (arith, pow-pos z)) (λ c k. go c (lt-dec c z))
-  where
-    go : (c : ℕ) → (c < z) ⊎ (z ≤ c) → bit (2 ^ z - 1) c ≡ ltb c z
-    go c (inl h) = full-bit z c h ∙ sym (lt-ltb c z h)
-    go c (inr h) = bit-high z (2 ^ z - 1) c (omega (arith, pow-pos z)) h ∙ sym (le-ltb c z h)
 
 -- a domain of the first state
 pub full-domain : (P : Problem) (i : ℕ) → i < P .n → maskOf 16 (λ c. ltb c (P .size i)) ≡ maskOf 16 (full P .live i)

@@ -109,7 +109,7 @@ pub fn row(t: &[u16], i: usize, j: usize, a: usize) -> u16
     requires { ⌜ RowTable (now t) × Value (now t) i a × (j < 32) × (j ≢ i) ⌝ }
     ensures { λ r. ⌜ r ≡ rowWord (held (now (t .entry))) i j a ⌝ }
 {
-    row_among(t, values_below(size(t, j)), i, j, a)
+    row_among(t, bounded::below16(size(t, j)), i, j, a)
 }
 
 // Value a of i is allowed with value b of j. No two values of one variable are, and there is no row between them.
@@ -174,29 +174,13 @@ pub fn none_empty(t: &[u16], active: u32, on: &[u16; 32]) -> bool
 
 // ---- the first state
 
-// The set of the variables below z.
-fn variables_below(z: usize) -> u32
-    requires { ⌜ z ≤ 32 ⌝ }
-    ensures { λ r. ⌜ r ≡ maskOf 32 (λ c. ltb c z) ⌝ }
-{
-    (bounded::power(z) - 1) as u32
-}
-
-// The set of the values below z.
-fn values_below(z: usize) -> u16
-    requires { ⌜ z ≤ 16 ⌝ }
-    ensures { λ r. ⌜ r ≡ maskOf 16 (λ c. ltb c z) ⌝ }
-{
-    (bounded::power(z) - 1) as u16
-}
-
 // The domain of i in the first state, of a table of n variables.
 fn full_domain(t: &[u16], n: usize, i: usize) -> u16
     requires { ⌜ RowTable (now t) × (n ≡ (held (now t)) .n) × (i < 32) ⌝ }
     ensures { λ r. ⌜ r ≡ maskOf 16 ((full (held (now (t .entry)))) .live i) ⌝ }
 {
     if i < n {
-        values_below(t[i] as usize)
+        bounded::below16(t[i] as usize)
     } else {
         0
     }
@@ -209,7 +193,7 @@ pub fn full_masks(t: &[u16]) -> Masks
 {
     let n = variables(t);
     let mut m = problem::empty_masks();
-    m.active = variables_below(n);
+    m.active = bounded::below32(n);
     let mut i: usize = 0;
     while i < 32 {
         m.domains[i] = full_domain(t, n, i);

@@ -38,14 +38,6 @@ fn read_rows(s: &[u8], w: usize, k: usize, p: usize, x: &mut [u16; 16])
     }
 }
 
-// All of z bits.
-fn ones(z: usize) -> u16
-    requires { ⌜ z ≤ 16 ⌝ }
-    ensures { λ r. ⌜ r ≡ 2 ^ z - 1 ⌝ }
-{
-    (bounded::power(z) - 1) as u16
-}
-
 // Whether some row has a bit for a setting that `full` lacks. All 16 are looked at.
 fn some_beyond(x: &[u16; 16], full: u16) -> bool
     ensures { λ r. ⌜ r ≡ someBeyond (now (x .entry)) full ⌝ }
@@ -79,7 +71,7 @@ fn rows_tell(x: &[u16; 16], z: usize, k: usize, least: usize, at: usize) -> Bloc
     requires { ⌜ (z ≤ 16) × (k ≤ 16) ⌝ }
     ensures { λ r. ⌜ r ≡ rowsTell (now (x .entry)) (2 ^ z - 1) k least at ⌝ }
 {
-    let full = ones(z);
+    let full = bounded::below16(z);
     if some_beyond(x, full) {
         return Block::Fault(SheetRefusal::RowBeyond);
     }

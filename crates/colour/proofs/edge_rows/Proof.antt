@@ -4,7 +4,6 @@ use mathlib.Core.List.{List}
 use Prim.Native.Nat.{ℕ, _-_, _^_, _≤_}
 use native.Mathlib.Omega.{arith}
 use lib.ListN.{length, set, length-replicate}
-use lib.Pow.{pow-pos, pow-mono}
 use borrow.Author.Needs.{needs}
 use Rattle.bounded.specs.Mask.{without}
 use Rattle.bounded.specs.Table.{filled}
@@ -19,20 +18,14 @@ Inv-loop k all rows₀ a₀ rows a = (a ≤ 16) × (length rows₀ ≡ 16) × (r
 abbrev μ-loop : tie.MeasureT-loop
 μ-loop k all rows₀ a₀ rows a = 16 - a
 
-sub-all : tie.Need-sub-all Inv-loop μ-loop
-sub-all c = let e = c .power .ensures in let p = pow-pos (c .before .args .k) in omega arith
-
-cast-all : tie.Need-cast-all Inv-loop μ-loop
-cast-all c = let e = c .power .ensures in let p = pow-mono {j = 16} (c .before .pre) in omega arith
-
 loop-again : tie.Need-loop-again Inv-loop μ-loop
 loop-again c =
     let l = c .before .before .loop in
     let k = c .before .before .before .before .args .k in
-    let p = c .before .before .before .power .ensures in (
+    let p = c .before .before .before .below16 .ensures in (
       omega arith,
       l .inv .1,
-      ap (λ (v : ℕ). set (l .rows) (l .a) v) (c .without16 .ensures ∙ ap (λ (y : ℕ). without 16 (y - 1) (l .a)) p)
+      ap (λ (v : ℕ). set (l .rows) (l .a) v) (c .without16 .ensures ∙ ap (λ (y : ℕ). without 16 y (l .a)) p)
           ∙ ap (λ (x : List ℕ). set x (l .a) (without 16 (2 ^ k - 1) (l .a))) (l .inv .2)
           ∙ filled-more (l .a) _ _ (omega arith),
     )
@@ -43,8 +36,6 @@ edge-rows-spec =
     tie.close
     (tie.spec Inv-loop μ-loop
     (λ c κs. search needs)
-    sub-all
-    cast-all
     (λ c. (omega arith, length-replicate {A = ℕ} 16 0, sym (filled-none _ _)))
     (λ c κs. search needs)
     (λ c. search needs)

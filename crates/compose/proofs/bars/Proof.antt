@@ -4,7 +4,6 @@ use mathlib.Core.Bool.{false}
 use Prim.Native.Nat.{_-_, _≤_, _<_}
 use native.Mathlib.Omega.{arith}
 use denote.Ref.{now}
-use lib.Pow.{pow-pos}
 use Rattle.bounded.specs.Bounded.{anyBelow}
 use Rattle.bounded.proofs.Loops.{any-none, any-more, any-hit, any-end}
 use Rattle.problem.specs.Held.{held}
@@ -28,11 +27,8 @@ size-requires c κs = let p = c .before .pre in let few = held-few (now (c .befo
 size-requires-2 : tie.Need-size-requires-2 Inv-loop μ-loop
 size-requires-2 c κs = let p = c .before .before .pre in let few = held-few (now (c .before .before .args .t)) in (p .table, omega arith)
 
-power-requires : tie.Need-power-requires Inv-loop μ-loop
-power-requires c κs = let e = c .size2 .ensures in let l = held-narrow (c .before .before .before .pre .table) (c .before .before .before .args .j) in omega arith
-
-sub-full : tie.Need-sub-full Inv-loop μ-loop
-sub-full c = let e = c .power .ensures in omega (arith, pow-pos (c .before .size2 .result))
+below32-requires : tie.Need-below32-requires Inv-loop μ-loop
+below32-requires c κs = let e = c .size2 .ensures in let l = held-narrow (c .before .before .before .pre .table) (c .before .before .before .args .j) in omega arith
 
 loop-holds : tie.Need-loop-holds Inv-loop μ-loop
 loop-holds c = (omega arith, any-none _)
@@ -47,8 +43,8 @@ returns c =
     let P = held (now (a .t)) in
     let l = c .before .before .before .loop in
     let r = c .before .row-number .ensures .is in
-    let f = full-is _ _ _ (c .before .before .before .before .power .ensures) (c .before .before .before .before .before .size2 .ensures) in
-    let n : c .before .row-number .result ≡ c .before .before .before .before .power .result - 1 → ⊥ = c .if1 .taken in
+    let f = full-is _ _ _ (c .before .before .before .before .below32 .ensures) (c .before .before .before .before .before .size2 .ensures) in
+    let n : c .before .row-number .result ≡ c .before .before .before .before .below32 .result → ⊥ = c .if1 .taken in
     let e = c .before .before .before .before .before .before .size .ensures in
     let k : l .a < P .size (a .i) = omega arith in
     sym (any-hit (rowBars P (a .i) (a .j)) _ (l .a) k (row-bars P (a .i) (a .j) (l .a) (λ q. n (omega arith))))
@@ -64,7 +60,7 @@ loop-again c =
     let a = c .before .before .before .before .before .before .before .before .args in
     let l = c .before .before .before .loop in
     let r = c .before .row-number .ensures .is in
-    let f = full-is _ _ _ (c .before .before .before .before .power .ensures) (c .before .before .before .before .before .size2 .ensures) in
+    let f = full-is _ _ _ (c .before .before .before .before .below32 .ensures) (c .before .before .before .before .before .size2 .ensures) in
     (omega arith, any-more (rowBars (held (now (a .t))) (a .i) (a .j)) (l .a) (l .inv .1) (row-free (held (now (a .t))) (a .i) (a .j) (l .a) (omega arith)))
 
 returns-2 : tie.Need-returns-2 Inv-loop μ-loop
@@ -83,8 +79,7 @@ bars-spec =
     μ-loop
     size-requires
     size-requires-2
-    power-requires
-    sub-full
+    below32-requires
     loop-holds
     row-number-requires
     returns

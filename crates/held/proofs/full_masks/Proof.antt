@@ -6,6 +6,7 @@ use lib.Dec.{ltb}
 use lib.ListN.{length}
 use borrow.Author.Needs.{needs}
 use Rattle.bounded.specs.Mask.{maskOf}
+use Rattle.bounded.proofs.Mask.{below-mask}
 use Rattle.bounded.specs.Table.{filled}
 use Rattle.bounded.proofs.Table.{filled-none, filled-more, filled-end}
 use Rattle.problem.specs.Problem.{full}
@@ -23,8 +24,8 @@ Inv-loop t n m₀ i₀ m i = (i ≤ 32) × (m .active ≡ m₀ .active) × (m .d
 abbrev μ-loop : tie.MeasureT-loop
 μ-loop t n m₀ i₀ m i = 32 - i
 
-variables-below-requires : tie.Need-variables-below-requires Inv-loop μ-loop
-variables-below-requires c κs = omega (arith, c .before .variables .ensures, held-few (c .before .before .before .args .t .now))
+below32-requires : tie.Need-below32-requires Inv-loop μ-loop
+below32-requires c κs = omega (arith, c .before .variables .ensures, held-few (c .before .before .before .args .t .now))
 
 loop-holds : tie.Need-loop-holds Inv-loop μ-loop
 loop-holds c = (search needs, refl, sym (filled-none _ _))
@@ -41,7 +42,7 @@ returns c =
     let w = c .before .loop in
     let len = ap (λ (m : Masks). length (m .domains)) (c .before .before .before .empty-masks .ensures) in
     let t = c .before .before .before .before .before .before .args .t .now in
-    let p = w .inv .1 ∙ c .before .before .variables-below .ensures ∙ ap (λ (n : ℕ). maskOf 32 (λ c. ltb c n)) (c .before .before .before .before .variables .ensures) ∙ full-active (held t) in
+    let p = w .inv .1 ∙ c .before .before .below32 .ensures ∙ below-mask 32 _ (omega (arith, c .before .before .before .before .variables .ensures, held-few t)) ∙ ap (λ (n : ℕ). maskOf 32 (λ c. ltb c n)) (c .before .before .before .before .variables .ensures) ∙ full-active (held t) in
     let q = w .inv .2 ∙ filled-end 32 (w .i) _ _ len (omega arith) (omega arith) in
     λ k. record { active = p k; domains = q k }
 
@@ -53,7 +54,7 @@ full-masks-spec =
     μ-loop
     (λ c κs. search needs)
     (λ c κs. search needs)
-    variables-below-requires
+    below32-requires
     loop-holds
     (λ c κs. search needs)
     (λ c. search needs)

@@ -10,12 +10,12 @@ use Rattle.read_sheet.proofs.rows_tell.Tie as tie
 
 -- what the tests say
 beyond : (b : Bool) (c : tie.After-some-beyond) → c .some-beyond .result ≡ b → someBeyond (now (c .before .before .args .x)) (2 ^ c .before .before .args .z - 1) ≡ b
-beyond b c e = ap (someBeyond (now (c .before .before .args .x))) (sym (c .before .ones .ensures)) ∙ sym (c .some-beyond .ensures) ∙ e
+beyond b c e = ap (someBeyond (now (c .before .before .args .x))) (sym (c .before .below16 .ensures)) ∙ sym (c .some-beyond .ensures) ∙ e
 
 full : (b : Bool) (c : tie.After-allows-all) → c .allows-all .result ≡ b → let a = c .before .before .before .before .args in allFull (now (a .x)) (2 ^ a .z - 1) (a .k) ≡ b
 full b c e =
     let a = c .before .before .before .before .args in
-    ap (λ (n : ℕ). allFull (now (a .x)) n (a .k)) (sym (c .before .before .before .ones .ensures)) ∙ sym (c .allows-all .ensures) ∙ e
+    ap (λ (n : ℕ). allFull (now (a .x)) n (a .k)) (sym (c .before .before .before .below16 .ensures)) ∙ sym (c .allows-all .ensures) ∙ e
 
 returns : tie.Need-returns
 unfolding rowsTell
