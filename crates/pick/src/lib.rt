@@ -3,7 +3,6 @@ ghost use mathlib.Core.Path.{_≡_};
 ghost use mathlib.Core.List.{[]};
 ghost use Prim.Native.Nat.{_≤_, _<_, _+_, _*_};
 ghost use lib.ListN.{length};
-ghost use Rattle.bounded.specs.Bounded.{oneIf};
 ghost use Rattle.boundary.specs.State.{stateLength};
 ghost use Rattle.pick.specs.Call.{doneNumber, crossedNumber, crossedState, PickFits, pickCall};
 ghost use Rattle.problem.specs.Problem.{sizeSum};
@@ -161,14 +160,6 @@ pub fn pick(s: &[u8], trace: &mut [u8], plan: &mut [u8]) -> Picked
 
 // ---- from C
 
-// 1 for true, 0 for false.
-fn one(b: bool) -> u64
-    ensures is { λ r. ⌜ r ≡ oneIf b ⌝ }
-    ensures within { λ r. ⌜ r ≤ 1 ⌝ }
-{
-    if b { 1 } else { 0 }
-}
-
 // The number of an answer that is no refusal.
 fn done_number(plan: bool, end: End, steps: usize, written: usize) -> u64
     requires { ⌜ (steps < 65536) × (written < 65536) ⌝ }
@@ -176,7 +167,7 @@ fn done_number(plan: bool, end: End, steps: usize, written: usize) -> u64
 {
     256
         * (run::end_number(end) as u64
-            + 256 * (steps as u64 + 65536 * (written as u64 + 65536 * one(plan))))
+            + 256 * (steps as u64 + 65536 * (written as u64 + 65536 * bounded::one_if(plan) as u64)))
 }
 
 // The number of an answer: the refusal's, or the run's own and whether a plan was written.

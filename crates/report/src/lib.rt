@@ -2,7 +2,7 @@
 ghost use mathlib.Core.Path.{_≡_};
 ghost use Prim.Native.Nat.{_+_, _*_, _≤_};
 ghost use lib.ListN.{length};
-ghost use Rattle.bounded.specs.Bounded.{oneIf, countBelow, sumTo};
+ghost use Rattle.bounded.specs.Bounded.{countBelow, sumTo};
 ghost use Rattle.bounded.specs.Mask.{bit};
 ghost use Rattle.problem.specs.Problem.{sizeSum};
 ghost use Rattle.problem.specs.Masks.{stateOf};
@@ -22,13 +22,6 @@ use trace::RecordRead;
 
 // ---- counts of the last state
 
-// 1 for true, 0 for false.
-fn one(b: bool) -> usize
-    ensures { λ r. ⌜ r ≡ oneIf b ⌝ }
-{
-    if b { 1 } else { 0 }
-}
-
 // How many numbers below n are in a set.
 fn count_bits(x: u32, n: usize) -> usize
     requires { ⌜ n ≤ 32 ⌝ }
@@ -38,7 +31,7 @@ fn count_bits(x: u32, n: usize) -> usize
     let mut sum: usize = 0;
     let mut c: usize = 0;
     while c < n {
-        sum += one(has32(x, c));
+        sum += bounded::one_if(has32(x, c));
         c += 1;
     }
     sum

@@ -22,16 +22,16 @@ loop-holds c = (omega arith, (sym (count-none _), omega arith))
 has32-requires : tie.Need-has32-requires Inv-loop μ-loop
 has32-requires c κs = omega arith
 
-one-requires : tie.Need-one-requires Inv-loop μ-loop
-one-requires c κs = search needs
+one-if-requires : tie.Need-one-if-requires Inv-loop μ-loop
+one-if-requires c κs = search needs
 
 -- one turn more, and the count is at most the turns
 more : tie.Need-loop-again Inv-loop μ-loop
 more c =
     let w = c .before .before .before .loop in
     let x = c .before .before .before .before .args .x in
-    let e : w .sum + c .one .result ≡ countBelow (w .c + 1) (λ k. bit x k) =
-    (λ i. w .inv .1 .0 i + (c .one .ensures ∙ ap oneIf (c .before .has32 .ensures)) i) ∙ sym (count-more (λ k. bit x k) (w .c)) in
+    let e : w .sum + c .one-if .result ≡ countBelow (w .c + 1) (λ k. bit x k) =
+    (λ i. w .inv .1 .0 i + (c .one-if .ensures .0 ∙ ap oneIf (c .before .has32 .ensures)) i) ∙ sym (count-more (λ k. bit x k) (w .c)) in
     (omega arith, (e, omega (arith, e, count-most (w .c + 1) (λ k. bit x k))))
 
 add-sum : tie.Need-add-sum Inv-loop μ-loop
@@ -58,7 +58,7 @@ count-bits-spec =
     μ-loop
     loop-holds
     has32-requires
-    one-requires
+    one-if-requires
     add-sum
     add-c
     loop-less
