@@ -1,3 +1,4 @@
 pub mod Decimal
 pub mod Laws
 pub mod Printed
+pub mod Putting

@@ -62,9 +62,12 @@ abbrev pub firstLine : Problem → List ℕ
 firstLine P = sheetWord ++ (field (P .n) ++ (field (sizeSum P) ++ (10 ∷ [])))
 
 -- "Step lines: step number from 1, word, the fields after the kind."
+abbrev pub stepLine : ℕ → Record → List ℕ
+stepLine k r = decimal k ++ (32 ∷ (stepText r ++ (10 ∷ [])))
+
 unfoldable pub stepLines : ℕ → List Record → List ℕ
 stepLines k [] = []
-stepLines k (r ∷ t) = (decimal k ++ (32 ∷ (stepText r ++ (10 ∷ [])))) ++ stepLines (k + 1) t
+stepLines k (r ∷ t) = stepLine k r ++ stepLines (k + 1) t
 
 -- "Last line: end, steps, items in, settings on at items in."
 abbrev pub lastLine : Problem → State → ℕ → List ℕ

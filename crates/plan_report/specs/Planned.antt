@@ -9,7 +9,7 @@ use Rattle.problem.specs.declared.End.{End}
 use Rattle.problem.specs.declared.Masks.{Masks}
 use Rattle.sheet.specs.Sheet.{sheetNumber}
 use Rattle.jobs.specs.WithSheet.{withSheet}
-use Rattle.fields.specs.Print.{field, refusedLine, runLines, inputLimit}
+use Rattle.fields.specs.Print.{fieldsText, refusedLine, runLines, inputLimit}
 use Rattle.pick.specs.Pick.{firstLeft, planLeft}
 use Rattle.report.specs.Report.{textIn, Ran}
 
@@ -20,14 +20,9 @@ planWord = 112 ∷ 108 ∷ 97 ∷ 110 ∷ []
 abbrev pub noPlanLine : List ℕ
 noPlanLine = 110 ∷ 111 ∷ 32 ∷ (planWord ++ (10 ∷ []))
 
--- a field for each setting
-unfoldable pub settingFields : List ℕ → List ℕ
-settingFields [] = []
-settingFields (v ∷ w) = field v ++ settingFields w
-
 -- "`plan` and the setting of each item, item 0 first"
 abbrev pub planLine : List ℕ → List ℕ
-planLine w = planWord ++ (settingFields w ++ (10 ∷ []))
+planLine w = planWord ++ (fieldsText w ++ (10 ∷ []))
 
 -- that, or "no plan"
 abbrev pub foundLine : Bool → List ℕ → List ℕ

@@ -5,7 +5,8 @@ ghost use lib.ListN.{length, replicate};
 ghost use Rattle.sheet.specs.Sheet.{layout, Keeps};
 ghost use Rattle.sheet.specs.Relation.{problemOf};
 ghost use Rattle.buffers.specs.Written.{fronted, written};
-ghost use Rattle.plan_report.specs.Planned.{settingFields, planLine, foundLine, plannedLines, plannedRoom, plannedText, Picks};
+ghost use Rattle.fields.specs.Print.{fieldsText};
+ghost use Rattle.plan_report.specs.Planned.{planLine, foundLine, plannedLines, plannedRoom, plannedText, Picks};
 use fields::put_byte;
 use fields::put_bytes;
 use fields::put_field;
@@ -19,7 +20,7 @@ use sheet::SheetRead;
 // A field for each setting.
 fn put_settings(out: &mut [u8], at: usize, plan: &[u8]) -> usize
     requires { ⌜ at + 6 * length (now plan) ≤ length (now out) ⌝ }
-    ensures text { λ r. ⌜ (now (out .exit) ≡ written (now (out .entry)) at (settingFields (now (plan .entry)))) × (r ≡ at + length (settingFields (now (plan .entry)))) ⌝ }
+    ensures text { λ r. ⌜ (now (out .exit) ≡ written (now (out .entry)) at (fieldsText (now (plan .entry)))) × (r ≡ at + length (fieldsText (now (plan .entry)))) ⌝ }
     ensures within { λ r. ⌜ r ≤ at + 6 * length (now (plan .entry)) ⌝ }
 {
     let mut end = at;

@@ -3,7 +3,7 @@ ghost use mathlib.Core.Path.{_≡_};
 ghost use mathlib.Core.List.{_∷_, _++_, []};
 ghost use Prim.Native.Nat.{_+_, _<_, _≤_};
 ghost use lib.ListN.{length};
-ghost use Rattle.fields.specs.Print.{decimal, field, sheetWord, stepWord, stepText, endWord, refusedLine};
+ghost use Rattle.fields.specs.Print.{decimal, field, sheetWord, stepWord, stepText, stepLine, endWord, refusedLine};
 ghost use Rattle.trace.specs.Trace.{Small};
 ghost use Rattle.buffers.specs.Written.{written};
 use fields::put_byte;
@@ -55,7 +55,7 @@ fn put_step(out: &mut [u8], at: usize, r: Record) -> usize
 // "Step lines: step number from 1, word, the fields after the kind."
 pub fn put_step_line(out: &mut [u8], at: usize, k: usize, r: Record) -> usize
     requires { ⌜ (k < 100000) × ((at + 30 ≤ length (now out)) × Small r) ⌝ }
-    ensures text { λ q. ⌜ (now (out .exit) ≡ written (now (out .entry)) at (decimal k ++ (32 ∷ (stepText r ++ (10 ∷ []))))) × (q ≡ at + length (decimal k ++ (32 ∷ (stepText r ++ (10 ∷ []))))) ⌝ }
+    ensures text { λ q. ⌜ (now (out .exit) ≡ written (now (out .entry)) at (stepLine k r)) × (q ≡ at + length (stepLine k r)) ⌝ }
     ensures within { λ q. ⌜ q ≤ at + 30 ⌝ }
 {
     let p = put_decimal(out, at, k);

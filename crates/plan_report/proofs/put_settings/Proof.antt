@@ -1,19 +1,20 @@
--- `plan_report::put_settings`: the loop of proofs/Lines.antt. Assumes nothing.
+-- `plan_report::put_settings`: the settings' fields, written one by one. Assumes nothing.
 use Prim.Native.Nat.{_-_}
 use native.Mathlib.Omega.{arith}
-use lib.ListN.{length}
-use Rattle.plan_report.proofs.Lines.{Putting, putting-start, kept-length, field-room, putting-next, all-put}
+use lib.ListN.{length, drop}
+use Rattle.fields.specs.Print.{fieldsText}
+use Rattle.fields.proofs.Putting.{Putting, putting-start, kept-length, piece-room, putting-next, all-put, one-field, no-field}
 use Rattle.plan_report.proofs.put_settings.Statement.{statement}
 use Rattle.plan_report.proofs.put_settings.Tie as tie
 
 abbrev Inv-loop : tie.InvT-loop
-Inv-loop out₀ at plan end₀ k₀ out end k = Putting out₀ at plan out end k
+Inv-loop out₀ at plan end₀ k₀ out end k = Putting 6 (length plan) out₀ at (fieldsText plan) out end k (fieldsText (drop k plan))
 
 abbrev μ-loop : tie.MeasureT-loop
 μ-loop out₀ at plan end₀ k₀ out end k = length plan - k
 
 loop-holds : tie.Need-loop-holds Inv-loop μ-loop
-loop-holds c = putting-start _ _ _ (c .before .before .pre)
+loop-holds c = putting-start _ _ _ _ _ (c .before .before .pre)
 
 shared-slice-read-put-field : tie.Need-shared-slice-read-put-field Inv-loop μ-loop
 shared-slice-read-put-field c = omega arith
@@ -24,7 +25,7 @@ cast-put-field c = omega (arith, c .shared-slice-known2 .given (c .before .befor
 put-field-requires : tie.Need-put-field-requires Inv-loop μ-loop
 put-field-requires c κs =
     let w = c .before .before .before .loop in
-    (omega (arith, c .shared-slice-known2 .given (w .k)), field-room _ _ _ _ _ _ (w .inv) (omega arith))
+    (omega (arith, c .shared-slice-known2 .given (w .k)), piece-room _ _ _ _ _ _ _ _ _ (w .inv) (omega arith))
 
 add-k : tie.Need-add-k Inv-loop μ-loop
 add-k c = omega arith
@@ -36,13 +37,13 @@ loop-again : tie.Need-loop-again Inv-loop μ-loop
 loop-again c =
     let w = c .before .before .before .before .before .before .loop in
     let p = c .before .before .put-field .ensures in
-    putting-next _ _ _ _ _ _ (w .inv) (omega arith) _ _ (p .0) (p .1)
+    putting-next _ _ _ _ _ _ _ _ _ (w .inv) (omega arith) _ _ (one-field _ _ (omega arith)) _ _ (p .0) (p .1)
 
 same-length : tie.Need-same-length Inv-loop μ-loop
-same-length c = kept-length _ _ _ _ _ _ (c .before .loop .inv)
+same-length c = kept-length _ _ _ _ _ _ _ _ _ (c .before .loop .inv)
 
 returns : tie.Need-returns Inv-loop μ-loop
-returns c = let w = c .before .loop in (all-put _ _ _ _ _ _ (w .inv) (omega arith), omega (arith, w .inv .within, w .inv .turn))
+returns c = let w = c .before .loop in (all-put _ _ _ _ _ _ _ _ _ (w .inv) (no-field _ _ (omega arith)), omega (arith, w .inv .within, w .inv .turn))
 
 pub put-settings-spec : {M : Type 1} → statement M
 put-settings-spec =

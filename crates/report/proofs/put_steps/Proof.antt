@@ -1,21 +1,24 @@
--- `report::put_steps`: the loop of proofs/Steps.antt. Assumes nothing.
+-- `report::put_steps`: the step lines, written one by one. Assumes nothing.
 use mathlib.Core.Path.{sym, _∙_}
 use Prim.Native.Nat.{_-_}
 use native.Mathlib.Omega.{arith}
 use Rattle.report.proofs.Records.{read-small}
-use Rattle.report.proofs.Steps.{Putting, putting-start, kept-length, line-room, putting-next, all-put, end-put, malformed-put}
+use Rattle.fields.specs.Print.{stepLines}
+use Rattle.fields.proofs.Putting.{Putting, putting-start, kept-length, piece-room, putting-next, all-put}
+use Rattle.report.specs.Records.{recordsIn}
+use Rattle.report.proofs.Steps.{linesLeft, one-line, all-lines, end-lines, malformed-lines}
 use borrow.Author.Needs.{needs}
 use Rattle.report.proofs.put_steps.Statement.{statement}
 use Rattle.report.proofs.put_steps.Tie as tie
 
 abbrev Inv-loop : tie.InvT-loop
-Inv-loop out₀ at trace steps place₀ end₀ k₀ out place end k = Putting out₀ at trace steps out place end k
+Inv-loop out₀ at trace steps place₀ end₀ k₀ out place end k = Putting 30 steps out₀ at (stepLines 1 (recordsIn steps trace 1)) out end k (linesLeft trace steps place k)
 
 abbrev μ-loop : tie.MeasureT-loop
 μ-loop out₀ at trace steps place₀ end₀ k₀ out place end k = steps - k
 
 loop-holds : tie.Need-loop-holds Inv-loop μ-loop
-loop-holds c = putting-start _ _ _ _ (c .before .before .pre .1)
+loop-holds c = putting-start _ _ _ _ _ (c .before .before .pre .1)
 
 record-at-requires : tie.Need-record-at-requires Inv-loop μ-loop
 record-at-requires c κs = search needs
@@ -31,7 +34,7 @@ put-step-line-requires c κs =
     let w = c .before .before .before .before .before .before .loop in
     let known = c .before .before .before .before .before .before .before .shared-slice-known in
     let e = sym (c .before .before .before .before .record-at .ensures) ∙ c .before .before .«record» .given .1 in
-    (omega arith, (line-room _ _ _ _ _ _ _ _ (w .inv) (omega arith), read-small _ (λ k. omega (arith, known .given k)) _ _ _ e))
+    (omega arith, (piece-room _ _ _ _ _ _ _ _ _ (w .inv) (omega arith), read-small _ (λ k. omega (arith, known .given k)) _ _ _ e))
 
 add-k : tie.Need-add-k Inv-loop μ-loop
 add-k c = omega arith
@@ -44,35 +47,35 @@ loop-again c =
     let w = c .before .before .before .before .before .before .before .before .before .loop in
     let e = sym (c .before .before .before .before .before .before .before .record-at .ensures) ∙ c .before .before .before .before .before .«record» .given .1 in
     let p = c .before .before .put-step-line .ensures in
-    putting-next _ _ _ _ _ _ _ _ (w .inv) (omega arith) _ _ e _ _ (p .0) (p .1)
+    putting-next _ _ _ _ _ _ _ _ _ (w .inv) (omega arith) _ _ (one-line _ _ _ _ (omega arith) _ _ e) _ _ (p .0) (p .1)
 
 enum-told : tie.Need-enum-told Inv-loop μ-loop
 enum-told c = search needs
 
 same-length : tie.Need-same-length Inv-loop μ-loop
-same-length c = kept-length _ _ _ _ _ _ _ _ (c .before .before .before .before .loop .inv)
+same-length c = kept-length _ _ _ _ _ _ _ _ _ (c .before .before .before .before .loop .inv)
 
 returns : tie.Need-returns Inv-loop μ-loop
 returns c =
     let w = c .before .before .before .before .loop in
-    (end-put _ _ _ _ _ _ _ _ (w .inv) (sym (c .before .before .record-at .ensures) ∙ c .enum-told .given .1), omega arith)
+    (all-put _ _ _ _ _ _ _ _ _ (w .inv) (end-lines _ _ _ _ (sym (c .before .before .record-at .ensures) ∙ c .enum-told .given .1)), omega arith)
 
 enum-told-2 : tie.Need-enum-told-2 Inv-loop μ-loop
 enum-told-2 c = search needs
 
 same-length-2 : tie.Need-same-length-2 Inv-loop μ-loop
-same-length-2 c = kept-length _ _ _ _ _ _ _ _ (c .before .before .before .before .loop .inv)
+same-length-2 c = kept-length _ _ _ _ _ _ _ _ _ (c .before .before .before .before .loop .inv)
 
 returns-2 : tie.Need-returns-2 Inv-loop μ-loop
 returns-2 c =
     let w = c .before .before .before .before .loop in
-    (malformed-put _ _ _ _ _ _ _ _ (w .inv) (sym (c .before .before .record-at .ensures) ∙ c .enum-told2 .given .1), omega arith)
+    (all-put _ _ _ _ _ _ _ _ _ (w .inv) (malformed-lines _ _ _ _ (sym (c .before .before .record-at .ensures) ∙ c .enum-told2 .given .1)), omega arith)
 
 same-length-3 : tie.Need-same-length-3 Inv-loop μ-loop
-same-length-3 c = kept-length _ _ _ _ _ _ _ _ (c .before .loop .inv)
+same-length-3 c = kept-length _ _ _ _ _ _ _ _ _ (c .before .loop .inv)
 
 returns-3 : tie.Need-returns-3 Inv-loop μ-loop
-returns-3 c = let w = c .before .loop in (all-put _ _ _ _ _ _ _ _ (w .inv) (omega arith), omega arith)
+returns-3 c = let w = c .before .loop in (all-put _ _ _ _ _ _ _ _ _ (w .inv) (all-lines _ _ _ _ (omega arith)), omega arith)
 
 pub put-steps-spec : {M : Type 1} → statement M
 put-steps-spec =
