@@ -17,7 +17,7 @@ use Rattle.graph.specs.Graph.{fileLines, lineAt, badFile, countLines, isEdge, s
 use Rattle.graph.specs.declared.Line.the-variants.{Edge}
 use Rattle.graph.proofs.Turned.{BadFile, bad-file-iff, loop-iff}
 use Rattle.compose.proofs.Over.{sheet-stands}
-use Rattle.colour.specs.Colour.{colouredNumber, hasLoop, outOfRange, verticesOf, graphProblem, graphSheet, ColourResult, colourJob}
+use Rattle.colour.specs.Colour.{colouredNumber, hasLoop, outOfRange, verticesOf, graphProblem, graphSheet, ColourResult, colourRefused, colourJob}
 use Rattle.colour.specs.declared.ColourRefusal.{ColourRefusal}
 use Rattle.colour.specs.declared.ColourRefusal.the-variants.{File, Loop, Count, Range, Buffer}
 use Rattle.colour.specs.declared.Coloured.{Coloured}
@@ -87,7 +87,7 @@ module _ (f : List ℕ) (k : ℕ) (b : List ℕ) where
 
   -- the whole result, for each cause
   abbrev resultOf : Coloured → ColourResult
-  resultOf (Refused r) = record { answer = Refused r; buffer = b }
+  resultOf (Refused r) = colourRefused r b
   resultOf (Written w) = record { answer = Written w; buffer = fronted (graphSheet f k) b }
 
   cause-results : (x : Coloured) → ColourCause x → colourJob f k b ≡ resultOf x

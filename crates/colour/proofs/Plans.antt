@@ -1,6 +1,6 @@
 -- The plans of the sheet that is written are the proper colourings of the file's graph; its blocks are the edges. Assumes nothing.
 use mathlib.Core.Path.{_≡_, refl, sym, ap, _∙_, subst}
-use mathlib.Core.Bool.{Bool, true, false, not, _&&_, _||_, or-true}
+use mathlib.Core.Bool.{Bool, true, false, not, cond, _&&_, _||_, or-true}
 use mathlib.Core.List.{List, [], _∷_, _++_, append-assoc}
 use mathlib.Core.Logic.{_⊎_, inl, inr, ⊎-elim, _≢_, _↔_, Iff·rfl}
 use Prim.Native.Nat.{ℕ, suc, _+_, _-_, _≤_, _<_}
@@ -28,7 +28,7 @@ use Rattle.graph.proofs.Turned.{BadFile, bad-file-iff, there}
 use Rattle.compose.specs.Compose.{sheetBytes}
 use Rattle.compose.proofs.Written.{written-keeps, written-problem, written-short}
 use Rattle.compose.proofs.Blocks.{layout-roomy, row-allows, block-bars}
-use Rattle.colour.specs.Colour.{colouredNumber, verticesOf, hasLoop, miscounted, outOfRange, graphProblem, graphSheet, refuseIf, colourDone, colourJob}
+use Rattle.colour.specs.Colour.{colouredNumber, verticesOf, hasLoop, miscounted, outOfRange, graphProblem, graphSheet, colourRefused, colourDone, colourJob}
 use Rattle.colour.specs.declared.ColourRefusal.the-variants.{File, Loop, Count, Range, Buffer}
 use Rattle.colour.specs.declared.Coloured.the-variants.{Written}
 use Rattle.colour.proofs.Filling.{joinedPair, allows, colouring-size, colouring-vertices, colouring-bounded}
@@ -500,9 +500,9 @@ module _ {f g : List ℕ} (G : GivenAgain f g) where
 
       go : (badFile f ≡ true) ⊎ (badFile f ≡ false) → colourJob g k b ≡ colourJob f k b
       go (inl e) = rw (bad, e)
-      go (inr e) = λ i. refuseIf (bad i) File b
-          (refuseIf (loop-same i) Loop b
-          (refuseIf (miscounted-same (one e) i) Count b
-          (refuseIf (outOfRange (vertices-same i) k) Range b
-          (refuseIf (ltb (length b) (length (sheet-same k i))) Buffer b
+      go (inr e) = λ i. cond (bad i) (colourRefused File b)
+          (cond (loop-same i) (colourRefused Loop b)
+          (cond (miscounted-same (one e) i) (colourRefused Count b)
+          (cond (outOfRange (vertices-same i) k) (colourRefused Range b)
+          (cond (ltb (length b) (length (sheet-same k i))) (colourRefused Buffer b)
           (colourDone (sheet-same k i) b)))))

@@ -63,8 +63,8 @@ pub record ColourResult : Type 0 where
   pub buffer : List ℕ
 
 -- a refusal leaves the buffer as it was
-abbrev pub refuseIf : Bool → ColourRefusal → List ℕ → ColourResult → ColourResult
-refuseIf t r b rest = cond t (record { answer = Refused r; buffer = b }) rest
+abbrev pub colourRefused : ColourRefusal → List ℕ → ColourResult
+colourRefused r b = record { answer = Refused r; buffer = b }
 
 -- "The buffer holds the sheet at its front and its old bytes after. The job answers the bytes written."
 abbrev pub colourDone : (s b : List ℕ) → ColourResult
@@ -73,9 +73,9 @@ colourDone s b = record { answer = Written (length s); buffer = fronted s b }
 -- the file f, k channels and the buffer b: 21 to 25 "in that order, over the whole file"; 25 is "when the sheet buffer is too short"
 unfoldable pub colourJob : (f : List ℕ) (k : ℕ) (b : List ℕ) → ColourResult
 colourJob f k b =
-    refuseIf (badFile f) File b
-    (refuseIf (hasLoop f) Loop b
-    (refuseIf (miscounted f) Count b
-    (refuseIf (outOfRange (verticesOf f) k) Range b
-    (refuseIf (ltb (length b) (length (graphSheet f k))) Buffer b
+    cond (badFile f) (colourRefused File b)
+    (cond (hasLoop f) (colourRefused Loop b)
+    (cond (miscounted f) (colourRefused Count b)
+    (cond (outOfRange (verticesOf f) k) (colourRefused Range b)
+    (cond (ltb (length b) (length (graphSheet f k))) (colourRefused Buffer b)
     (colourDone (graphSheet f k) b)))))

@@ -12,7 +12,7 @@ use Rattle.graph.specs.Colouring.{colouring}
 use Rattle.graph.specs.Scan.{isMarked}
 use Rattle.sheet.specs.Sheet.{layout}
 use Rattle.compose.specs.Compose.{sheetBytes}
-use Rattle.colour.specs.Colour.{ColourResult, refuseIf, colourDone, outOfRange}
+use Rattle.colour.specs.Colour.{ColourResult, colourRefused, colourDone, outOfRange}
 use Rattle.colour.specs.declared.ColourRefusal.the-variants.{Loop, Count, Range, Buffer}
 
 -- the problem that marks say: n vertices and k channels
@@ -35,12 +35,12 @@ edgeRows k = tab 16 (λ a. without 16 (2 ^ k - 1) a)
 
 -- the sheet of a problem over the buffer b: 25, or written
 unfoldable pub writeJob : Problem → List ℕ → ColourResult
-writeJob P b = refuseIf (ltb (length b) (length (sheetBytes layout 1 P))) Buffer b (colourDone (sheetBytes layout 1 P) b)
+writeJob P b = cond (ltb (length b) (length (sheetBytes layout 1 P))) (colourRefused Buffer b) (colourDone (sheetBytes layout 1 P) b)
 
 -- the job once the file is read: v vertices and e edges are stated, l lines are edges, o tells a loop
 unfoldable pub graphJob : (near : List ℕ) (v e l : ℕ) (o : Bool) (k : ℕ) (b : List ℕ) → ColourResult
 graphJob near v e l o k b =
-    refuseIf o Loop b
-    (refuseIf (not (eqb l e)) Count b
-    (refuseIf (outOfRange v k) Range b
+    cond o (colourRefused Loop b)
+    (cond (not (eqb l e)) (colourRefused Count b)
+    (cond (outOfRange v k) (colourRefused Range b)
     (writeJob (markedProblem near v k) b)))
