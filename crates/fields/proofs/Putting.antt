@@ -7,7 +7,7 @@ use native.Mathlib.Numerals.{add-one}
 use native.Mathlib.Omega.{arith}
 use lib.ListN.{length, drop, getD}
 use lib.Seq.{drop-cons}
-use Rattle.trace.proofs.Written.{written-nil, length-written}
+use Rattle.buffers.proofs.Written.{written-nil, length-written}
 use Rattle.fields.specs.Print.{field, fieldsText}
 use Rattle.fields.proofs.Laws.{Puts, same-text, after}
 

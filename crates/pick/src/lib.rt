@@ -167,7 +167,8 @@ fn done_number(plan: bool, end: End, steps: usize, written: usize) -> u64
 {
     256
         * (run::end_number(end) as u64
-            + 256 * (steps as u64 + 65536 * (written as u64 + 65536 * bounded::one_if(plan) as u64)))
+            + 256
+                * (steps as u64 + 65536 * (written as u64 + 65536 * bounded::one_if(plan) as u64)))
 }
 
 // The number of an answer: the refusal's, or the run's own and whether a plan was written.

@@ -14,10 +14,10 @@ ghost use Rattle.fields.specs.Print.{stepLines, runLines, sheetLines};
 ghost use Rattle.report.specs.Records.{recordsIn};
 ghost use Rattle.report.specs.Report.{reportRoom, reportText, Ran};
 use bounded::has32;
+use buffers::byte;
 use problem::End;
 use problem::Masks;
 use run::RunOutcome;
-use buffers::byte;
 use trace::RecordRead;
 
 // ---- counts of the last state
