@@ -22,6 +22,9 @@ FOLDERS = ("crates", "docs", "rust", "tests", "examples", "include")
 # words that stand for a name
 STANDS_FOR = re.compile(r"\b(NAME|LABEL|CRATE|CHANNELS|NN)\b|/F/|…")
 
+# no file of the tree declares it: the kit makes it from an enum
+KIT = {"the-variants"}
+
 NAME = r"[^\W\d_][\w'-]*"
 PLACE = re.compile(
     r"(?P<path>\b(?:crates/)?(?P<crate>[a-z]\w*)/(?P<folder>specs|proofs|src)/(?P<file>[A-Za-z]\w*)\.(?:antt|rt)\b)"
@@ -165,7 +168,7 @@ class Page:
                     self.cited.add(name)
             near = [file for _, _, files in places for file in files]
             for begin, _, name in names:
-                if begin not in direct and begin in whole and "-" in name:
+                if begin not in direct and begin in whole and "-" in name and name not in KIT:
                     self.loose.append((line, name, near))
 
     def part(self, files, name, said):
