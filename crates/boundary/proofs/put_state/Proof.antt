@@ -20,41 +20,8 @@ Inv-loop b₀ m i₀ b i = (i ≤ 32) × (length b ≡ 68) × (b ≡ written b�
 abbrev μ-loop : tie.MeasureT-loop
 μ-loop b₀ m i₀ b i = 32 - i
 
-cast-put-word : tie.Need-cast-put-word Inv-loop μ-loop
-cast-put-word c = search needs
-
-put-word-requires : tie.Need-put-word-requires Inv-loop μ-loop
-put-word-requires c κs = search needs
-
-cast-put-word-2 : tie.Need-cast-put-word-2 Inv-loop μ-loop
-cast-put-word-2 c = search needs
-
-put-word-requires-2 : tie.Need-put-word-requires-2 Inv-loop μ-loop
-put-word-requires-2 c κs = search needs
-
 loop-holds : tie.Need-loop-holds Inv-loop μ-loop
 loop-holds c = (search needs, search needs, sym (words-none _ _))
-
-mul-put-word : tie.Need-mul-put-word Inv-loop μ-loop
-mul-put-word c = search needs
-
-add-put-word : tie.Need-add-put-word Inv-loop μ-loop
-add-put-word c = search needs
-
-mul-put-word-2 : tie.Need-mul-put-word-2 Inv-loop μ-loop
-mul-put-word-2 c = search needs
-
-element-copy-out-put-word : tie.Need-element-copy-out-put-word Inv-loop μ-loop
-element-copy-out-put-word c = search needs
-
-put-word-requires-3 : tie.Need-put-word-requires-3 Inv-loop μ-loop
-put-word-requires-3 c κs = search needs
-
-add-i : tie.Need-add-i Inv-loop μ-loop
-add-i c = search needs
-
-loop-less : tie.Need-loop-less Inv-loop μ-loop
-loop-less c = search needs
 
 loop-again : tie.Need-loop-again Inv-loop μ-loop
 loop-again c =
@@ -65,9 +32,6 @@ loop-again c =
     let l : length b ≡ 68 = search needs in
     let e = c .before .before .put-word3 .ensures ∙ ap (λ (d : List ℕ). written d (4 + 2 * w .i) (numberBytes 2 (getD (m .domains) (w .i) 0))) (w .inv .2) in
     (omega arith, search needs, e ∙ words-put b (m .domains) 4 (w .i) (omega arith) (omega arith))
-
-same-length : tie.Need-same-length Inv-loop μ-loop
-same-length c = search needs
 
 returns : tie.Need-returns Inv-loop μ-loop
 returns c =
@@ -91,18 +55,18 @@ put-state-spec =
     (tie.spec
     Inv-loop
     μ-loop
-    cast-put-word
-    put-word-requires
-    cast-put-word-2
-    put-word-requires-2
+    (λ c. search needs)
+    (λ c κs. search needs)
+    (λ c. search needs)
+    (λ c κs. search needs)
     loop-holds
-    mul-put-word
-    add-put-word
-    mul-put-word-2
-    element-copy-out-put-word
-    put-word-requires-3
-    add-i
-    loop-less
+    (λ c. search needs)
+    (λ c. search needs)
+    (λ c. search needs)
+    (λ c. search needs)
+    (λ c κs. search needs)
+    (λ c. search needs)
+    (λ c. search needs)
     loop-again
-    same-length
+    (λ c. search needs)
     returns)

@@ -5,9 +5,6 @@ use native.Mathlib.Omega.{arith}
 use Rattle.buffers.proofs.byte.Statement.{statement}
 use Rattle.buffers.proofs.byte.Tie as tie
 
-shared-slice-read-result : tie.Need-shared-slice-read-result
-shared-slice-read-result c = search needs
-
 cast-result : tie.Need-cast-result
 cast-result c = omega (arith, c .shared-slice-known .given (c .before .args .k))
 
@@ -15,4 +12,4 @@ returns : tie.Need-returns
 returns c = record { is = refl; below = omega (arith, c .shared-slice-known .given (c .before .args .k)) }
 
 pub byte-spec : {M : Type 1} → statement M
-byte-spec = tie.close (tie.spec shared-slice-read-result cast-result returns)
+byte-spec = tie.close (tie.spec (λ c. search needs) cast-result returns)

@@ -8,21 +8,6 @@ use native.Mathlib.Omega.{arith}
 use Rattle.buffers.proofs.long.Statement.{statement}
 use Rattle.buffers.proofs.long.Tie as tie
 
-word-requires : tie.Need-word-requires
-word-requires c κs = search needs
-
-mul-result : tie.Need-mul-result
-mul-result c = search needs
-
-add-word : tie.Need-add-word
-add-word c = search needs
-
-word-requires-2 : tie.Need-word-requires-2
-word-requires-2 c κs = search needs
-
-add-result : tie.Need-add-result
-add-result c = search needs
-
 returns : tie.Need-returns
 returns c =
     let k = c .before .before .before .args .k in
@@ -34,4 +19,4 @@ returns c =
     record { is = omega arith; below = omega arith }
 
 pub long-spec : {M : Type 1} → statement M
-long-spec = tie.close (tie.spec word-requires mul-result add-word word-requires-2 add-result returns)
+long-spec = tie.close (tie.spec (λ c κs. search needs) (λ c. search needs) (λ c. search needs) (λ c κs. search needs) (λ c. search needs) returns)

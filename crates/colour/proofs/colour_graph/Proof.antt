@@ -20,9 +20,6 @@ returns-2 c =
     let q = ne-eqb (a .lines) (a .edges) (c .if2 .taken) in
     rw (c .before .if1 .left, q) (refl, refl)
 
-out-of-range-requires : tie.Need-out-of-range-requires
-out-of-range-requires c κs = search needs
-
 returns-3 : tie.Need-returns-3
 unfolding graphJob
 returns-3 c =
@@ -38,9 +35,6 @@ write-requires c κs =
     let r = in-range _ _ o in
     (record { marks = c .before .before .before .before .before .before .before .pre; vertices = r .v-few; channels = r .k-few }, r .k-some)
 
-same-length : tie.Need-same-length
-same-length c = search needs
-
 returns-4 : tie.Need-returns-4
 unfolding graphJob
 returns-4 c =
@@ -55,8 +49,8 @@ colour-graph-spec =
     (tie.spec
     returns
     returns-2
-    out-of-range-requires
+    (λ c κs. search needs)
     returns-3
     write-requires
-    same-length
+    (λ c. search needs)
     returns-4)

@@ -8,34 +8,16 @@ use borrow.Author.Needs.{needs}
 use Rattle.colour.proofs.write.Statement.{statement}
 use Rattle.colour.proofs.write.Tie as tie
 
-blank-table-requires : tie.Need-blank-table-requires
-blank-table-requires c κs = search needs
-
-slice-aggregate-fill-table : tie.Need-slice-aggregate-fill-table
-slice-aggregate-fill-table c = search needs
-
 fill-table-requires : tie.Need-fill-table-requires
 fill-table-requires c κs =
     let p = c .before .before .before .before .pre in
     (p .0, p .1, c .before .blank-table .ensures)
-
-slice-aggregate-write-sheet : tie.Need-slice-aggregate-write-sheet
-slice-aggregate-write-sheet c = search needs
 
 write-sheet-requires : tie.Need-write-sheet-requires
 write-sheet-requires c κs =
     let a = c .before .before .before .before .before .before .before .before .args in
     let p = c .before .before .before .before .before .before .before .before .pre in
     (filled-rows (marked-bounded (a .near .now) (a .n) (a .k) (p .0) (p .1)) (c .before .before .before .fill-table .ensures), record { taken = refl })
-
-enum-told : tie.Need-enum-told
-enum-told c = search needs
-
-enum-known-w : tie.Need-enum-known-w
-enum-known-w c = search needs
-
-same-length : tie.Need-same-length
-same-length c = search needs
 
 returns : tie.Need-returns
 returns c =
@@ -46,9 +28,6 @@ returns c =
     let t = c .before .before .before .before .before .before .before .before .fill-table .ensures in
     let w = c .before .before .before .before .write-sheet .ensures in
     (ap colouredOf (sym (c .enum-told .given .1) ∙ w .0) ∙ write-answers P B _ (a .sheet .now) t, w .1 ∙ write-leaves P B _ (a .sheet .now) t)
-
-same-length-2 : tie.Need-same-length-2
-same-length-2 c = search needs
 
 returns-2 : tie.Need-returns-2
 returns-2 c =
@@ -64,14 +43,14 @@ pub write-spec : {M : Type 1} → statement M
 write-spec =
     tie.close
     (tie.spec
-    blank-table-requires
-    slice-aggregate-fill-table
+    (λ c κs. search needs)
+    (λ c. search needs)
     fill-table-requires
-    slice-aggregate-write-sheet
+    (λ c. search needs)
     write-sheet-requires
-    enum-told
-    enum-known-w
-    same-length
+    (λ c. search needs)
+    (λ c. search needs)
+    (λ c. search needs)
     returns
-    same-length-2
+    (λ c. search needs)
     returns-2)

@@ -8,18 +8,6 @@ use Rattle.colour_sheet.proofs.channels_of.Tie as tie
 returns : tie.Need-returns
 returns c = sym (none-long (c .before .before .args .word .now) (c .if1 .taken))
 
-field-at-requires : tie.Need-field-at-requires
-field-at-requires c κs = search needs
-
-enum-told : tie.Need-enum-told
-enum-told c = search needs
-
-enum-known-x : tie.Need-enum-known-x
-enum-known-x c = search needs
-
-whole-requires : tie.Need-whole-requires
-whole-requires c κs = search needs
-
 returns-2 : tie.Need-returns-2
 returns-2 c = sym (none-read (c .before .before .before .before .before .args .word .now) (rw (c .enum-told .given .1) at (c .before .before .field-at .ensures)))
 
@@ -29,4 +17,4 @@ returns-3 c = c .whole .ensures ∙ one-read (c .before .before .before .before 
 pub channels-of-spec : {M : Type 1} → statement M
 channels-of-spec =
     tie.close
-    (tie.spec returns field-at-requires enum-told enum-known-x whole-requires returns-2 returns-3)
+    (tie.spec returns (λ c κs. search needs) (λ c. search needs) (λ c. search needs) (λ c κs. search needs) returns-2 returns-3)

@@ -5,9 +5,6 @@ use borrow.Author.Needs.{needs}
 use Rattle.colour_sheet.proofs.whole.Statement.{statement}
 use Rattle.colour_sheet.proofs.whole.Tie as tie
 
-add-if1 : tie.Need-add-if1
-add-if1 c = search needs
-
 returns : tie.Need-returns
 returns c = rw (eq-eqb (c .before .args .next) (c .before .args .n + 1) (c .if1 .taken))
 
@@ -15,4 +12,4 @@ returns-2 : tie.Need-returns-2
 returns-2 c = rw (ne-eqb (c .before .args .next) (c .before .args .n + 1) (c .if1 .left))
 
 pub whole-spec : {M : Type 1} → statement M
-whole-spec = tie.close (tie.spec add-if1 returns returns-2)
+whole-spec = tie.close (tie.spec (λ c. search needs) returns returns-2)

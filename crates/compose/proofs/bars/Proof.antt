@@ -49,12 +49,6 @@ returns c =
     let k : l .a < P .size (a .i) = omega arith in
     sym (any-hit (rowBars P (a .i) (a .j)) _ (l .a) k (row-bars P (a .i) (a .j) (l .a) (λ q. n (omega arith))))
 
-add-a : tie.Need-add-a Inv-loop μ-loop
-add-a c = search needs
-
-loop-less : tie.Need-loop-less Inv-loop μ-loop
-loop-less c = search needs
-
 loop-again : tie.Need-loop-again Inv-loop μ-loop
 loop-again c =
     let a = c .before .before .before .before .before .before .before .before .args in
@@ -83,7 +77,7 @@ bars-spec =
     loop-holds
     row-number-requires
     returns
-    add-a
-    loop-less
+    (λ c. search needs)
+    (λ c. search needs)
     loop-again
     returns-2)

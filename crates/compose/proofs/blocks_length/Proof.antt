@@ -45,9 +45,6 @@ add-sum c =
 add-x : tie.Need-add-x Inv-loop μ-loop
 add-x c = let few = held-few (now (c .before .before .before .before .before .args .t)) in omega arith
 
-loop-less : tie.Need-loop-less Inv-loop μ-loop
-loop-less c = search needs
-
 loop-again : tie.Need-loop-again Inv-loop μ-loop
 loop-again c =
     let a = c .before .before .before .before .before .args in
@@ -79,6 +76,6 @@ blocks-length-spec =
     place-length-requires
     add-sum
     add-x
-    loop-less
+    (λ c. search needs)
     loop-again
     returns)

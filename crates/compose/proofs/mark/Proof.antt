@@ -15,9 +15,6 @@ returns c = let a = c .before .before .args in sym (ap oneIf (block-low (held (n
 returns-2 : tie.Need-returns-2
 returns-2 c = let a = c .before .before .before .args in let p = c .before .before .before .pre .1 in sym (ap oneIf (block-out (held (now (a .t))) (a .x) (omega arith) (omega arith)))
 
-bars-requires : tie.Need-bars-requires
-bars-requires c κs = search needs
-
 returns-3 : tie.Need-returns-3
 returns-3 c =
     let a = c .before .before .before .before .before .args in
@@ -31,4 +28,4 @@ returns-4 c =
     sym (ap oneIf (block-in (held (now (a .t))) (a .x) (omega arith) (omega arith) ∙ sym (c .before .bars .ensures) ∙ c .if3 .left))
 
 pub mark-spec : {M : Type 1} → statement M
-mark-spec = tie.close (tie.spec returns returns-2 bars-requires returns-3 returns-4)
+mark-spec = tie.close (tie.spec returns returns-2 (λ c κs. search needs) returns-3 returns-4)

@@ -35,9 +35,6 @@ mark-requires c κs = (c .before .before .before .before .pre .0, c .before .bef
 slice-write-marks : tie.Need-slice-write-marks Inv-loop μ-loop
 slice-write-marks c = let few = held-few (now (c .before .before .before .before .before .args .t)) in let e = c .before .before .before .before .before .pre .1 .0 in let l = c .before .before .loop .inv .1 .0 in omega arith
 
-cast-blocks : tie.Need-cast-blocks Inv-loop μ-loop
-cast-blocks c = search needs
-
 add-blocks : tie.Need-add-blocks Inv-loop μ-loop
 add-blocks c =
     let a = c .before .before .before .before .before .args in
@@ -53,9 +50,6 @@ add-blocks c =
 
 add-x : tie.Need-add-x Inv-loop μ-loop
 add-x c = let few = held-few (now (c .before .before .before .before .before .args .t)) in let e = c .before .before .before .before .before .pre .1 .0 in omega arith
-
-loop-less : tie.Need-loop-less Inv-loop μ-loop
-loop-less c = search needs
 
 loop-again : tie.Need-loop-again Inv-loop μ-loop
 loop-again c =
@@ -104,10 +98,10 @@ mark-blocks-spec =
     mul-loop
     mark-requires
     slice-write-marks
-    cast-blocks
+    (λ c. search needs)
     add-blocks
     add-x
-    loop-less
+    (λ c. search needs)
     loop-again
     same-length
     returns)

@@ -31,9 +31,6 @@ size-requires c κs = let p = c .before .before .before .before .pre in let few 
 size-requires-2 : tie.Need-size-requires-2
 size-requires-2 c κs = let p = c .before .before .before .before .before .pre in (p .0 .table, omega arith)
 
-row-width-requires : tie.Need-row-width-requires
-row-width-requires c κs = search needs
-
 -- the rows are few
 few-rows : (c : tie.After-row-width) → c .before .before .size .result * c .row-width .result ≤ 32
 few-rows c =
@@ -67,7 +64,7 @@ place-length-spec =
     returns
     size-requires
     size-requires-2
-    row-width-requires
+    (λ c κs. search needs)
     mul-result
     add-result
     returns-2)

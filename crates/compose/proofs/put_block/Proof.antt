@@ -28,14 +28,8 @@ slice-write-out c = let h = room (c .before .before) in omega arith
 cast-out-2 : tie.Need-cast-out-2
 cast-out-2 c = let few = held-few (now (c .before .before .args .t)) in let p = c .before .before .pre .0 in omega arith
 
-add-out : tie.Need-add-out
-add-out c = search needs
-
 slice-write-out-2 : tie.Need-slice-write-out-2
 slice-write-out-2 c = let h = room (c .before .before) in simp length-set (omega arith)
-
-add-put-rows : tie.Need-add-put-rows
-add-put-rows c = search needs
 
 put-rows-requires : tie.Need-put-rows-requires
 put-rows-requires c κs = let h = room (c .before .before .before) in (c .before .before .before .pre .0, (c .before .before .before .pre .1 .0, simp length-set (omega arith)))
@@ -58,9 +52,9 @@ put-block-spec =
     cast-out
     slice-write-out
     cast-out-2
-    add-out
+    (λ c. search needs)
     slice-write-out-2
-    add-put-rows
+    (λ c. search needs)
     put-rows-requires
     same-length
     returns)

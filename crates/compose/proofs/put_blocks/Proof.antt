@@ -19,9 +19,6 @@ Inv-loop t v n marks out₀ p₀ x₀ out p x = (x ≤ 32 * n) × Underway out�
 abbrev μ-loop : tie.MeasureT-loop
 μ-loop t v n marks out₀ p₀ x₀ out p x = 32 * n - x
 
-add-p : tie.Need-add-p Inv-loop μ-loop
-add-p c = search needs
-
 loop-holds : tie.Need-loop-holds Inv-loop μ-loop
 loop-holds c = (omega arith, starts _ _ _ (c .before .before .before .pre .1 .1 .1))
 
@@ -48,9 +45,6 @@ put-place-requires c κs =
 add-x : tie.Need-add-x Inv-loop μ-loop
 add-x c = let few = held-few (now (c .before .before .before .before .before .before .before .before .before .args .t)) in let e = c .before .before .before .before .before .before .before .before .before .pre .1 .0 in omega arith
 
-loop-less : tie.Need-loop-less Inv-loop μ-loop
-loop-less c = search needs
-
 loop-again : tie.Need-loop-again Inv-loop μ-loop
 loop-again c =
     let a = c .before .before .before .before .before .before .before .before .before .args in
@@ -74,12 +68,12 @@ put-blocks-spec =
     (tie.spec
     Inv-loop
     μ-loop
-    add-p
+    (λ c. search needs)
     loop-holds
     mul-loop
     put-place-requires
     add-x
-    loop-less
+    (λ c. search needs)
     loop-again
     same-length
     returns)

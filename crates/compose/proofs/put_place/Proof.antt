@@ -32,9 +32,6 @@ put-block-requires c κs =
     let b = has-block P (a .x) e in
     (record { table = p .0 .table; rises = b .rises; ends = b .ends }, (p .1 .1 .0, rw (place-hit layout (a .v) P (a .x) e) at (p .1 .1 .1)))
 
-same-length : tie.Need-same-length
-same-length c = search needs
-
 returns-2 : tie.Need-returns-2
 returns-2 c =
     let a = c .before .before .before .before .before .before .before .before .before .args in
@@ -45,4 +42,4 @@ returns-2 c =
 
 pub put-place-spec : {M : Type 1} → statement M
 put-place-spec =
-    tie.close (tie.spec shared-slice-read-if1 returns put-block-requires same-length returns-2)
+    tie.close (tie.spec shared-slice-read-if1 returns put-block-requires (λ c. search needs) returns-2)

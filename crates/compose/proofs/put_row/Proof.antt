@@ -11,12 +11,6 @@ use Rattle.compose.proofs.put_row.Tie as tie
 cast-out : tie.Need-cast-out
 cast-out c = let e = ap (λ (k : ℕ). 256 ^ k) (c .if1 .taken) in omega arith
 
-slice-write-out : tie.Need-slice-write-out
-slice-write-out c = search needs
-
-same-length : tie.Need-same-length
-same-length c = search needs
-
 returns : tie.Need-returns
 returns c =
     let a = c .before .args in
@@ -30,23 +24,11 @@ cast-out-2 c =
     let e = ap (λ (k : ℕ). 256 ^ k) w in
     omega arith
 
-slice-write-out-2 : tie.Need-slice-write-out-2
-slice-write-out-2 c = search needs
-
-cast-out-3 : tie.Need-cast-out-3
-cast-out-3 c = search needs
-
-add-out : tie.Need-add-out
-add-out c = search needs
-
 slice-write-out-3 : tie.Need-slice-write-out-3
 slice-write-out-3 c =
     let n = c .if1 .left in
     let w : c .before .args .w ≡ 2 = omega arith in
     simp length-set (omega arith)
-
-same-length-2 : tie.Need-same-length-2
-same-length-2 c = search needs
 
 returns-2 : tie.Need-returns-2
 returns-2 c =
@@ -61,13 +43,13 @@ put-row-spec =
     tie.close
     (tie.spec
     cast-out
-    slice-write-out
-    same-length
+    (λ c. search needs)
+    (λ c. search needs)
     returns
     cast-out-2
-    slice-write-out-2
-    cast-out-3
-    add-out
+    (λ c. search needs)
+    (λ c. search needs)
+    (λ c. search needs)
     slice-write-out-3
-    same-length-2
+    (λ c. search needs)
     returns-2)

@@ -30,9 +30,6 @@ size-requires c κs = let p = c .before .before .pre .0 in let few = held-few (n
 size-requires-2 : tie.Need-size-requires-2 Inv-loop μ-loop
 size-requires-2 c κs = let p = c .before .before .before .pre .0 in let few = held-few (now (c .before .before .before .args .t)) in (p .table, omega arith)
 
-row-width-requires : tie.Need-row-width-requires Inv-loop μ-loop
-row-width-requires c κs = search needs
-
 loop-holds : tie.Need-loop-holds Inv-loop μ-loop
 loop-holds c =
     let a = c .before .before .before .before .before .args in
@@ -83,9 +80,6 @@ put-row-requires c κs =
 add-p : tie.Need-add-p Inv-loop μ-loop
 add-p c = let m = room (c .before .before .before .before .before) in let w = c .before .before .before .before .before .before .before .row-width .ensures .few in omega arith
 
-add-a : tie.Need-add-a Inv-loop μ-loop
-add-a c = search needs
-
 loop-less : tie.Need-loop-less Inv-loop μ-loop
 loop-less c = let e = c .before .before .before .before .before .before .before .before .before .size .ensures in omega arith
 
@@ -115,12 +109,12 @@ put-rows-spec =
     μ-loop
     size-requires
     size-requires-2
-    row-width-requires
+    (λ c κs. search needs)
     loop-holds
     row-number-requires
     put-row-requires
     add-p
-    add-a
+    (λ c. search needs)
     loop-less
     loop-again
     same-length

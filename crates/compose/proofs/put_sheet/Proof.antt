@@ -28,9 +28,6 @@ put-front-requires c κs =
     let b = blocks-short layout (a .v) P layout-roomy (held-bounded (p .0 .table)) 1024 0 in
     (omega arith, (version-byte (a .v) (p .1 .1 .1 .1 .0 .taken), (omega arith, (omega arith, omega arith))))
 
-put-sizes-requires : tie.Need-put-sizes-requires
-put-sizes-requires c κs = search needs
-
 put-blocks-requires : tie.Need-put-blocks-requires
 put-blocks-requires c κs =
     let p = c .before .before .before .before .before .before .before .before .before .before .before .before .pre in
@@ -38,9 +35,6 @@ put-blocks-requires c κs =
     let el = p .1 .1 .1 .0 in
     let h = p .1 .1 .1 .1 .1 in
     (p .0, (en, (p .1 .1 .1 .1 .0, omega arith)))
-
-same-length : tie.Need-same-length
-same-length c = search needs
 
 returns : tie.Need-returns
 returns c =
@@ -56,4 +50,4 @@ returns c =
 pub put-sheet-spec : {M : Type 1} → statement M
 put-sheet-spec =
     tie.close
-    (tie.spec put-front-requires put-sizes-requires put-blocks-requires same-length returns)
+    (tie.spec put-front-requires (λ c κs. search needs) put-blocks-requires (λ c. search needs) returns)

@@ -29,18 +29,6 @@ size-requires c κs = let p = c .before .before .before .before .pre in let few 
 cast-out : tie.Need-cast-out Inv-loop μ-loop
 cast-out c = let e = c .size .ensures in let l = held-narrow (c .before .before .before .before .before .pre .0) (c .before .before .loop .i) in omega arith
 
-add-out : tie.Need-add-out Inv-loop μ-loop
-add-out c = search needs
-
-slice-write-out : tie.Need-slice-write-out Inv-loop μ-loop
-slice-write-out c = search needs
-
-add-i : tie.Need-add-i Inv-loop μ-loop
-add-i c = search needs
-
-loop-less : tie.Need-loop-less Inv-loop μ-loop
-loop-less c = search needs
-
 loop-again : tie.Need-loop-again Inv-loop μ-loop
 loop-again c =
     let l = c .before .before .loop in
@@ -74,10 +62,10 @@ put-sizes-spec =
     loop-holds
     size-requires
     cast-out
-    add-out
-    slice-write-out
-    add-i
-    loop-less
+    (λ c. search needs)
+    (λ c. search needs)
+    (λ c. search needs)
+    (λ c. search needs)
     loop-again
     same-length
     returns)

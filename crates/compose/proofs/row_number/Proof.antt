@@ -15,9 +15,6 @@ row-requires c κs =
     let narrow = held-narrow (p .table) (a .i) in
     (p .table, record { variable = omega arith; value = omega arith; listed = held-value (p .table) (a .i) (a .a) (c .before .pre .1) }, omega arith, λ e. omega arith)
 
-cast-result : tie.Need-cast-result
-cast-result c = search needs
-
 returns : tie.Need-returns
 returns c =
     let a = c .before .before .args in
@@ -27,4 +24,4 @@ returns c =
     record { is = e ∙ row-sized B (a .i) (a .j) (a .a); below = omega arith }
 
 pub row-number-spec : {M : Type 1} → statement M
-row-number-spec = tie.close (tie.spec row-requires cast-result returns)
+row-number-spec = tie.close (tie.spec row-requires (λ c. search needs) returns)

@@ -17,9 +17,6 @@ use borrow.Author.Needs.{needs}
 use Rattle.compose.proofs.write_marked.Statement.{statement}
 use Rattle.compose.proofs.write_marked.Tie as tie
 
-blocks-length-requires : tie.Need-blocks-length-requires
-blocks-length-requires c κs = search needs
-
 -- the length is small
 short : (c : tie.After-blocks-length) → (c .before .before .before .before .args .n ≤ 32) × (c .blocks-length .result ≤ 34816)
 short c =
@@ -63,9 +60,6 @@ put-sheet-requires c κs =
     let k = c .before .if1 .left in
     (p .0, (en, (p .1 .1 .0, (omega arith, (p .1 .1 .1, omega arith)))))
 
-same-length : tie.Need-same-length
-same-length c = search needs
-
 returns-2 : tie.Need-returns-2
 returns-2 c =
     let a = c .before .before .before .before .before .before .before .before .before .args in
@@ -78,10 +72,10 @@ pub write-marked-spec : {M : Type 1} → statement M
 write-marked-spec =
     tie.close
     (tie.spec
-    blocks-length-requires
+    (λ c κs. search needs)
     add-len
     add-len-2
     returns
     put-sheet-requires
-    same-length
+    (λ c. search needs)
     returns-2)

@@ -8,18 +8,6 @@ use borrow.Author.Needs.{needs}
 use Rattle.compose.proofs.write_sheet.Statement.{statement}
 use Rattle.compose.proofs.write_sheet.Tie as tie
 
-variables-requires : tie.Need-variables-requires
-variables-requires c κs = search needs
-
-slice-aggregate-mark-blocks : tie.Need-slice-aggregate-mark-blocks
-slice-aggregate-mark-blocks c = search needs
-
-mark-blocks-requires : tie.Need-mark-blocks-requires
-mark-blocks-requires c κs = search needs
-
-slice-aggregate-write-marked : tie.Need-slice-aggregate-write-marked
-slice-aggregate-write-marked c = search needs
-
 write-marked-requires : tie.Need-write-marked-requires
 write-marked-requires c κs =
     let few = held-few (now (c .before .before .before .before .before .before .before .before .args .t)) in
@@ -27,20 +15,14 @@ write-marked-requires c κs =
     let k : c .before .before .before .before .before .variables .result ≤ 32 = omega arith in
     (marked (c .before .before .before .before .before .before .before .before .pre .0) _ _ _ en k (search needs) (search needs) (c .before .before .before .mark-blocks .ensures .0), (en, (c .before .before .before .mark-blocks .ensures .1, c .before .before .before .before .before .before .before .before .pre .1)))
 
-same-length : tie.Need-same-length
-same-length c = search needs
-
-returns : tie.Need-returns
-returns c = search needs
-
 pub write-sheet-spec : {M : Type 1} → statement M
 write-sheet-spec =
     tie.close
     (tie.spec
-    variables-requires
-    slice-aggregate-mark-blocks
-    mark-blocks-requires
-    slice-aggregate-write-marked
+    (λ c κs. search needs)
+    (λ c. search needs)
+    (λ c κs. search needs)
+    (λ c. search needs)
     write-marked-requires
-    same-length
-    returns)
+    (λ c. search needs)
+    (λ c. search needs))

@@ -7,9 +7,6 @@ use borrow.Author.Needs.{needs}
 use Rattle.hand_call.proofs.below.Statement.{statement}
 use Rattle.hand_call.proofs.below.Tie as tie
 
-power-requires : tie.Need-power-requires
-power-requires c κs = search needs
-
 returns : tie.Need-returns
 returns c =
     let a = c .before .args in
@@ -17,4 +14,4 @@ returns c =
     ap (λ (y : ℕ). ltb (a .x) y) (c .power .ensures) ∙ below-word (a .x) (a .z) l (c .before .pre)
 
 pub below-spec : {M : Type 1} → statement M
-below-spec = tie.close (tie.spec power-requires returns)
+below-spec = tie.close (tie.spec (λ c κs. search needs) returns)

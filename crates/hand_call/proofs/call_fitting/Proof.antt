@@ -9,18 +9,12 @@ use borrow.Author.Needs.{needs}
 use Rattle.hand_call.proofs.call_fitting.Statement.{statement}
 use Rattle.hand_call.proofs.call_fitting.Tie as tie
 
-refused-call-requires : tie.Need-refused-call-requires
-refused-call-requires c κs = search needs
-
 returns : tie.Need-returns
 returns c =
     let a = c .before .before .before .args in
     let p = c .before .before .before .pre in
     let off = sym (p .1) ∙ not-true _ (c .before .if1 .taken) in
     c .refused-call .ensures ∙ sym (ap (callAnswer (held (now (a .t))) (a .st) (a .i)) (ready-item (p .0) (a .i) off))
-
-refused-call-requires-2 : tie.Need-refused-call-requires-2
-refused-call-requires-2 c κs = search needs
 
 returns-2 : tie.Need-returns-2
 returns-2 c =
@@ -37,16 +31,13 @@ call-snake-requires c κs =
     let on = sym (p .1) ∙ not-false _ (c .before .if1 .left) in
     (p .0, active-below (p .0) (a .i) on, on, sym (p .2) ∙ not-false _ (c .if2 .left))
 
-returns-3 : tie.Need-returns-3
-returns-3 c = search needs
-
 pub call-fitting-spec : {M : Type 1} → statement M
 call-fitting-spec =
     tie.close
     (tie.spec
-    refused-call-requires
+    (λ c κs. search needs)
     returns
-    refused-call-requires-2
+    (λ c κs. search needs)
     returns-2
     call-snake-requires
-    returns-3)
+    (λ c. search needs))

@@ -35,9 +35,6 @@ ready c =
 fits-requires : tie.Need-fits-requires
 fits-requires c κs = let w = c .before .before .before .before in (w .pre, proper w)
 
-refused-call-requires : tie.Need-refused-call-requires
-refused-call-requires c κs = search needs
-
 returns : tie.Need-returns
 returns c =
     let a = c .before .before .before .before .before .before .before .args in
@@ -45,26 +42,20 @@ returns c =
     let e = sym (c .before .before .fits2 .ensures) ∙ not-true _ (c .before .if1 .taken) in
     c .refused-call .ensures ∙ sym (ap (callAnswer P (a .st) (a .i)) (call-misfit P (stateOf (a .st .masks)) (a .i) e))
 
-is-active-requires : tie.Need-is-active-requires
-is-active-requires c κs = search needs
-
 none-empty-requires : tie.Need-none-empty-requires
 none-empty-requires c κs = ready (c .before .before .before)
 
 call-fitting-requires : tie.Need-call-fitting-requires
 call-fitting-requires c κs = (ready (c .before .before .before .before), c .before .before .before .is-active .ensures, c .none-empty .ensures)
 
-returns-2 : tie.Need-returns-2
-returns-2 c = search needs
-
 pub call-over-spec : {M : Type 1} → statement M
 call-over-spec =
     tie.close
     (tie.spec
     fits-requires
-    refused-call-requires
+    (λ c κs. search needs)
     returns
-    is-active-requires
+    (λ c κs. search needs)
     none-empty-requires
     call-fitting-requires
-    returns-2)
+    (λ c. search needs))

@@ -11,12 +11,6 @@ use borrow.Author.Needs.{needs}
 use Rattle.hand_call.proofs.call_snake.Statement.{statement}
 use Rattle.hand_call.proofs.call_snake.Tie as tie
 
-lowest-snake-requires : tie.Need-lowest-snake-requires
-lowest-snake-requires c κs = search needs
-
-eliminated-requires : tie.Need-eliminated-requires
-eliminated-requires c κs = search needs
-
 returns : tie.Need-returns
 returns c =
     let a = c .before .before .before .before .before .before .before .args in
@@ -27,9 +21,6 @@ returns c =
     ∙ ap (callEliminated P (stateOf (a .st .masks)) (a .i)) v
     ∙ sym (ap (callAnswer P (a .st) (a .i)) (ready-done (p .0) (a .i) (p .2) (p .3) (subst (λ (k : ℕ). k < 16) v (c .before .if1 .taken))))
 
-refused-call-requires : tie.Need-refused-call-requires
-refused-call-requires c κs = search needs
-
 returns-2 : tie.Need-returns-2
 returns-2 c =
     let a = c .before .before .before .before .before .before .before .args in
@@ -39,4 +30,4 @@ returns-2 c =
     ∙ sym (ap (callAnswer (held (now (a .t))) (a .st) (a .i)) (ready-none (p .0) (a .i) (p .2) (p .3) (subst (λ (k : ℕ). 16 ≤ k) v (c .before .if1 .left))))
 
 pub call-snake-spec : {M : Type 1} → statement M
-call-snake-spec = tie.close (tie.spec lowest-snake-requires eliminated-requires returns refused-call-requires returns-2)
+call-snake-spec = tie.close (tie.spec (λ c κs. search needs) (λ c κs. search needs) returns (λ c κs. search needs) returns-2)

@@ -16,18 +16,6 @@ use native.Mathlib.Omega.{arith}
 use Rattle.hand_call.proofs.fits_at.Statement.{statement}
 use Rattle.hand_call.proofs.fits_at.Tie as tie
 
-mul-domain : tie.Need-mul-domain
-mul-domain c = search needs
-
-element-copy-out-domain : tie.Need-element-copy-out-domain
-element-copy-out-domain c = search needs
-
-has32-requires : tie.Need-has32-requires
-has32-requires c κs = search needs
-
-size-requires : tie.Need-size-requires
-size-requires c κs = search needs
-
 below-requires : tie.Need-below-requires
 below-requires c κs = omega (arith, c .size .ensures, held-narrow (c .before .before .before .before .before .pre .0) (c .before .before .before .before .before .args .i))
 
@@ -51,10 +39,10 @@ pub fits-at-spec : {M : Type 1} → statement M
 fits-at-spec =
     tie.close
     (tie.spec
-    mul-domain
-    element-copy-out-domain
-    has32-requires
-    size-requires
+    (λ c. search needs)
+    (λ c. search needs)
+    (λ c κs. search needs)
+    (λ c κs. search needs)
     below-requires
     returns
     returns-2)

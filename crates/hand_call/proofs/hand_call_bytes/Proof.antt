@@ -7,41 +7,14 @@ use borrow.Author.Needs.{needs}
 use Rattle.hand_call.proofs.hand_call_bytes.Statement.{statement}
 use Rattle.hand_call.proofs.hand_call_bytes.Tie as tie
 
-bad-hand-state-requires : tie.Need-bad-hand-state-requires
-bad-hand-state-requires c κs = search needs
-
 returns : tie.Need-returns
 returns c =
     let a = c .before .before .before .before .args in
     let e = sym (hand-bad (a .sheet .now) (a .state .now) (a .item) (λ l. omega arith)) in
     (c .bad-hand-state .ensures ∙ ap (λ (y : HandCall). y .answer) e, ap (λ (y : HandCall). y .state) e)
 
-read-state-requires : tie.Need-read-state-requires
-read-state-requires c κs = search needs
-
-hand-call-requires : tie.Need-hand-call-requires
-hand-call-requires c κs = search needs
-
-enum-known-outcome : tie.Need-enum-known-outcome
-enum-known-outcome c = search needs
-
-hand-number-requires : tie.Need-hand-number-requires
-hand-number-requires c κs = search needs
-
-cast-result : tie.Need-cast-result
-cast-result c = search needs
-
-enum-known-outcome-2 : tie.Need-enum-known-outcome-2
-enum-known-outcome-2 c = search needs
-
-put-state-requires : tie.Need-put-state-requires
-put-state-requires c κs = search needs
-
 mul-result : tie.Need-mul-result
 mul-result c = let l = call-small _ _ _ _ (c .before .before .before .before .before .before .before .before .hand-call .ensures) _ (c .before .before .before .before .before .before .outcome2 .given .1) in omega arith
-
-same-length : tie.Need-same-length
-same-length c = search needs
 
 returns-2 : tie.Need-returns-2
 returns-2 c =
@@ -49,9 +22,6 @@ returns-2 c =
     let x = hand-reads (a .sheet .now) (a .state .now) (a .item) _ _ (c .before .before .before .before .before .read-state .ensures) (c .before .before .before .before .hand-call .ensures) in
     let e = hand-says (a .sheet .now) (a .state .now) (a .item) (omega arith) _ x _ (c .before .before .outcome .given .1) in
     (c .hand-number .ensures ∙ ap (λ (y : HandCall). y .answer) e, ap (λ (y : HandCall). y .state) e)
-
-same-length-2 : tie.Need-same-length-2
-same-length-2 c = search needs
 
 returns-3 : tie.Need-returns-3
 returns-3 c =
@@ -64,17 +34,17 @@ pub hand-call-bytes-spec : {M : Type 1} → statement M
 hand-call-bytes-spec =
     tie.close
     (tie.spec
-    bad-hand-state-requires
+    (λ c κs. search needs)
     returns
-    read-state-requires
-    hand-call-requires
-    enum-known-outcome
-    hand-number-requires
-    cast-result
-    enum-known-outcome-2
-    put-state-requires
+    (λ c κs. search needs)
+    (λ c κs. search needs)
+    (λ c. search needs)
+    (λ c κs. search needs)
+    (λ c. search needs)
+    (λ c. search needs)
+    (λ c κs. search needs)
     mul-result
-    same-length
+    (λ c. search needs)
     returns-2
-    same-length-2
+    (λ c. search needs)
     returns-3)

@@ -6,16 +6,10 @@ use borrow.Author.Needs.{needs}
 use Rattle.hand_call.proofs.is_active.Statement.{statement}
 use Rattle.hand_call.proofs.is_active.Tie as tie
 
-has32-requires : tie.Need-has32-requires
-has32-requires c κs = search needs
-
-returns : tie.Need-returns
-returns c = search needs
-
 returns-2 : tie.Need-returns-2
 returns-2 c =
     let l : c .before .args .m .active < 2 ^ 32 = search needs in
     sym (bit-high 32 _ _ l (c .if1 .left))
 
 pub is-active-spec : {M : Type 1} → statement M
-is-active-spec = tie.close (tie.spec has32-requires returns returns-2)
+is-active-spec = tie.close (tie.spec (λ c κs. search needs) (λ c. search needs) returns-2)

@@ -20,17 +20,8 @@ abbrev μ-loop : tie.MeasureT-loop
 loop-holds : tie.Need-loop-holds Inv-loop μ-loop
 loop-holds c = (search needs, lowest-none _)
 
-snake-requires : tie.Need-snake-requires Inv-loop μ-loop
-snake-requires c κs = search needs
-
 returns : tie.Need-returns Inv-loop μ-loop
 returns c = sym (lowest-hit _ 16 _ (omega arith) (c .before .before .before .loop .inv .1) (sym (c .before .snake .ensures) ∙ c .if1 .taken))
-
-add-v : tie.Need-add-v Inv-loop μ-loop
-add-v c = search needs
-
-loop-less : tie.Need-loop-less Inv-loop μ-loop
-loop-less c = search needs
 
 loop-again : tie.Need-loop-again Inv-loop μ-loop
 loop-again c = (omega arith, lowest-more _ _ (c .before .before .before .loop .inv .1) (sym (c .before .snake .ensures) ∙ c .if1 .left))
@@ -39,4 +30,4 @@ returns-2 : tie.Need-returns-2 Inv-loop μ-loop
 returns-2 c = sym (lowest-end _ 16 _ (omega arith) (omega arith) (c .before .loop .inv .1))
 
 pub lowest-snake-spec : {M : Type 1} → statement M
-lowest-snake-spec = tie.close (tie.spec Inv-loop μ-loop loop-holds snake-requires returns add-v loop-less loop-again returns-2)
+lowest-snake-spec = tie.close (tie.spec Inv-loop μ-loop loop-holds (λ c κs. search needs) returns (λ c. search needs) (λ c. search needs) loop-again returns-2)

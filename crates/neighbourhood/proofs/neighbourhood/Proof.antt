@@ -9,18 +9,6 @@ use borrow.Author.Needs.{needs}
 use Rattle.neighbourhood.proofs.neighbourhood.Statement.{statement}
 use Rattle.neighbourhood.proofs.neighbourhood.Tie as tie
 
-mul-domain : tie.Need-mul-domain
-mul-domain c = search needs
-
-element-copy-out-domain : tie.Need-element-copy-out-domain
-element-copy-out-domain c = search needs
-
-has16-requires : tie.Need-has16-requires
-has16-requires c κs = search needs
-
-has16-requires-2 : tie.Need-has16-requires-2
-has16-requires-2 c κs = search needs
-
 first-break-requires : tie.Need-first-break-requires
 first-break-requires c κs =
     let p = c .before .before .before .before .before .pre in
@@ -29,9 +17,6 @@ first-break-requires c κs =
       bit-value (p .0) _ _ (sym (c .before .has162 .ensures) ∙ h .1),
       bit-value (p .0) _ _ (sym (c .before .before .has16 .ensures) ∙ h .0),
     )
-
-unbroken-requires : tie.Need-unbroken-requires
-unbroken-requires c κs = search needs
 
 returns : tie.Need-returns
 unfolding neighbourhood stateOf
@@ -48,11 +33,11 @@ pub neighbourhood-spec : {M : Type 1} → statement M
 neighbourhood-spec =
     tie.close
     (tie.spec
-    mul-domain
-    element-copy-out-domain
-    has16-requires
-    has16-requires-2
+    (λ c. search needs)
+    (λ c. search needs)
+    (λ c κs. search needs)
+    (λ c κs. search needs)
     first-break-requires
-    unbroken-requires
+    (λ c κs. search needs)
     returns
     returns-2)

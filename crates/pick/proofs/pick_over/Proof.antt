@@ -11,29 +11,11 @@ use borrow.Author.Needs.{needs}
 use Rattle.pick.proofs.pick_over.Statement.{statement}
 use Rattle.pick.proofs.pick_over.Tie as tie
 
-size-sum-requires : tie.Need-size-sum-requires
-size-sum-requires c κs = search needs
-
-mul-if1 : tie.Need-mul-if1
-mul-if1 c = search needs
-
-add-if1 : tie.Need-add-if1
-add-if1 c = search needs
-
-refused-requires : tie.Need-refused-requires
-refused-requires c κs = search needs
-
 returns : tie.Need-returns
 returns c =
     let a = c .before .before .before .before .before .before .args in
     let q = sym (pick-buffer-over (held (a .t .now)) (a .trace .now) (a .plan .now) (omega (arith, c .before .if1 .taken, c .before .before .size-sum .ensures .0))) in
     (c .refused .ensures ∙ ap (λ (x : PickResult). x .answer) q, (ap (λ (x : PickResult). x .trace) q, ap (λ (x : PickResult). x .plan) q))
-
-variables-requires : tie.Need-variables-requires
-variables-requires c κs = search needs
-
-refused-requires-2 : tie.Need-refused-requires-2
-refused-requires-2 c κs = search needs
 
 returns-2 : tie.Need-returns-2
 returns-2 c =
@@ -41,15 +23,6 @@ returns-2 c =
     let l : 1 + 5 * sizeSum (held (a .t .now)) ≤ length (a .trace .now) = omega (arith, c .before .before .before .if1 .left, c .before .before .before .before .size-sum .ensures .0) in
     let q = sym (pick-length-over (held (a .t .now)) (a .trace .now) (a .plan .now) l (λ e. c .before .if2 .taken (e ∙ sym (c .before .before .variables .ensures)))) in
     (c .refused2 .ensures ∙ ap (λ (x : PickResult). x .answer) q, (ap (λ (x : PickResult). x .trace) q, ap (λ (x : PickResult). x .plan) q))
-
-pick-sized-requires : tie.Need-pick-sized-requires
-pick-sized-requires c κs = search needs
-
-same-length : tie.Need-same-length
-same-length c = search needs
-
-same-length-2 : tie.Need-same-length-2
-same-length-2 c = search needs
 
 returns-3 : tie.Need-returns-3
 returns-3 c =
@@ -63,15 +36,15 @@ pub pick-over-spec : {M : Type 1} → statement M
 pick-over-spec =
     tie.close
     (tie.spec
-    size-sum-requires
-    mul-if1
-    add-if1
-    refused-requires
+    (λ c κs. search needs)
+    (λ c. search needs)
+    (λ c. search needs)
+    (λ c κs. search needs)
     returns
-    variables-requires
-    refused-requires-2
+    (λ c κs. search needs)
+    (λ c κs. search needs)
     returns-2
-    pick-sized-requires
-    same-length
-    same-length-2
+    (λ c κs. search needs)
+    (λ c. search needs)
+    (λ c. search needs)
     returns-3)

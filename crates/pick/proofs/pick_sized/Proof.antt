@@ -7,18 +7,6 @@ use borrow.Author.Needs.{needs}
 use Rattle.pick.proofs.pick_sized.Statement.{statement}
 use Rattle.pick.proofs.pick_sized.Tie as tie
 
-run-table-requires : tie.Need-run-table-requires
-run-table-requires c κs = search needs
-
-enum-told : tie.Need-enum-told
-enum-told c = search needs
-
-refused-requires : tie.Need-refused-requires
-refused-requires c κs = search needs
-
-enum-known-outcome : tie.Need-enum-known-outcome
-enum-known-outcome c = search needs
-
 slice-reshare-prefix-put-first : tie.Need-slice-reshare-prefix-put-first
 slice-reshare-prefix-put-first c =
     let a = c .before .before .before .before .before .before .before .before .before .before .before in
@@ -42,22 +30,10 @@ put-first-requires c κs =
       ),
     )
 
-outcome-of-requires : tie.Need-outcome-of-requires
-outcome-of-requires c κs = search needs
-
-same-length : tie.Need-same-length
-same-length c = search needs
-
 returns : tie.Need-returns
 returns c =
     let a = c .before .before .before .before .before .before .before .before .before .before .before in
     absurd (not-refused (held (a .args .t .now)) (a .args .trace .now) (a .pre .1 .0) _ (c .before .before .before .before .before .before .run-table .ensures .0) _ (c .before .enum-told .given .1))
-
-same-length-2 : tie.Need-same-length-2
-same-length-2 c = search needs
-
-same-length-3 : tie.Need-same-length-3
-same-length-3 c = search needs
 
 returns-2 : tie.Need-returns-2
 returns-2 c =
@@ -73,16 +49,16 @@ pub pick-sized-spec : {M : Type 1} → statement M
 pick-sized-spec =
     tie.close
     (tie.spec
-    run-table-requires
-    enum-told
-    refused-requires
-    enum-known-outcome
+    (λ c κs. search needs)
+    (λ c. search needs)
+    (λ c κs. search needs)
+    (λ c. search needs)
     slice-reshare-prefix-put-first
     slice-aggregate-put-first
     put-first-requires
-    outcome-of-requires
-    same-length
+    (λ c κs. search needs)
+    (λ c. search needs)
     returns
-    same-length-2
-    same-length-3
+    (λ c. search needs)
+    (λ c. search needs)
     returns-2)

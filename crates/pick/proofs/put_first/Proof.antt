@@ -26,12 +26,6 @@ slice-aggregate-put-back-over c =
     let a = c .before .before .before .before .before .before .before .before in
     sym (length-take-le _ _ (found-room (a .pre .0) (a .pre .1 .0) _ (c .before .before .before .before .first-plan .ensures) (a .args .plan .now) (a .pre .1 .1 .1)))
 
-put-back-over-requires : tie.Need-put-back-over-requires
-put-back-over-requires c κs = search needs
-
-same-length : tie.Need-same-length
-same-length c = search needs
-
 returns-2 : tie.Need-returns-2
 returns-2 c =
     let a = c .before .before .before .before .before .before .before .before .before .before .before .before in
@@ -45,6 +39,6 @@ put-first-spec =
     returns
     array-share-prefix-first
     slice-aggregate-put-back-over
-    put-back-over-requires
-    same-length
+    (λ c κs. search needs)
+    (λ c. search needs)
     returns-2)

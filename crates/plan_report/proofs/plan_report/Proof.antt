@@ -8,12 +8,6 @@ use Rattle.plan_report.proofs.plan_report.Tie as tie
 returns : tie.Need-returns
 returns c = (text-short _ _ (c .before .before .before .args .out .now) (omega arith), omega arith)
 
-put-sheet-requires : tie.Need-put-sheet-requires
-put-sheet-requires c κs = search needs
-
-same-length : tie.Need-same-length
-same-length c = search needs
-
 returns-2 : tie.Need-returns-2
 returns-2 c =
     let a = c .before .before .before .before .before .before .before .args in
@@ -21,4 +15,4 @@ returns-2 c =
     (text-whole _ _ (a .out .now) _ _ (omega arith) (p .0), omega arith)
 
 pub plan-report-spec : {M : Type 1} → statement M
-plan-report-spec = tie.close (tie.spec returns put-sheet-requires same-length returns-2)
+plan-report-spec = tie.close (tie.spec returns (λ c κs. search needs) (λ c. search needs) returns-2)

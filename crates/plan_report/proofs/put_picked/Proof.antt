@@ -13,9 +13,6 @@ put-run-requires c κs = let a = c .before .before .before .before .before .pre 
 put-found-line-requires : tie.Need-put-found-line-requires
 put-found-line-requires c κs = (c .before .before .before .before .before .before .before .before .before .pre .1 .0 .few, omega arith)
 
-same-length : tie.Need-same-length
-same-length c = search needs
-
 returns : tie.Need-returns
 returns c =
     let a = c .before .before .before .before .before .before .before .before .before .before .before .before in
@@ -25,4 +22,4 @@ returns c =
     (picked-put (a .args .s .now) (a .pre .0) _ _ _ _ _ _ (a .pre .1 .0) _ _ _ _ _ (x .ensures .0) (y .ensures .0) room, omega arith)
 
 pub put-picked-spec : {M : Type 1} → statement M
-put-picked-spec = tie.close (tie.spec put-run-requires put-found-line-requires same-length returns)
+put-picked-spec = tie.close (tie.spec put-run-requires put-found-line-requires (λ c. search needs) returns)

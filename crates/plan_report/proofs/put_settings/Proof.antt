@@ -16,9 +16,6 @@ abbrev μ-loop : tie.MeasureT-loop
 loop-holds : tie.Need-loop-holds Inv-loop μ-loop
 loop-holds c = putting-start _ _ _ _ _ (c .before .before .pre)
 
-shared-slice-read-put-field : tie.Need-shared-slice-read-put-field Inv-loop μ-loop
-shared-slice-read-put-field c = omega arith
-
 cast-put-field : tie.Need-cast-put-field Inv-loop μ-loop
 cast-put-field c = omega (arith, c .shared-slice-known2 .given (c .before .before .before .loop .k))
 
@@ -26,12 +23,6 @@ put-field-requires : tie.Need-put-field-requires Inv-loop μ-loop
 put-field-requires c κs =
     let w = c .before .before .before .loop in
     (omega (arith, c .shared-slice-known2 .given (w .k)), piece-room _ _ _ _ _ _ _ _ _ (w .inv) (omega arith))
-
-add-k : tie.Need-add-k Inv-loop μ-loop
-add-k c = omega arith
-
-loop-less : tie.Need-loop-less Inv-loop μ-loop
-loop-less c = omega arith
 
 loop-again : tie.Need-loop-again Inv-loop μ-loop
 loop-again c =
@@ -52,11 +43,11 @@ put-settings-spec =
     Inv-loop
     μ-loop
     loop-holds
-    shared-slice-read-put-field
+    (λ c. omega arith)
     cast-put-field
     put-field-requires
-    add-k
-    loop-less
+    (λ c. omega arith)
+    (λ c. omega arith)
     loop-again
     same-length
     returns)

@@ -5,12 +5,6 @@ use borrow.Author.Needs.{needs}
 use Rattle.put_back.proofs.unlawful_record.Statement.{statement}
 use Rattle.put_back.proofs.unlawful_record.Tie as tie
 
-enum-known-found : tie.Need-enum-known-found
-enum-known-found c = search needs
-
-enum-told : tie.Need-enum-told
-enum-told c = search needs
-
 returns : tie.Need-returns
 returns c = sym (ap (unlawfulRecord (c .before .before .before .args .number)) (c .before .found .given .1))
 
@@ -18,4 +12,4 @@ returns-2 : tie.Need-returns-2
 returns-2 c = sym (ap (unlawfulRecord (c .before .before .args .number)) (c .enum-told .given .1))
 
 pub unlawful-record-spec : {M : Type 1} → statement M
-unlawful-record-spec = tie.close (tie.spec enum-known-found enum-told returns returns-2)
+unlawful-record-spec = tie.close (tie.spec (λ c. search needs) (λ c. search needs) returns returns-2)

@@ -23,9 +23,6 @@ abbrev μ-loop : tie.MeasureT-loop
 loop-holds : tie.Need-loop-holds Inv-loop μ-loop
 loop-holds c = (omega arith, all-none _)
 
-shared-slice-read-entry-fits : tie.Need-shared-slice-read-entry-fits Inv-loop μ-loop
-shared-slice-read-entry-fits c = search needs
-
 cast-entry-fits : tie.Need-cast-entry-fits Inv-loop μ-loop
 cast-entry-fits c = omega (arith, c .shared-slice-known2 .given (c .before .before .loop .i))
 
@@ -34,12 +31,6 @@ entry-fits-requires c κs = (c .before .before .before .before .pre .0, omega ar
 
 returns : tie.Need-returns Inv-loop μ-loop
 returns c = sym (all-fail _ _ (c .before .before .before .before .loop .i) (omega arith) (sym (c .before .entry-fits .ensures) ∙ not-true _ (c .if1 .taken)))
-
-add-i : tie.Need-add-i Inv-loop μ-loop
-add-i c = search needs
-
-loop-less : tie.Need-loop-less Inv-loop μ-loop
-loop-less c = search needs
 
 loop-again : tie.Need-loop-again Inv-loop μ-loop
 loop-again c = (omega arith, all-more _ _ (c .before .before .before .before .loop .inv .1) (sym (c .before .entry-fits .ensures) ∙ not-false _ (c .if1 .left)))
@@ -54,11 +45,11 @@ entries-fit-spec =
     Inv-loop
     μ-loop
     loop-holds
-    shared-slice-read-entry-fits
+    (λ c. search needs)
     cast-entry-fits
     entry-fits-requires
     returns
-    add-i
-    loop-less
+    (λ c. search needs)
+    (λ c. search needs)
     loop-again
     returns-2)

@@ -6,12 +6,6 @@ use borrow.Author.Needs.{needs}
 use Rattle.putting_back.proofs.entry_fits.Statement.{statement}
 use Rattle.putting_back.proofs.entry_fits.Tie as tie
 
-has32-requires : tie.Need-has32-requires
-has32-requires c κs = search needs
-
-is-live-requires : tie.Need-is-live-requires
-is-live-requires c κs = search needs
-
 returns : tie.Need-returns
 unfolding stateOf
 returns c = c .is-live .ensures ∙ entry-in _ _ _ (sym (c .before .before .has32 .ensures) ∙ c .before .if1 .taken)
@@ -21,4 +15,4 @@ unfolding stateOf
 returns-2 c = entry-out _ _ _ (sym (c .before .has32 .ensures) ∙ c .if1 .left)
 
 pub entry-fits-spec : {M : Type 1} → statement M
-entry-fits-spec = tie.close (tie.spec has32-requires is-live-requires returns returns-2)
+entry-fits-spec = tie.close (tie.spec (λ c κs. search needs) (λ c κs. search needs) returns returns-2)

@@ -20,13 +20,10 @@ copy-requires c κs = let p = c .before .before .before .before .before .before 
 undo-all-requires : tie.Need-undo-all-requires
 undo-all-requires c κs = let p = c .before .before .before .before .before .before .before .before .before .before .before .pre in let a = c .before .before .before .before .before .before .before .before .before .before .before .args in let E = p .1 .1 .0 in (ready-full (p .0) (a .first) (p .1 .0) .0, undoable-all (p .0) (a .trace .now) (a .plan .now) (a .out .now) (a .last) E (a .first) (p .1 .0) (sym (c .before .before .before .before .before .before .plan-fits .ensures) ∙ not-false _ (c .before .before .before .before .before .if1 .left)) _ (c .before .before .before .copy .ensures) (p .1 .1 .1 .0))
 
-same-length : tie.Need-same-length
-same-length c = search needs
-
 returns-2 : tie.Need-returns-2
 returns-2 c = let p = c .before .before .before .before .before .before .before .before .before .before .before .before .before .before .pre in let a = c .before .before .before .before .before .before .before .before .before .before .before .before .before .before .args in let E = p .1 .1 .0 in put-done (p .0) (a .trace .now) (a .plan .now) (a .out .now) (a .last) E (a .first) (p .1 .0) (sym (c .before .before .before .before .before .before .before .before .before .plan-fits .ensures) ∙ not-false _ (c .before .before .before .before .before .before .before .before .if1 .left)) _ _ (c .before .before .before .before .before .before .copy .ensures) (c .before .before .undo-all .ensures)
 
 pub finish-spec : {M : Type 1} → statement M
 finish-spec =
     tie.close
-    (tie.spec plan-fits-requires returns copy-requires undo-all-requires same-length returns-2)
+    (tie.spec plan-fits-requires returns copy-requires undo-all-requires (λ c. search needs) returns-2)

@@ -10,20 +10,8 @@ use borrow.Author.Needs.{needs}
 use Rattle.putting_back.proofs.pair_fits.Statement.{statement}
 use Rattle.putting_back.proofs.pair_fits.Tie as tie
 
-has32-requires : tie.Need-has32-requires
-has32-requires c κs = search needs
-
-has32-requires-2 : tie.Need-has32-requires-2
-has32-requires-2 c κs = search needs
-
-shared-slice-read-pair-allowed : tie.Need-shared-slice-read-pair-allowed
-shared-slice-read-pair-allowed c = search needs
-
 cast-pair-allowed : tie.Need-cast-pair-allowed
 cast-pair-allowed c = omega (arith, c .shared-slice-known3 .given (c .before .before .before .before .before .before .args .i))
-
-shared-slice-read-pair-allowed-2 : tie.Need-shared-slice-read-pair-allowed-2
-shared-slice-read-pair-allowed-2 c = search needs
 
 cast-pair-allowed-2 : tie.Need-cast-pair-allowed-2
 cast-pair-allowed-2 c = omega (arith, c .shared-slice-known4 .given (c .before .before .before .before .before .before .before .args .j))
@@ -44,11 +32,11 @@ pub pair-fits-spec : {M : Type 1} → statement M
 pair-fits-spec =
     tie.close
     (tie.spec
-    has32-requires
-    has32-requires-2
-    shared-slice-read-pair-allowed
+    (λ c κs. search needs)
+    (λ c κs. search needs)
+    (λ c. search needs)
     cast-pair-allowed
-    shared-slice-read-pair-allowed-2
+    (λ c. search needs)
     cast-pair-allowed-2
     pair-allowed-requires
     returns

@@ -30,12 +30,6 @@ pairs-of-requires c κs = let p = c .before .before .before .before .pre in (p .
 returns : tie.Need-returns Inv-loop μ-loop
 returns c = sym (all-fail _ _ (c .before .before .before .loop .i) (omega arith) (sym (c .before .pairs-of .ensures) ∙ not-true _ (c .if1 .taken)))
 
-add-i : tie.Need-add-i Inv-loop μ-loop
-add-i c = search needs
-
-loop-less : tie.Need-loop-less Inv-loop μ-loop
-loop-less c = search needs
-
 loop-again : tie.Need-loop-again Inv-loop μ-loop
 loop-again c = (omega arith, all-more _ _ (c .before .before .before .loop .inv .1) (sym (c .before .pairs-of .ensures) ∙ not-false _ (c .if1 .left)))
 
@@ -51,7 +45,7 @@ pairs-fit-spec =
     loop-holds
     pairs-of-requires
     returns
-    add-i
-    loop-less
+    (λ c. search needs)
+    (λ c. search needs)
     loop-again
     returns-2)

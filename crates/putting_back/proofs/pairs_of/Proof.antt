@@ -31,12 +31,6 @@ returns : tie.Need-returns Inv-loop μ-loop
 unfolding pairsOf
 returns c = sym (all-fail _ _ (c .before .before .before .loop .j) (omega arith) (sym (c .before .pair-fits .ensures) ∙ not-true _ (c .if1 .taken)))
 
-add-j : tie.Need-add-j Inv-loop μ-loop
-add-j c = search needs
-
-loop-less : tie.Need-loop-less Inv-loop μ-loop
-loop-less c = search needs
-
 loop-again : tie.Need-loop-again Inv-loop μ-loop
 loop-again c = (omega arith, all-more _ _ (c .before .before .before .loop .inv .1) (sym (c .before .pair-fits .ensures) ∙ not-false _ (c .if1 .left)))
 
@@ -53,7 +47,7 @@ pairs-of-spec =
     loop-holds
     pair-fits-requires
     returns
-    add-j
-    loop-less
+    (λ c. search needs)
+    (λ c. search needs)
     loop-again
     returns-2)

@@ -7,16 +7,10 @@ use borrow.Author.Needs.{needs}
 use Rattle.putting_back.proofs.put_back_call.Statement.{statement}
 use Rattle.putting_back.proofs.put_back_call.Tie as tie
 
-put-back-requires : tie.Need-put-back-requires
-put-back-requires c κs = search needs
-
 put-back-answer-requires : tie.Need-put-back-answer-requires
 put-back-answer-requires c κs =
     let a = c .before .before .before .before .before .before .before .before .args in
     rw (c .before .before .put-back .ensures .0) (back-fits (a .sheet .now) (a .trace .now) (a .plan .now) (a .result .now))
-
-same-length : tie.Need-same-length
-same-length c = search needs
 
 returns : tie.Need-returns
 returns c =
@@ -29,7 +23,7 @@ pub put-back-call-spec : {M : Type 1} → statement M
 put-back-call-spec =
     tie.close
     (tie.spec
-    put-back-requires
+    (λ c κs. search needs)
     put-back-answer-requires
-    same-length
+    (λ c. search needs)
     returns)

@@ -7,9 +7,6 @@ use borrow.Author.Needs.{needs}
 use Rattle.putting_back.proofs.put_back_over.Statement.{statement}
 use Rattle.putting_back.proofs.put_back_over.Tie as tie
 
-variables-requires : tie.Need-variables-requires
-variables-requires c κs = search needs
-
 returns : tie.Need-returns
 returns c =
     let a = c .before .before .before .before .before .before .args in
@@ -26,9 +23,6 @@ returns-2 c =
 put-back-sized-requires : tie.Need-put-back-sized-requires
 put-back-sized-requires c κs = let e = c .before .before .before .variables .ensures in (c .before .before .before .before .before .before .before .before .pre, (c .before .before .if1 .left ∙ e, c .before .if2 .left ∙ e))
 
-same-length : tie.Need-same-length
-same-length c = search needs
-
 returns-3 : tie.Need-returns-3
 returns-3 c =
     let a = c .before .before .before .before .before .before .before .before .before .before .before .args in
@@ -41,9 +35,9 @@ pub put-back-over-spec : {M : Type 1} → statement M
 put-back-over-spec =
     tie.close
     (tie.spec
-    variables-requires
+    (λ c κs. search needs)
     returns
     returns-2
     put-back-sized-requires
-    same-length
+    (λ c. search needs)
     returns-3)

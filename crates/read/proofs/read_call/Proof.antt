@@ -12,21 +12,6 @@ use Rattle.read.proofs.read_call.Tie as tie
 few : (c : tie.After-known-told2) → (c .before .variables .given .0 .0 ≤ 32) × (c .before .variables .given .0 .1 .0 ≤ 1024)
 few c = read-small _ _ _ (sym (c .before .before .before .read-sheet .ensures) ∙ c .before .variables .given .1)
 
-read-sheet-requires : tie.Need-read-sheet-requires
-read-sheet-requires c κs = search needs
-
-enum-known-r : tie.Need-enum-known-r
-enum-known-r c = search needs
-
-sheet-number-requires : tie.Need-sheet-number-requires
-sheet-number-requires c κs = search needs
-
-cast-result : tie.Need-cast-result
-cast-result c = search needs
-
-enum-known-variables : tie.Need-enum-known-variables
-enum-known-variables c = search needs
-
 mul-result : tie.Need-mul-result
 mul-result c = let l = few c in omega arith
 
@@ -46,11 +31,11 @@ pub read-call-spec : {M : Type 1} → statement M
 read-call-spec =
     tie.close
     (tie.spec
-    read-sheet-requires
-    enum-known-r
-    sheet-number-requires
-    cast-result
-    enum-known-variables
+    (λ c κs. search needs)
+    (λ c. search needs)
+    (λ c κs. search needs)
+    (λ c. search needs)
+    (λ c. search needs)
     mul-result
     add-result
     mul-result-2

@@ -36,9 +36,6 @@ word-requires c κs = let f = c .before .before .pre .0 .room in omega arith
 byte-requires : tie.Need-byte-requires Inv-loop μ-loop
 byte-requires c κs = let f = c .before .before .before .pre .0 .room in omega arith
 
-add-at : tie.Need-add-at Inv-loop μ-loop
-add-at c = search needs
-
 loop-holds : tie.Need-loop-holds Inv-loop μ-loop
 loop-holds c =
     let p = c .before .before .before .before .pre in
@@ -48,9 +45,6 @@ loop-holds c =
 block-at-requires : tie.Need-block-at-requires Inv-loop μ-loop
 block-at-requires c κs = (c .before .before .before .before .before .before .before .pre .0, c .before .before .loop .inv .1, clear-local)
 
-enum-known-f : tie.Need-enum-known-f Inv-loop μ-loop
-enum-known-f c = search needs
-
 same-length : tie.Need-same-length Inv-loop μ-loop
 same-length c = c .before .before .before .before .before .before .loop .inv .2 .located .long ∙ sym (c .before .before .before .before .before .before .before .before .before .before .before .pre .1 .located .long)
 
@@ -59,9 +53,6 @@ returns c =
     let s = now (c .before .before .before .before .before .before .before .before .before .before .before .args .s) in
     let l = c .before .before .before .before .before .before .loop in
     refused-block s _ _ (sym (l .inv .0 ∙ blocks-fault layout s (l .left) (l .least) (l .at) (c .before .before .before .before .before .loop-test .taken) _ (sym (c .before .before .before .block-at .ensures .0) ∙ c .before .f .given .1)))
-
-enum-known-l : tie.Need-enum-known-l Inv-loop μ-loop
-enum-known-l c = search needs
 
 byte-requires-2 : tie.Need-byte-requires-2 Inv-loop μ-loop
 byte-requires-2 c κs = let h = block (c .before .before) .within in omega arith
@@ -121,13 +112,13 @@ blocks-spec =
     μ-loop
     word-requires
     byte-requires
-    add-at
+    (λ c. search needs)
     loop-holds
     block-at-requires
-    enum-known-f
+    (λ c. search needs)
     same-length
     returns
-    enum-known-l
+    (λ c. search needs)
     byte-requires-2
     add-byte
     byte-requires-3

@@ -23,31 +23,16 @@ word-requires c κs = let f = c .before .pre .room in omega arith
 byte-requires : tie.Need-byte-requires Inv-loop μ-loop
 byte-requires c κs = let f = c .before .before .pre .room in omega arith
 
-add-at : tie.Need-add-at Inv-loop μ-loop
-add-at c = search needs
-
 loop-holds : tie.Need-loop-holds Inv-loop μ-loop
 loop-holds c = let f = c .before .before .before .pre .room in rw (c .byte .ensures .is, c .before .word .ensures .is) (refl, omega arith)
 
 block-at-requires : tie.Need-block-at-requires Inv-loop μ-loop
 block-at-requires c κs = (c .before .before .before .before .before .before .pre, c .before .before .loop .inv .1, clear-local)
 
-enum-known-f : tie.Need-enum-known-f Inv-loop μ-loop
-enum-known-f c = search needs
-
 returns : tie.Need-returns Inv-loop μ-loop
 returns c =
     let l = c .before .before .before .before .before .before .loop in
     sym (l .inv .0 ∙ blocks-fault _ _ _ _ _ (c .before .before .before .before .before .loop-test .taken) _ (sym (c .before .before .before .block-at .ensures .0) ∙ c .before .f .given .1))
-
-enum-known-l : tie.Need-enum-known-l Inv-loop μ-loop
-enum-known-l c = search needs
-
-sub-left : tie.Need-sub-left Inv-loop μ-loop
-sub-left c = search needs
-
-loop-less : tie.Need-loop-less Inv-loop μ-loop
-loop-less c = search needs
 
 loop-again : tie.Need-loop-again Inv-loop μ-loop
 loop-again c =
@@ -75,14 +60,14 @@ check-spec =
     μ-loop
     word-requires
     byte-requires
-    add-at
+    (λ c. search needs)
     loop-holds
     block-at-requires
-    enum-known-f
+    (λ c. search needs)
     returns
-    enum-known-l
-    sub-left
-    loop-less
+    (λ c. search needs)
+    (λ c. search needs)
+    (λ c. search needs)
     loop-again
     after-blocks-requires
     returns-2)

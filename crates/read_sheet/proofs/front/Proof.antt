@@ -32,23 +32,11 @@ good-front c =
 returns : tie.Need-returns
 returns c = front-refused _ _ (sheet-short _ _ (omega arith))
 
-byte-requires : tie.Need-byte-requires
-byte-requires c κs = search needs
-
-takes-requires : tie.Need-takes-requires
-takes-requires c κs = search needs
-
 returns-2 : tie.Need-returns-2
 returns-2 c = front-refused _ _ (sheet-version _ _ (omega arith) (tested false (c .before) (not-true _ (c .if2 .taken))))
 
-long-requires : tie.Need-long-requires
-long-requires c κs = search needs
-
 returns-3 : tie.Need-returns-3
 returns-3 c = front-refused _ _ (sheet-length _ _ (omega arith) (version (c .before .before)) (λ e. c .if3 .taken (omega arith)))
-
-byte-requires-2 : tie.Need-byte-requires-2
-byte-requires-2 c κs = search needs
 
 returns-4 : tie.Need-returns-4
 returns-4 c = front-refused _ _ (sheet-none _ _ (omega arith) (version (c .before .before .before .before)) (omega arith) (omega arith))
@@ -56,24 +44,15 @@ returns-4 c = front-refused _ _ (sheet-none _ _ (omega arith) (version (c .befor
 returns-5 : tie.Need-returns-5
 returns-5 c = front-refused _ _ (sheet-many _ _ (omega arith) (version (c .before .before .before .before .before)) (omega arith) (omega arith))
 
-add-if6 : tie.Need-add-if6
-add-if6 c = search needs
-
 returns-6 : tie.Need-returns-6
 returns-6 c =
     let f : c .before .before .before .byte2 .result ≡ 0 → ⊥ = c .before .before .if4 .left in
     front-refused _ _ (sheet-sizes-missing _ _ (omega arith) (version (c .before .before .before .before .before .before)) (omega arith) (omega arith) (omega arith) (omega arith))
 
-bad-sizes-requires : tie.Need-bad-sizes-requires
-bad-sizes-requires c κs = search needs
-
 returns-7 : tie.Need-returns-7
 returns-7 c =
     let f : c .before .before .before .before .before .byte2 .result ≡ 0 → ⊥ = c .before .before .before .before .if4 .left in
     front-refused _ _ (sheet-sizes _ _ (omega arith) (version (c .before .before .before .before .before .before .before .before)) (omega arith) (omega arith) (omega arith) (omega arith) (sizes true (c .before) (c .if7 .taken)))
-
-word-requires : tie.Need-word-requires
-word-requires c κs = search needs
 
 returns-8 : tie.Need-returns-8
 returns-8 c =
@@ -88,17 +67,17 @@ front-spec =
     tie.close
     (tie.spec
     returns
-    byte-requires
-    takes-requires
+    (λ c κs. search needs)
+    (λ c κs. search needs)
     returns-2
-    long-requires
+    (λ c κs. search needs)
     returns-3
-    byte-requires-2
+    (λ c κs. search needs)
     returns-4
     returns-5
-    add-if6
+    (λ c. search needs)
     returns-6
-    bad-sizes-requires
+    (λ c κs. search needs)
     returns-7
-    word-requires
+    (λ c κs. search needs)
     returns-8)

@@ -11,12 +11,6 @@ use Rattle.read_sheet.proofs.in_order.Tie as tie
 byte-requires : tie.Need-byte-requires
 byte-requires c κs = let r = c .before .before .pre .room in omega arith
 
-mul-result : tie.Need-mul-result
-mul-result c = search needs
-
-add-result : tie.Need-add-result
-add-result c = search needs
-
 returns : tie.Need-returns
 returns c = let h : c .before .before .before .before .args .j < variablesOf (now (c .before .before .before .before .args .s)) = omega arith in simp (lt-ltb _ _ (c .before .before .if1 .taken), lt-ltb _ _ h)
 
@@ -28,4 +22,4 @@ returns-3 c = simp (le-ltb _ _ (c .if1 .left))
 
 pub in-order-spec : {M : Type 1} → statement M
 in-order-spec =
-    tie.close (tie.spec byte-requires mul-result add-result returns returns-2 returns-3)
+    tie.close (tie.spec byte-requires (λ c. search needs) (λ c. search needs) returns returns-2 returns-3)

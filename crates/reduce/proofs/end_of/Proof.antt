@@ -8,9 +8,6 @@ use borrow.Author.Needs.{needs}
 use Rattle.reduce.proofs.end_of.Statement.{statement}
 use Rattle.reduce.proofs.end_of.Tie as tie
 
-none-empty-requires : tie.Need-none-empty-requires
-none-empty-requires c κs = search needs
-
 returns : tie.Need-returns
 returns c = sym (end-impossible _ _ (sym (c .before .none-empty .ensures) ∙ not-true _ (c .if1 .taken)))
 
@@ -25,4 +22,4 @@ returns-3 c =
     sym (end-rest _ _ (sym (w .before .none-empty .ensures) ∙ not-false _ (w .if1 .left)) (sym (some-active (w .before .before .before .before .before .pre)) ∙ ap not (ne-eqb _ 0 (c .if2 .left))))
 
 pub end-of-spec : {M : Type 1} → statement M
-end-of-spec = tie.close (tie.spec none-empty-requires returns returns-2 returns-3)
+end-of-spec = tie.close (tie.spec (λ c κs. search needs) returns returns-2 returns-3)

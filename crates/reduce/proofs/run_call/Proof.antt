@@ -7,31 +7,16 @@ use borrow.Author.Needs.{needs}
 use Rattle.reduce.proofs.run_call.Statement.{statement}
 use Rattle.reduce.proofs.run_call.Tie as tie
 
-bad-state-requires : tie.Need-bad-state-requires
-bad-state-requires c κs = search needs
-
 returns : tie.Need-returns
 returns c =
     let a = c .before .before .before .before .before .args in
     let e = sym (run-bad (a .sheet .now) (a .trace .now) (a .state .now) (λ l. omega arith)) in
     (c .bad-state .ensures ∙ ap (λ (y : RunCall). y .answer) e, (ap (λ (y : RunCall). y .trace) e, ap (λ (y : RunCall). y .state) e))
 
-reduce-requires : tie.Need-reduce-requires
-reduce-requires c κs = search needs
-
-put-ran-state-requires : tie.Need-put-ran-state-requires
-put-ran-state-requires c κs = search needs
-
 ran-number-requires : tie.Need-ran-number-requires
 ran-number-requires c κs =
     let a = c .before .before .before .before .before .before .before .before .before .before .before .before .before .args in
     rw (c .before .before .before .before .before .before .before .reduce .ensures .0) (run-fits (a .sheet .now) (a .trace .now))
-
-same-length : tie.Need-same-length
-same-length c = search needs
-
-same-length-2 : tie.Need-same-length-2
-same-length-2 c = search needs
 
 returns-2 : tie.Need-returns-2
 returns-2 c =
@@ -44,11 +29,11 @@ pub run-call-spec : {M : Type 1} → statement M
 run-call-spec =
     tie.close
     (tie.spec
-    bad-state-requires
+    (λ c κs. search needs)
     returns
-    reduce-requires
-    put-ran-state-requires
+    (λ c κs. search needs)
+    (λ c κs. search needs)
     ran-number-requires
-    same-length
-    same-length-2
+    (λ c. search needs)
+    (λ c. search needs)
     returns-2)

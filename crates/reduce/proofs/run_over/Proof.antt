@@ -8,29 +8,11 @@ use borrow.Author.Needs.{needs}
 use Rattle.reduce.proofs.run_over.Statement.{statement}
 use Rattle.reduce.proofs.run_over.Tie as tie
 
-size-sum-requires : tie.Need-size-sum-requires
-size-sum-requires c κs = search needs
-
-mul-if1 : tie.Need-mul-if1
-mul-if1 c = search needs
-
-add-if1 : tie.Need-add-if1
-add-if1 c = search needs
-
-refused-requires : tie.Need-refused-requires
-refused-requires c κs = search needs
-
 returns : tie.Need-returns
 returns c =
     let a = c .before .before .before .before .before .args in
     let q = run-buffer-refused-over (held (a .t .now)) (a .b .now) (omega (arith, c .before .if1 .taken, c .before .before .size-sum .ensures .0)) in
     (c .refused .ensures ∙ ap (λ (x : RunResult). x .answer) (sym q), ap (λ (x : RunResult). x .buffer) (sym q))
-
-run-table-requires : tie.Need-run-table-requires
-run-table-requires c κs = search needs
-
-same-length : tie.Need-same-length
-same-length c = search needs
 
 returns-2 : tie.Need-returns-2
 returns-2 c =
@@ -43,11 +25,11 @@ pub run-over-spec : {M : Type 1} → statement M
 run-over-spec =
     tie.close
     (tie.spec
-    size-sum-requires
-    mul-if1
-    add-if1
-    refused-requires
+    (λ c κs. search needs)
+    (λ c. search needs)
+    (λ c. search needs)
+    (λ c κs. search needs)
     returns
-    run-table-requires
-    same-length
+    (λ c κs. search needs)
+    (λ c. search needs)
     returns-2)

@@ -26,9 +26,6 @@ abbrev μ-loop : tie.MeasureT-loop
 write-version-requires : tie.Need-write-version-requires Inv-loop μ-loop
 write-version-requires c κs = omega (arith, c .before .before .before .pre .1)
 
-full-masks-requires : tie.Need-full-masks-requires Inv-loop μ-loop
-full-masks-requires c κs = search needs
-
 first-unsupported-requires : tie.Need-first-unsupported-requires Inv-loop μ-loop
 first-unsupported-requires c κs =
     let R = c .before .before .before .before .before .before .before .before .before .before .pre .0 in
@@ -41,9 +38,6 @@ loop-holds c =
 
 next-step-requires : tie.Need-next-step-requires Inv-loop μ-loop
 next-step-requires c κs = let i = c .before .before .before .before .before .loop .inv in (i .0 .ready, i .1, i .2)
-
-enum-known-r : tie.Need-enum-known-r Inv-loop μ-loop
-enum-known-r c = search needs
 
 write-record-requires : tie.Need-write-record-requires Inv-loop μ-loop
 write-record-requires c κs =
@@ -78,9 +72,6 @@ loop-again c =
     let a = c .advance .ensures in
     rw (p .0, p .1, a .0, after-state (w .inv .0 .ready)) (running-next _ _ _ _ _ _ (w .inv .0) _ e, a .1 .0, a .1 .1)
 
-enum-told : tie.Need-enum-told Inv-loop μ-loop
-enum-told c = search needs
-
 end-of-requires : tie.Need-end-of-requires Inv-loop μ-loop
 end-of-requires c κs = c .before .before .before .before .before .before .before .before .loop .inv .0 .ready
 
@@ -100,17 +91,17 @@ run-table-spec =
     Inv-loop
     μ-loop
     write-version-requires
-    full-masks-requires
+    (λ c κs. search needs)
     first-unsupported-requires
     loop-holds
     next-step-requires
-    enum-known-r
+    (λ c. search needs)
     write-record-requires
     advance-requires
     add-steps
     loop-less
     loop-again
-    enum-told
+    (λ c. search needs)
     end-of-requires
     same-length
     returns)

@@ -4,24 +4,6 @@ use borrow.Author.Needs.{needs}
 use Rattle.replay.proofs.broken_cover.Statement.{statement}
 use Rattle.replay.proofs.broken_cover.Tie as tie
 
-enum-told : tie.Need-enum-told
-enum-told c = search needs
-
-enum-told-2 : tie.Need-enum-told-2
-enum-told-2 c = search needs
-
-enum-told-3 : tie.Need-enum-told-3
-enum-told-3 c = search needs
-
-enum-known-r : tie.Need-enum-known-r
-enum-known-r c = search needs
-
-broken-neighbourhood-requires : tie.Need-broken-neighbourhood-requires
-broken-neighbourhood-requires c κs = search needs
-
-enum-told-4 : tie.Need-enum-told-4
-enum-told-4 c = search needs
-
 returns : tie.Need-returns
 unfolding brokenCover
 returns c = search needs
@@ -46,12 +28,12 @@ pub broken-cover-spec : {M : Type 1} → statement M
 broken-cover-spec =
     tie.close
     (tie.spec
-    enum-told
-    enum-told-2
-    enum-told-3
-    enum-known-r
-    broken-neighbourhood-requires
-    enum-told-4
+    (λ c. search needs)
+    (λ c. search needs)
+    (λ c. search needs)
+    (λ c. search needs)
+    (λ c κs. search needs)
+    (λ c. search needs)
     returns
     returns-2
     returns-3

@@ -6,9 +6,6 @@ use borrow.Author.Needs.{needs}
 use Rattle.replay.proofs.broken_neighbourhood.Statement.{statement}
 use Rattle.replay.proofs.broken_neighbourhood.Tie as tie
 
-cover-asked-requires : tie.Need-cover-asked-requires
-cover-asked-requires c κs = search needs
-
 first-break-requires : tie.Need-first-break-requires
 first-break-requires c κs = let p = c .before .before .before .pre in let v = asked-values p _ _ _ (sym (c .before .cover-asked .ensures) ∙ c .if1 .taken) in (p, v .0, v .1)
 
@@ -19,4 +16,4 @@ returns-2 : tie.Need-returns-2
 returns-2 c = sym (broken-unasked _ _ _ _ _ (sym (c .before .cover-asked .ensures) ∙ c .if1 .left))
 
 pub broken-neighbourhood-spec : {M : Type 1} → statement M
-broken-neighbourhood-spec = tie.close (tie.spec cover-asked-requires first-break-requires returns returns-2)
+broken-neighbourhood-spec = tie.close (tie.spec (λ c κs. search needs) first-break-requires returns returns-2)

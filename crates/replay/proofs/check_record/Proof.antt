@@ -12,41 +12,8 @@ use borrow.Author.Needs.{needs}
 use Rattle.replay.proofs.check_record.Statement.{statement}
 use Rattle.replay.proofs.check_record.Tie as tie
 
-enum-known-x : tie.Need-enum-known-x
-enum-known-x c = search needs
-
-lawful-requires : tie.Need-lawful-requires
-lawful-requires c κs = search needs
-
 after-lawful-requires : tie.Need-after-lawful-requires
 after-lawful-requires c κs = (c .before .before .before .before .before .before .before .before .before .before .pre .0, T-of (sym (c .before .lawful .ensures) ∙ c .if1 .taken))
-
-add-going : tie.Need-add-going
-add-going c = search needs
-
-going-requires : tie.Need-going-requires
-going-requires c κs = search needs
-
-unlawful-requires : tie.Need-unlawful-requires
-unlawful-requires c κs = search needs
-
-stopped-requires : tie.Need-stopped-requires
-stopped-requires c κs = search needs
-
-enum-told : tie.Need-enum-told
-enum-told c = search needs
-
-stopped-requires-2 : tie.Need-stopped-requires-2
-stopped-requires-2 c κs = search needs
-
-enum-told-2 : tie.Need-enum-told-2
-enum-told-2 c = search needs
-
-fault-requires : tie.Need-fault-requires
-fault-requires c κs = search needs
-
-stopped-requires-3 : tie.Need-stopped-requires-3
-stopped-requires-3 c κs = search needs
 
 returns : tie.Need-returns
 returns c =
@@ -76,18 +43,18 @@ pub check-record-spec : {M : Type 1} → statement M
 check-record-spec =
     tie.close
     (tie.spec
-    enum-known-x
-    lawful-requires
+    (λ c. search needs)
+    (λ c κs. search needs)
     after-lawful-requires
-    add-going
-    going-requires
-    unlawful-requires
-    stopped-requires
-    enum-told
-    stopped-requires-2
-    enum-told-2
-    fault-requires
-    stopped-requires-3
+    (λ c. search needs)
+    (λ c κs. search needs)
+    (λ c κs. search needs)
+    (λ c κs. search needs)
+    (λ c. search needs)
+    (λ c κs. search needs)
+    (λ c. search needs)
+    (λ c κs. search needs)
+    (λ c κs. search needs)
     returns
     returns-2
     returns-3

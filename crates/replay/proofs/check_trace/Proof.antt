@@ -9,17 +9,8 @@ use borrow.Author.Needs.{needs}
 use Rattle.replay.proofs.check_trace.Statement.{statement}
 use Rattle.replay.proofs.check_trace.Tie as tie
 
-fault-requires : tie.Need-fault-requires
-fault-requires c κs = search needs
-
 returns : tie.Need-returns
 returns c = let a = c .before .before .before .before .args in let P = held (a .t .now) in c .fault .ensures ∙ ap (walkEnded P (full P)) (sym (no-front P (a .trace .now) (c .before .if1 .taken)))
-
-shared-slice-read-if2 : tie.Need-shared-slice-read-if2
-shared-slice-read-if2 c = search needs
-
-fault-requires-2 : tie.Need-fault-requires-2
-fault-requires-2 c κs = search needs
 
 returns-2 : tie.Need-returns-2
 returns-2 c = let a = c .before .before .before .before .before .before .args in let P = held (a .t .now) in c .fault2 .ensures ∙ ap (walkEnded P (full P)) (sym (wrong-front P (a .trace .now) (c .before .before .before .if1 .left) (c .before .if2 .taken)))
@@ -34,10 +25,10 @@ pub check-trace-spec : {M : Type 1} → statement M
 check-trace-spec =
     tie.close
     (tie.spec
-    fault-requires
+    (λ c κs. search needs)
     returns
-    shared-slice-read-if2
-    fault-requires-2
+    (λ c. search needs)
+    (λ c κs. search needs)
     returns-2
     check-records-requires
     returns-3)

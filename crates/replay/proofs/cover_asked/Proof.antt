@@ -8,18 +8,6 @@ use borrow.Author.Needs.{needs}
 use Rattle.replay.proofs.cover_asked.Statement.{statement}
 use Rattle.replay.proofs.cover_asked.Tie as tie
 
-is-live-requires : tie.Need-is-live-requires
-is-live-requires c κs = search needs
-
-is-live-requires-2 : tie.Need-is-live-requires-2
-is-live-requires-2 c κs = search needs
-
-none-empty-requires : tie.Need-none-empty-requires
-none-empty-requires c κs = search needs
-
-has32-requires : tie.Need-has32-requires
-has32-requires c κs = search needs
-
 returns : tie.Need-returns
 unfolding coverAsked stateOf
 returns c =
@@ -33,9 +21,9 @@ pub cover-asked-spec : {M : Type 1} → statement M
 cover-asked-spec =
     tie.close
     (tie.spec
-    is-live-requires
-    is-live-requires-2
-    none-empty-requires
-    has32-requires
+    (λ c κs. search needs)
+    (λ c κs. search needs)
+    (λ c κs. search needs)
+    (λ c κs. search needs)
     returns
     returns-2)

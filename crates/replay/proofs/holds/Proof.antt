@@ -4,36 +4,6 @@ use borrow.Author.Needs.{needs}
 use Rattle.replay.proofs.holds.Statement.{statement}
 use Rattle.replay.proofs.holds.Tie as tie
 
-enum-known-r : tie.Need-enum-known-r
-enum-known-r c = search needs
-
-holds-unsupported-requires : tie.Need-holds-unsupported-requires
-holds-unsupported-requires c κs = search needs
-
-enum-known-r-2 : tie.Need-enum-known-r-2
-enum-known-r-2 c = search needs
-
-holds-snake-requires : tie.Need-holds-snake-requires
-holds-snake-requires c κs = search needs
-
-enum-known-r-3 : tie.Need-enum-known-r-3
-enum-known-r-3 c = search needs
-
-holds-triangle-requires : tie.Need-holds-triangle-requires
-holds-triangle-requires c κs = search needs
-
-enum-known-r-4 : tie.Need-enum-known-r-4
-enum-known-r-4 c = search needs
-
-holds-neighbourhood-requires : tie.Need-holds-neighbourhood-requires
-holds-neighbourhood-requires c κs = search needs
-
-enum-known-r-5 : tie.Need-enum-known-r-5
-enum-known-r-5 c = search needs
-
-holds-slide-requires : tie.Need-holds-slide-requires
-holds-slide-requires c κs = search needs
-
 returns : tie.Need-returns
 unfolding holdsBy
 returns c = rw (c .before .before .r .given .1) (c .holds-unsupported .ensures)
@@ -58,16 +28,16 @@ pub holds-spec : {M : Type 1} → statement M
 holds-spec =
     tie.close
     (tie.spec
-    enum-known-r
-    holds-unsupported-requires
-    enum-known-r-2
-    holds-snake-requires
-    enum-known-r-3
-    holds-triangle-requires
-    enum-known-r-4
-    holds-neighbourhood-requires
-    enum-known-r-5
-    holds-slide-requires
+    (λ c. search needs)
+    (λ c κs. search needs)
+    (λ c. search needs)
+    (λ c κs. search needs)
+    (λ c. search needs)
+    (λ c κs. search needs)
+    (λ c. search needs)
+    (λ c κs. search needs)
+    (λ c. search needs)
+    (λ c κs. search needs)
     returns
     returns-2
     returns-3

@@ -8,11 +8,8 @@ use Rattle.replay.proofs.holds_triangle.Tie as tie
 triangle-requires : tie.Need-triangle-requires
 triangle-requires c κs = let a = c .before .before .args in let h = range2 (a .i) 32 (a .j) 32 (c .if1 .taken) in (c .before .before .pre, h .0, h .1)
 
-returns : tie.Need-returns
-returns c = search needs
-
 returns-2 : tie.Need-returns-2
 returns-2 c = sym (triangle-out (c .before .before .pre) _ _ (c .if1 .left))
 
 pub holds-triangle-spec : {M : Type 1} → statement M
-holds-triangle-spec = tie.close (tie.spec triangle-requires returns returns-2)
+holds-triangle-spec = tie.close (tie.spec triangle-requires (λ c. search needs) returns-2)

@@ -5,12 +5,6 @@ use borrow.Author.Needs.{needs}
 use Rattle.replay.proofs.lawful.Statement.{statement}
 use Rattle.replay.proofs.lawful.Tie as tie
 
-none-empty-requires : tie.Need-none-empty-requires
-none-empty-requires c κs = search needs
-
-holds-requires : tie.Need-holds-requires
-holds-requires c κs = search needs
-
 returns : tie.Need-returns
 returns c = c .holds .ensures ∙ lawful-on _ _ _ (sym (c .before .before .none-empty .ensures) ∙ c .before .if1 .taken)
 
@@ -18,4 +12,4 @@ returns-2 : tie.Need-returns-2
 returns-2 c = lawful-off _ _ _ (sym (c .before .none-empty .ensures) ∙ c .if1 .left)
 
 pub lawful-spec : {M : Type 1} → statement M
-lawful-spec = tie.close (tie.spec none-empty-requires holds-requires returns returns-2)
+lawful-spec = tie.close (tie.spec (λ c κs. search needs) (λ c κs. search needs) returns returns-2)

@@ -6,17 +6,8 @@ use borrow.Author.Needs.{needs}
 use Rattle.replay.proofs.unlawful.Statement.{statement}
 use Rattle.replay.proofs.unlawful.Tie as tie
 
-broken-cover-requires : tie.Need-broken-cover-requires
-broken-cover-requires c κs = search needs
-
-unlawful-record-requires : tie.Need-unlawful-record-requires
-unlawful-record-requires c κs = search needs
-
-fault-requires : tie.Need-fault-requires
-fault-requires c κs = search needs
-
 returns : tie.Need-returns
 returns c = c .fault .ensures ∙ ap faulty (c .before .unlawful-record .ensures ∙ ap (unlawfulRecord (c .before .before .before .before .args .count)) (c .before .before .broken-cover .ensures))
 
 pub unlawful-spec : {M : Type 1} → statement M
-unlawful-spec = tie.close (tie.spec broken-cover-requires unlawful-record-requires fault-requires returns)
+unlawful-spec = tie.close (tie.spec (λ c κs. search needs) (λ c κs. search needs) (λ c κs. search needs) returns)

@@ -19,12 +19,6 @@ abbrev μ-loop : tie.MeasureT-loop
 loop-holds : tie.Need-loop-holds Inv-loop μ-loop
 loop-holds c = (omega arith, (sym (count-none _), omega arith))
 
-has32-requires : tie.Need-has32-requires Inv-loop μ-loop
-has32-requires c κs = omega arith
-
-one-if-requires : tie.Need-one-if-requires Inv-loop μ-loop
-one-if-requires c κs = search needs
-
 -- one turn more, and the count is at most the turns
 more : tie.Need-loop-again Inv-loop μ-loop
 more c =
@@ -36,12 +30,6 @@ more c =
 
 add-sum : tie.Need-add-sum Inv-loop μ-loop
 add-sum c = let m = more c in omega arith
-
-add-c : tie.Need-add-c Inv-loop μ-loop
-add-c c = omega arith
-
-loop-less : tie.Need-loop-less Inv-loop μ-loop
-loop-less c = omega arith
 
 returns : tie.Need-returns Inv-loop μ-loop
 returns c =
@@ -57,10 +45,10 @@ count-bits-spec =
     Inv-loop
     μ-loop
     loop-holds
-    has32-requires
-    one-if-requires
+    (λ c κs. omega arith)
+    (λ c κs. search needs)
     add-sum
-    add-c
-    loop-less
+    (λ c. omega arith)
+    (λ c. omega arith)
     more
     returns)

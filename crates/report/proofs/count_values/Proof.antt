@@ -19,26 +19,8 @@ abbrev μ-loop : tie.MeasureT-loop
 loop-holds : tie.Need-loop-holds Inv-loop μ-loop
 loop-holds c = (omega arith, (sym (sum-none _), omega arith))
 
-mul-count-bits : tie.Need-mul-count-bits Inv-loop μ-loop
-mul-count-bits c = search needs
-
-element-copy-out-count-bits : tie.Need-element-copy-out-count-bits Inv-loop μ-loop
-element-copy-out-count-bits c = search needs
-
-cast-count-bits : tie.Need-cast-count-bits Inv-loop μ-loop
-cast-count-bits c = search needs
-
-count-bits-requires : tie.Need-count-bits-requires Inv-loop μ-loop
-count-bits-requires c κs = search needs
-
 add-sum : tie.Need-add-sum Inv-loop μ-loop
 add-sum c = omega (arith, c .count-bits .ensures .1)
-
-add-i : tie.Need-add-i Inv-loop μ-loop
-add-i c = omega arith
-
-loop-less : tie.Need-loop-less Inv-loop μ-loop
-loop-less c = omega arith
 
 loop-again : tie.Need-loop-again Inv-loop μ-loop
 unfolding stateOf
@@ -59,12 +41,12 @@ count-values-spec =
     Inv-loop
     μ-loop
     loop-holds
-    mul-count-bits
-    element-copy-out-count-bits
-    cast-count-bits
-    count-bits-requires
+    (λ c. search needs)
+    (λ c. search needs)
+    (λ c. search needs)
+    (λ c κs. search needs)
     add-sum
-    add-i
-    loop-less
+    (λ c. omega arith)
+    (λ c. omega arith)
     loop-again
     returns)

@@ -18,26 +18,8 @@ shared-slice-read-n c = let a = c .before .before .before .before in omega (arit
 cast-n : tie.Need-cast-n
 cast-n c = omega (arith, c .shared-slice-known3 .given 5)
 
-size-sum-requires : tie.Need-size-sum-requires
-size-sum-requires c κs = search needs
-
-count-bits-requires : tie.Need-count-bits-requires
-count-bits-requires c κs = search needs
-
-count-values-requires : tie.Need-count-values-requires
-count-values-requires c κs = search needs
-
 put-first-line-requires : tie.Need-put-first-line-requires
 put-first-line-requires c κs = (omega (arith, c .before .before .before .before .shared-slice-known3 .given 5), (omega (arith, c .before .before .before .size-sum .ensures .below), omega arith))
-
-put-steps-requires : tie.Need-put-steps-requires
-put-steps-requires c κs = search needs
-
-put-last-line-requires : tie.Need-put-last-line-requires
-put-last-line-requires c κs = search needs
-
-same-length : tie.Need-same-length
-same-length c = search needs
 
 returns : tie.Need-returns
 unfolding problemOf stateOf
@@ -59,11 +41,11 @@ put-run-spec =
     (tie.spec
     shared-slice-read-n
     cast-n
-    size-sum-requires
-    count-bits-requires
-    count-values-requires
+    (λ c κs. search needs)
+    (λ c κs. search needs)
+    (λ c κs. search needs)
     put-first-line-requires
-    put-steps-requires
-    put-last-line-requires
-    same-length
+    (λ c κs. search needs)
+    (λ c κs. search needs)
+    (λ c. search needs)
     returns)

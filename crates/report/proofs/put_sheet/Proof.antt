@@ -10,18 +10,6 @@ use borrow.Author.Needs.{needs}
 use Rattle.report.proofs.put_sheet.Statement.{statement}
 use Rattle.report.proofs.put_sheet.Tie as tie
 
-slice-aggregate-reduce : tie.Need-slice-aggregate-reduce
-slice-aggregate-reduce c = search needs
-
-reduce-requires : tie.Need-reduce-requires
-reduce-requires c κs = search needs
-
-enum-known-outcome : tie.Need-enum-known-outcome
-enum-known-outcome c = search needs
-
-slice-aggregate-put-run : tie.Need-slice-aggregate-put-run
-slice-aggregate-put-run c = search needs
-
 put-run-requires : tie.Need-put-run-requires
 put-run-requires c κs =
     let a = c .before .before .before .before .before .before .before .before .before .before .before .args in
@@ -29,30 +17,12 @@ put-run-requires c κs =
     let o = c .before .before .before .outcome .given .1 in
     (done-keeps (a .s .now) _ (omega arith) _ (r .ensures .0) _ _ _ o, (done-ran (a .s .now) _ (omega arith) _ (r .ensures .0) _ _ _ o _ (r .ensures .1), omega arith))
 
-enum-known-outcome-2 : tie.Need-enum-known-outcome-2
-enum-known-outcome-2 c = search needs
-
-run-number-requires : tie.Need-run-number-requires
-run-number-requires c κs = search needs
-
-cast-put-refused-line : tie.Need-cast-put-refused-line
-cast-put-refused-line c = search needs
-
-put-refused-line-requires : tie.Need-put-refused-line-requires
-put-refused-line-requires c κs = search needs
-
-same-length : tie.Need-same-length
-same-length c = search needs
-
 returns : tie.Need-returns
 returns c =
     let a = c .before .before .before .before .before .before .before .before .before .before .before .before .before .before .args in
     let r = c .before .before .before .before .before .before .before .before .before .before .reduce in
     let K = done-keeps (a .s .now) _ (omega arith) _ (r .ensures .0) _ _ _ (c .before .before .before .before .before .before .outcome .given .1) in
     rw (read-lines (a .s .now) K) (c .before .before .put-run .ensures)
-
-same-length-2 : tie.Need-same-length-2
-same-length-2 c = search needs
 
 returns-2 : tie.Need-returns-2
 returns-2 c =
@@ -67,16 +37,16 @@ pub put-sheet-spec : {M : Type 1} → statement M
 put-sheet-spec =
     tie.close
     (tie.spec
-    slice-aggregate-reduce
-    reduce-requires
-    enum-known-outcome
-    slice-aggregate-put-run
+    (λ c. search needs)
+    (λ c κs. search needs)
+    (λ c. search needs)
+    (λ c. search needs)
     put-run-requires
-    enum-known-outcome-2
-    run-number-requires
-    cast-put-refused-line
-    put-refused-line-requires
-    same-length
+    (λ c. search needs)
+    (λ c κs. search needs)
+    (λ c. search needs)
+    (λ c κs. search needs)
+    (λ c. search needs)
     returns
-    same-length-2
+    (λ c. search needs)
     returns-2)

@@ -20,27 +20,12 @@ abbrev μ-loop : tie.MeasureT-loop
 loop-holds : tie.Need-loop-holds Inv-loop μ-loop
 loop-holds c = putting-start _ _ _ _ _ (c .before .before .pre .1)
 
-record-at-requires : tie.Need-record-at-requires Inv-loop μ-loop
-record-at-requires c κs = search needs
-
-enum-known-record : tie.Need-enum-known-record Inv-loop μ-loop
-enum-known-record c = search needs
-
-add-put-step-line : tie.Need-add-put-step-line Inv-loop μ-loop
-add-put-step-line c = omega arith
-
 put-step-line-requires : tie.Need-put-step-line-requires Inv-loop μ-loop
 put-step-line-requires c κs =
     let w = c .before .before .before .before .before .before .loop in
     let known = c .before .before .before .before .before .before .before .shared-slice-known in
     let e = sym (c .before .before .before .before .record-at .ensures) ∙ c .before .before .«record» .given .1 in
     (omega arith, (piece-room _ _ _ _ _ _ _ _ _ (w .inv) (omega arith), read-small _ (λ k. omega (arith, known .given k)) _ _ _ e))
-
-add-k : tie.Need-add-k Inv-loop μ-loop
-add-k c = omega arith
-
-loop-less : tie.Need-loop-less Inv-loop μ-loop
-loop-less c = omega arith
 
 loop-again : tie.Need-loop-again Inv-loop μ-loop
 loop-again c =
@@ -49,9 +34,6 @@ loop-again c =
     let p = c .before .before .put-step-line .ensures in
     putting-next _ _ _ _ _ _ _ _ _ (w .inv) (omega arith) _ _ (one-line _ _ _ _ (omega arith) _ _ e) _ _ (p .0) (p .1)
 
-enum-told : tie.Need-enum-told Inv-loop μ-loop
-enum-told c = search needs
-
 same-length : tie.Need-same-length Inv-loop μ-loop
 same-length c = kept-length _ _ _ _ _ _ _ _ _ (c .before .before .before .before .loop .inv)
 
@@ -59,9 +41,6 @@ returns : tie.Need-returns Inv-loop μ-loop
 returns c =
     let w = c .before .before .before .before .loop in
     (all-put _ _ _ _ _ _ _ _ _ (w .inv) (end-lines _ _ _ _ (sym (c .before .before .record-at .ensures) ∙ c .enum-told .given .1)), omega arith)
-
-enum-told-2 : tie.Need-enum-told-2 Inv-loop μ-loop
-enum-told-2 c = search needs
 
 same-length-2 : tie.Need-same-length-2 Inv-loop μ-loop
 same-length-2 c = kept-length _ _ _ _ _ _ _ _ _ (c .before .before .before .before .loop .inv)
@@ -84,17 +63,17 @@ put-steps-spec =
     Inv-loop
     μ-loop
     loop-holds
-    record-at-requires
-    enum-known-record
-    add-put-step-line
+    (λ c κs. search needs)
+    (λ c. search needs)
+    (λ c. omega arith)
     put-step-line-requires
-    add-k
-    loop-less
+    (λ c. omega arith)
+    (λ c. omega arith)
     loop-again
-    enum-told
+    (λ c. search needs)
     same-length
     returns
-    enum-told-2
+    (λ c. search needs)
     same-length-2
     returns-2
     same-length-3

@@ -8,12 +8,6 @@ use native.Mathlib.Omega.{arith}
 use Rattle.sheet.proofs.row.Statement.{statement}
 use Rattle.sheet.proofs.row.Tie as tie
 
-byte-requires : tie.Need-byte-requires
-byte-requires c κs = search needs
-
-word-requires : tie.Need-word-requires
-word-requires c κs = search needs
-
 returns : tie.Need-returns
 returns c =
     let e = ap (λ (w : ℕ). numberAt (now (c .before .before .before .args .s)) w (c .before .before .before .args .p)) (c .before .if1 .taken) in
@@ -27,4 +21,4 @@ returns-2 c =
     record { is = c .word .ensures .is ∙ sym e; below = omega arith }
 
 pub row-spec : {M : Type 1} → statement M
-row-spec = tie.close (tie.spec byte-requires word-requires returns returns-2)
+row-spec = tie.close (tie.spec (λ c κs. search needs) (λ c κs. search needs) returns returns-2)

@@ -7,18 +7,6 @@ use borrow.Author.Needs.{needs}
 use Rattle.sheet.proofs.width_of.Statement.{statement}
 use Rattle.sheet.proofs.width_of.Tie as tie
 
-byte-requires : tie.Need-byte-requires
-byte-requires c κs = search needs
-
-add-byte : tie.Need-add-byte
-add-byte c = search needs
-
-byte-requires-2 : tie.Need-byte-requires-2
-byte-requires-2 c κs = search needs
-
-row-width-requires : tie.Need-row-width-requires
-row-width-requires c κs = search needs
-
 returns : tie.Need-returns
 returns c =
     let w = c .row-width .ensures in
@@ -32,4 +20,4 @@ returns c =
 
 pub width-of-spec : {M : Type 1} → statement M
 width-of-spec =
-    tie.close (tie.spec byte-requires add-byte byte-requires-2 row-width-requires returns)
+    tie.close (tie.spec (λ c κs. search needs) (λ c. search needs) (λ c κs. search needs) (λ c κs. search needs) returns)

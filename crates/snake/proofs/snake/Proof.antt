@@ -7,15 +7,6 @@ use Rattle.snake.proofs.Laws.{tried-snake}
 use Rattle.snake.proofs.snake.Statement.{statement}
 use Rattle.snake.proofs.snake.Tie as tie
 
-mul-has16 : tie.Need-mul-has16
-mul-has16 c = search needs
-
-element-copy-out-has16 : tie.Need-element-copy-out-has16
-element-copy-out-has16 c = search needs
-
-has16-requires : tie.Need-has16-requires
-has16-requires c κs = search needs
-
 snake-rests-requires : tie.Need-snake-rests-requires
 snake-rests-requires c κs = let p = c .before .before .before .before .pre in (p .0, p .1, p .2, sym (c .before .has16 .ensures) ∙ c .if1 .taken)
 
@@ -30,9 +21,9 @@ pub snake-spec : {M : Type 1} → statement M
 snake-spec =
     tie.close
     (tie.spec
-    mul-has16
-    element-copy-out-has16
-    has16-requires
+    (λ c. search needs)
+    (λ c. search needs)
+    (λ c κs. search needs)
     snake-rests-requires
     returns
     returns-2)

@@ -6,20 +6,11 @@ use borrow.Author.Needs.{needs}
 use Rattle.snake.proofs.snake_at.Statement.{statement}
 use Rattle.snake.proofs.snake_at.Tie as tie
 
-mul-domain : tie.Need-mul-domain
-mul-domain c = search needs
-
-element-copy-out-domain : tie.Need-element-copy-out-domain
-element-copy-out-domain c = search needs
-
 row-among-requires : tie.Need-row-among-requires
 row-among-requires c κs =
     let p = c .before .before .pre in
     let a = c .before .before .args in
     (p .0 .table, domain-values (p .0) _ (p .3), p .1, p .3, other-apart (a .rest) (a .active) _ _ (p .2) (p .1 .variable) (p .4))
-
-without32-requires : tie.Need-without32-requires
-without32-requires c κs = search needs
 
 unserved-requires : tie.Need-unserved-requires
 unserved-requires c κs =
@@ -38,9 +29,9 @@ pub snake-at-spec : {M : Type 1} → statement M
 snake-at-spec =
     tie.close
     (tie.spec
-    mul-domain
-    element-copy-out-domain
+    (λ c. search needs)
+    (λ c. search needs)
     row-among-requires
-    without32-requires
+    (λ c κs. search needs)
     unserved-requires
     returns)

@@ -7,17 +7,8 @@ use Rattle.snake.proofs.Laws.{servers-word}
 use Rattle.snake.proofs.snake_servers.Statement.{statement}
 use Rattle.snake.proofs.snake_servers.Tie as tie
 
-mul-row-among : tie.Need-mul-row-among
-mul-row-among c = search needs
-
-element-copy-out-row-among : tie.Need-element-copy-out-row-among
-element-copy-out-row-among c = search needs
-
 row-among-requires : tie.Need-row-among-requires
 row-among-requires c κs = let p = c .before .before .pre in (p .0 .table, domain-values (p .0) _ (p .2 .variable), p .1, p .2 .variable, p .3)
-
-third-set-requires : tie.Need-third-set-requires
-third-set-requires c κs = search needs
 
 serving-requires : tie.Need-serving-requires
 serving-requires c κs =
@@ -31,4 +22,4 @@ returns c =
     c .serving .ensures .0 ∙ rw (c .before .third-set .ensures, c .before .before .row-among .ensures) (servers-word (p .0) _ _ _ (p .1 .variable) (p .2 .variable) _)
 
 pub snake-servers-spec : {M : Type 1} → statement M
-snake-servers-spec = tie.close (tie.spec mul-row-among element-copy-out-row-among row-among-requires third-set-requires serving-requires returns)
+snake-servers-spec = tie.close (tie.spec (λ c. search needs) (λ c. search needs) row-among-requires (λ c κs. search needs) serving-requires returns)

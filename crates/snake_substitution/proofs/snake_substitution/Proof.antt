@@ -9,18 +9,6 @@ use borrow.Author.Needs.{needs}
 use Rattle.snake_substitution.proofs.snake_substitution.Statement.{statement}
 use Rattle.snake_substitution.proofs.snake_substitution.Tie as tie
 
-mul-domain : tie.Need-mul-domain
-mul-domain c = search needs
-
-element-copy-out-domain : tie.Need-element-copy-out-domain
-element-copy-out-domain c = search needs
-
-has16-requires : tie.Need-has16-requires
-has16-requires c κs = search needs
-
-has16-requires-2 : tie.Need-has16-requires-2
-has16-requires-2 c κs = search needs
-
 substitution-others-requires : tie.Need-substitution-others-requires
 substitution-others-requires c κs =
     let p = c .before .before .before .before .before .pre in
@@ -39,10 +27,10 @@ pub snake-substitution-spec : {M : Type 1} → statement M
 snake-substitution-spec =
     tie.close
     (tie.spec
-    mul-domain
-    element-copy-out-domain
-    has16-requires
-    has16-requires-2
+    (λ c. search needs)
+    (λ c. search needs)
+    (λ c κs. search needs)
+    (λ c κs. search needs)
     substitution-others-requires
     returns
     returns-2)

@@ -9,12 +9,6 @@ use borrow.Author.Needs.{needs}
 use Rattle.snake_substitution.proofs.substitution_at.Statement.{statement}
 use Rattle.snake_substitution.proofs.substitution_at.Tie as tie
 
-mul-domain : tie.Need-mul-domain
-mul-domain c = search needs
-
-element-copy-out-domain : tie.Need-element-copy-out-domain
-element-copy-out-domain c = search needs
-
 row-among-requires : tie.Need-row-among-requires
 row-among-requires c κs =
     let p = c .before .before .pre in
@@ -26,9 +20,6 @@ row-among-requires-2 c κs =
     let p = c .before .before .before .pre in
     let a = c .before .before .before .args in
     (p .0 .table, domain-values (p .0) _ (p .4), p .1, p .4, other-apart (a .rest) (a .active) _ _ (p .3) (p .1 .variable) (p .5))
-
-without32-requires : tie.Need-without32-requires
-without32-requires c κs = search needs
 
 unserved-requires : tie.Need-unserved-requires
 unserved-requires c κs =
@@ -52,10 +43,10 @@ pub substitution-at-spec : {M : Type 1} → statement M
 substitution-at-spec =
     tie.close
     (tie.spec
-    mul-domain
-    element-copy-out-domain
+    (λ c. search needs)
+    (λ c. search needs)
     row-among-requires
     row-among-requires-2
-    without32-requires
+    (λ c κs. search needs)
     unserved-requires
     returns)

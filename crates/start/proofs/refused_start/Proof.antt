@@ -7,13 +7,10 @@ use borrow.Author.Needs.{needs}
 use Rattle.start.proofs.refused_start.Statement.{statement}
 use Rattle.start.proofs.refused_start.Tie as tie
 
-empty-masks-requires : tie.Need-empty-masks-requires
-empty-masks-requires c κs = search needs
-
 returns : tie.Need-returns
 returns c =
     let a : Masks → StartAnswer = λ m. record { outcome = Refused (c .before .args .r); state = record { masks = m } } in
     ap a (c .empty-masks .ensures)
 
 pub refused-start-spec : {M : Type 1} → statement M
-refused-start-spec = tie.close (tie.spec empty-masks-requires returns)
+refused-start-spec = tie.close (tie.spec (λ c κs. search needs) returns)

@@ -22,27 +22,9 @@ abbrev μ-loop : tie.MeasureT-loop
 loop-holds : tie.Need-loop-holds Inv-loop μ-loop
 loop-holds c = (search needs, all-none _)
 
-mul-was : tie.Need-mul-was Inv-loop μ-loop
-mul-was c = search needs
-
-element-copy-out-was : tie.Need-element-copy-out-was Inv-loop μ-loop
-element-copy-out-was c = search needs
-
-mul-left : tie.Need-mul-left Inv-loop μ-loop
-mul-left c = search needs
-
-element-copy-out-left : tie.Need-element-copy-out-left Inv-loop μ-loop
-element-copy-out-left c = search needs
-
 returns : tie.Need-returns Inv-loop μ-loop
 unfolding sameDomains
 returns c = sym (all-fail _ 32 (c .before .before .before .before .loop .i) (omega arith) (not-true _ (c .if1 .taken)))
-
-add-i : tie.Need-add-i Inv-loop μ-loop
-add-i c = search needs
-
-loop-less : tie.Need-loop-less Inv-loop μ-loop
-loop-less c = search needs
 
 loop-again : tie.Need-loop-again Inv-loop μ-loop
 loop-again c = (omega arith, all-more _ (c .before .before .before .before .loop .i) (c .before .before .before .before .loop .inv .1) (not-false _ (c .if1 .left)))
@@ -58,12 +40,12 @@ same-domains-spec =
     Inv-loop
     μ-loop
     loop-holds
-    mul-was
-    element-copy-out-was
-    mul-left
-    element-copy-out-left
+    (λ c. search needs)
+    (λ c. search needs)
+    (λ c. search needs)
+    (λ c. search needs)
     returns
-    add-i
-    loop-less
+    (λ c. search needs)
+    (λ c. search needs)
     loop-again
     returns-2)

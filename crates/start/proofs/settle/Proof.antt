@@ -16,9 +16,6 @@ Inv-loop t kept₀ next₀ kept next = Above t kept × (next ≡ masksOf (pruneB
 abbrev μ-loop : tie.MeasureT-loop
 μ-loop t kept₀ next₀ kept next = liveCount (held t) (stateOf kept)
 
-full-masks-requires : tie.Need-full-masks-requires Inv-loop μ-loop
-full-masks-requires c κs = search needs
-
 first : (c : tie.After-full-masks Inv-loop μ-loop) → Above (c .before .before .args .t .now) (c .full-masks .result)
 first c = subst (Above _) (sym (c .full-masks .ensures)) (above-full (c .before .before .pre))
 
@@ -27,9 +24,6 @@ sweep-requires c κs = first c .ready
 
 loop-holds : tie.Need-loop-holds Inv-loop μ-loop
 loop-holds c = (first (c .before), c .sweep .ensures)
-
-same-domains-requires : tie.Need-same-domains-requires Inv-loop μ-loop
-same-domains-requires c κs = search needs
 
 sweep-requires-2 : tie.Need-sweep-requires-2 Inv-loop μ-loop
 sweep-requires-2 c κs = let w = c .before .before .loop in above-next (w .inv .0) _ (w .inv .1) .ready
@@ -49,10 +43,10 @@ settle-spec =
     (tie.spec
     Inv-loop
     μ-loop
-    full-masks-requires
+    (λ c κs. search needs)
     sweep-requires
     loop-holds
-    same-domains-requires
+    (λ c κs. search needs)
     sweep-requires-2
     loop-less
     loop-again

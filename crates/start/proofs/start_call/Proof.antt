@@ -7,41 +7,17 @@ use borrow.Author.Needs.{needs}
 use Rattle.start.proofs.start_call.Statement.{statement}
 use Rattle.start.proofs.start_call.Tie as tie
 
-bad-hand-state-requires : tie.Need-bad-hand-state-requires
-bad-hand-state-requires c κs = search needs
-
 returns : tie.Need-returns
 returns c =
     let a = c .before .before .before .before .args in
     let e = sym (start-bad (a .sheet .now) (a .state .now) (λ l. omega arith)) in
     (c .bad-hand-state .ensures ∙ ap (λ (y : HandCall). y .answer) e, ap (λ (y : HandCall). y .state) e)
 
-start-requires : tie.Need-start-requires
-start-requires c κs = search needs
-
-enum-known-outcome : tie.Need-enum-known-outcome
-enum-known-outcome c = search needs
-
-sheet-number-requires : tie.Need-sheet-number-requires
-sheet-number-requires c κs = search needs
-
-cast-result : tie.Need-cast-result
-cast-result c = search needs
-
-enum-told : tie.Need-enum-told
-enum-told c = search needs
-
-put-state-requires : tie.Need-put-state-requires
-put-state-requires c κs = search needs
-
 returns-2 : tie.Need-returns-2
 returns-2 c =
     let a = c .before .before .before .before .before .before .before .before .args in
     let e = start-says (a .sheet .now) (a .state .now) (omega arith) _ (c .before .before .before .before .start .ensures) _ (c .before .before .outcome .given .1) in
     (c .sheet-number .ensures ∙ ap (λ (y : HandCall). y .answer) e, ap (λ (y : HandCall). y .state) e)
-
-same-length : tie.Need-same-length
-same-length c = search needs
 
 returns-3 : tie.Need-returns-3
 returns-3 c =
@@ -53,14 +29,14 @@ pub start-call-spec : {M : Type 1} → statement M
 start-call-spec =
     tie.close
     (tie.spec
-    bad-hand-state-requires
+    (λ c κs. search needs)
     returns
-    start-requires
-    enum-known-outcome
-    sheet-number-requires
-    cast-result
-    enum-told
-    put-state-requires
+    (λ c κs. search needs)
+    (λ c. search needs)
+    (λ c κs. search needs)
+    (λ c. search needs)
+    (λ c. search needs)
+    (λ c κs. search needs)
     returns-2
-    same-length
+    (λ c. search needs)
     returns-3)

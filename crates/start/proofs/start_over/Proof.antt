@@ -7,13 +7,10 @@ use borrow.Author.Needs.{needs}
 use Rattle.start.proofs.start_over.Statement.{statement}
 use Rattle.start.proofs.start_over.Tie as tie
 
-settle-requires : tie.Need-settle-requires
-settle-requires c κs = search needs
-
 returns : tie.Need-returns
 returns c =
     let a : Masks → StartAnswer = λ m. record { outcome = Started; state = record { masks = m } } in
     ap a (c .settle .ensures)
 
 pub start-over-spec : {M : Type 1} → statement M
-start-over-spec = tie.close (tie.spec settle-requires returns)
+start-over-spec = tie.close (tie.spec (λ c κs. search needs) returns)

@@ -12,32 +12,11 @@ Inv-loop t r₀ lasts₀ i₀ r lasts i = (i ≤ 32) × Swept t r₀ i r lasts
 abbrev μ-loop : tie.MeasureT-loop
 μ-loop t r₀ lasts₀ i₀ r lasts i = 32 - i
 
-none-empty-requires : tie.Need-none-empty-requires Inv-loop μ-loop
-none-empty-requires c κs = search needs
-
 loop-holds : tie.Need-loop-holds Inv-loop μ-loop
 loop-holds c = (search needs, swept-first (c .before .before .before .before .pre) (c .none-empty .ensures))
 
-mul-was : tie.Need-mul-was Inv-loop μ-loop
-mul-was c = search needs
-
-element-copy-out-was : tie.Need-element-copy-out-was Inv-loop μ-loop
-element-copy-out-was c = search needs
-
 domain-left-requires : tie.Need-domain-left-requires Inv-loop μ-loop
 domain-left-requires c κs = let w = c .before .before .before .before .loop in let S = w .inv .1 in (S .ready, S .lasting, search needs)
-
-mul-r : tie.Need-mul-r Inv-loop μ-loop
-mul-r c = search needs
-
-element-write-r : tie.Need-element-write-r Inv-loop μ-loop
-element-write-r c = search needs
-
-add-i : tie.Need-add-i Inv-loop μ-loop
-add-i c = search needs
-
-loop-less : tie.Need-loop-less Inv-loop μ-loop
-loop-less c = search needs
 
 loop-again : tie.Need-loop-again Inv-loop μ-loop
 loop-again c = let w = c .before .before .before .before .before .loop in (omega arith, swept-next (w .inv .1) _ (omega arith) (c .domain-left .ensures))
@@ -51,14 +30,14 @@ sweep-spec =
     (tie.spec
     Inv-loop
     μ-loop
-    none-empty-requires
+    (λ c κs. search needs)
     loop-holds
-    mul-was
-    element-copy-out-was
+    (λ c. search needs)
+    (λ c. search needs)
     domain-left-requires
-    mul-r
-    element-write-r
-    add-i
-    loop-less
+    (λ c. search needs)
+    (λ c. search needs)
+    (λ c. search needs)
+    (λ c. search needs)
     loop-again
     returns)

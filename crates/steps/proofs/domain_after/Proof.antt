@@ -8,23 +8,8 @@ use borrow.Author.Needs.{needs}
 use Rattle.steps.proofs.domain_after.Statement.{statement}
 use Rattle.steps.proofs.domain_after.Tie as tie
 
-mul-domain : tie.Need-mul-domain
-mul-domain c = search needs
-
-element-copy-out-domain : tie.Need-element-copy-out-domain
-element-copy-out-domain c = search needs
-
 returns : tie.Need-returns
 returns c = domain-gone (c .before .before .before .pre .0) _ _ (c .if1 .taken)
-
-mul-own : tie.Need-mul-own
-mul-own c = search needs
-
-element-copy-out-own : tie.Need-element-copy-out-own
-element-copy-out-own c = search needs
-
-has32-requires : tie.Need-has32-requires
-has32-requires c κs = search needs
 
 returns-2 : tie.Need-returns-2
 returns-2 c =
@@ -46,12 +31,12 @@ pub domain-after-spec : {M : Type 1} → statement M
 domain-after-spec =
     tie.close
     (tie.spec
-    mul-domain
-    element-copy-out-domain
+    (λ c. search needs)
+    (λ c. search needs)
     returns
-    mul-own
-    element-copy-out-own
-    has32-requires
+    (λ c. search needs)
+    (λ c. search needs)
+    (λ c κs. search needs)
     returns-2
     partners-requires
     returns-3)

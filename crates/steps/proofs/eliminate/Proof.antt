@@ -19,29 +19,8 @@ Inv-loop t i m near r₀ other₀ r other = (other ≤ 32) × (r .active ≡ r�
 abbrev μ-loop : tie.MeasureT-loop
 μ-loop t i m near r₀ other₀ r other = 32 - other
 
-neighbours-requires : tie.Need-neighbours-requires Inv-loop μ-loop
-neighbours-requires c κs = search needs
-
-without32-requires : tie.Need-without32-requires Inv-loop μ-loop
-without32-requires c κs = search needs
-
 loop-holds : tie.Need-loop-holds Inv-loop μ-loop
 loop-holds c = (search needs, refl, sym (filled-none _ _))
-
-domain-after-requires : tie.Need-domain-after-requires Inv-loop μ-loop
-domain-after-requires c κs = search needs
-
-mul-r : tie.Need-mul-r Inv-loop μ-loop
-mul-r c = search needs
-
-element-write-r : tie.Need-element-write-r Inv-loop μ-loop
-element-write-r c = search needs
-
-add-other : tie.Need-add-other Inv-loop μ-loop
-add-other c = search needs
-
-loop-less : tie.Need-loop-less Inv-loop μ-loop
-loop-less c = search needs
 
 loop-again : tie.Need-loop-again Inv-loop μ-loop
 loop-again c =
@@ -61,4 +40,4 @@ returns c =
 
 pub eliminate-spec : {M : Type 1} → statement M
 eliminate-spec =
-    tie.close (tie.spec Inv-loop μ-loop neighbours-requires without32-requires loop-holds domain-after-requires mul-r element-write-r add-other loop-less loop-again returns)
+    tie.close (tie.spec Inv-loop μ-loop (λ c κs. search needs) (λ c κs. search needs) loop-holds (λ c κs. search needs) (λ c. search needs) (λ c. search needs) (λ c. search needs) (λ c. search needs) loop-again returns)

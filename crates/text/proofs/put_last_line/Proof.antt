@@ -7,15 +7,6 @@ use Rattle.fields.proofs.Laws.{after}
 use Rattle.text.proofs.put_last_line.Statement.{statement}
 use Rattle.text.proofs.put_last_line.Tie as tie
 
-put-end-word-requires : tie.Need-put-end-word-requires
-put-end-word-requires c κs = search needs
-
-put-three-end-requires : tie.Need-put-three-end-requires
-put-three-end-requires c κs = search needs
-
-same-length : tie.Need-same-length
-same-length c = search needs
-
 returns : tie.Need-returns
 returns c =
     let a = c .before .before .before .before .before .before .before .before .before .args in
@@ -26,4 +17,4 @@ returns c =
 
 pub put-last-line-spec : {M : Type 1} → statement M
 put-last-line-spec =
-    tie.close (tie.spec put-end-word-requires put-three-end-requires same-length returns)
+    tie.close (tie.spec (λ c κs. search needs) (λ c κs. search needs) (λ c. search needs) returns)

@@ -7,15 +7,6 @@ use Rattle.fields.proofs.Laws.{after}
 use Rattle.text.proofs.put_step.Statement.{statement}
 use Rattle.text.proofs.put_step.Tie as tie
 
-put-step-word-requires : tie.Need-put-step-word-requires
-put-step-word-requires c κs = search needs
-
-put-step-fields-requires : tie.Need-put-step-fields-requires
-put-step-fields-requires c κs = search needs
-
-same-length : tie.Need-same-length
-same-length c = search needs
-
 returns : tie.Need-returns
 returns c =
     let a = c .before .before .before .before .before .before .before .before .before .args in
@@ -26,4 +17,4 @@ returns c =
 
 pub put-step-spec : {M : Type 1} → statement M
 put-step-spec =
-    tie.close (tie.spec put-step-word-requires put-step-fields-requires same-length returns)
+    tie.close (tie.spec (λ c κs. search needs) (λ c κs. search needs) (λ c. search needs) returns)

@@ -7,21 +7,6 @@ use Rattle.fields.proofs.Laws.{after}
 use Rattle.text.proofs.put_step_line.Statement.{statement}
 use Rattle.text.proofs.put_step_line.Tie as tie
 
-put-decimal-requires : tie.Need-put-decimal-requires
-put-decimal-requires c κs = search needs
-
-put-byte-requires : tie.Need-put-byte-requires
-put-byte-requires c κs = search needs
-
-put-step-requires : tie.Need-put-step-requires
-put-step-requires c κs = search needs
-
-put-byte-requires-2 : tie.Need-put-byte-requires-2
-put-byte-requires-2 c κs = search needs
-
-same-length : tie.Need-same-length
-same-length c = search needs
-
 returns : tie.Need-returns
 returns c =
     let a = c .before .before .before .before .before .before .before .before .before .before .before .before .before .before .before .before .before .args in
@@ -38,9 +23,9 @@ pub put-step-line-spec : {M : Type 1} → statement M
 put-step-line-spec =
     tie.close
     (tie.spec
-    put-decimal-requires
-    put-byte-requires
-    put-step-requires
-    put-byte-requires-2
-    same-length
+    (λ c κs. search needs)
+    (λ c κs. search needs)
+    (λ c κs. search needs)
+    (λ c κs. search needs)
+    (λ c. search needs)
     returns)

@@ -8,12 +8,6 @@ use Rattle.triangle.proofs.Laws.{tried-triangle}
 use Rattle.triangle.proofs.triangle.Statement.{statement}
 use Rattle.triangle.proofs.triangle.Tie as tie
 
-has32-requires : tie.Need-has32-requires
-has32-requires c κs = search needs
-
-has32-requires-2 : tie.Need-has32-requires-2
-has32-requires-2 c κs = search needs
-
 triangle-rests-requires : tie.Need-triangle-rests-requires
 triangle-rests-requires c κs =
     let a = c .before .before .before .before .args in
@@ -29,4 +23,4 @@ unfolding triangle stateOf
 returns-2 c = sym (guard-left _ _ (c .before .before .has32 .ensures) (c .before .has322 .ensures) (c .if1 .left))
 
 pub triangle-spec : {M : Type 1} → statement M
-triangle-spec = tie.close (tie.spec has32-requires has32-requires-2 triangle-rests-requires returns returns-2)
+triangle-spec = tie.close (tie.spec (λ c κs. search needs) (λ c κs. search needs) triangle-rests-requires returns returns-2)

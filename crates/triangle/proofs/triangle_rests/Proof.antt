@@ -29,26 +29,8 @@ at-turn c =
     let k = left-highest 16 bit-without16 (S .left) (c .highest16 .ensures) in
     (k .0, domain-among (p .0) _ .live _ (S .left .part _ (k .1)), k .2)
 
-third-set-requires : tie.Need-third-set-requires Inv-loop μ-loop
-third-set-requires c κs = search needs
-
-mul-left : tie.Need-mul-left Inv-loop μ-loop
-mul-left c = search needs
-
-element-copy-out-left : tie.Need-element-copy-out-left Inv-loop μ-loop
-element-copy-out-left c = search needs
-
 loop-holds : tie.Need-loop-holds Inv-loop μ-loop
 loop-holds c = let p = c .before .before .before .pre in tried-first (p .0) _ _ (p .1) (p .2)
-
-highest16-requires : tie.Need-highest16-requires Inv-loop μ-loop
-highest16-requires c κs = search needs
-
-mul-row-among : tie.Need-mul-row-among Inv-loop μ-loop
-mul-row-among c = search needs
-
-element-copy-out-row-among : tie.Need-element-copy-out-row-among Inv-loop μ-loop
-element-copy-out-row-among c = search needs
 
 row-among-requires : tie.Need-row-among-requires Inv-loop μ-loop
 row-among-requires c κs =
@@ -94,13 +76,13 @@ pub triangle-rests-spec : {M : Type 1} → statement M
 triangle-rests-spec =
     tie.close
     (tie.spec Inv-loop μ-loop
-    third-set-requires
-    mul-left
-    element-copy-out-left
+    (λ c κs. search needs)
+    (λ c. search needs)
+    (λ c. search needs)
     loop-holds
-    highest16-requires
-    mul-row-among
-    element-copy-out-row-among
+    (λ c κs. search needs)
+    (λ c. search needs)
+    (λ c. search needs)
     row-among-requires
     serving-requires
     returns

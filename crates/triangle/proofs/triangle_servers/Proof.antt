@@ -7,12 +7,6 @@ use Rattle.triangle.proofs.Laws.{servers-mask}
 use Rattle.triangle.proofs.triangle_servers.Statement.{statement}
 use Rattle.triangle.proofs.triangle_servers.Tie as tie
 
-mul-row-among : tie.Need-mul-row-among
-mul-row-among c = search needs
-
-element-copy-out-row-among : tie.Need-element-copy-out-row-among
-element-copy-out-row-among c = search needs
-
 row-among-requires : tie.Need-row-among-requires
 row-among-requires c κs =
     let p = c .before .before .pre in
@@ -34,4 +28,4 @@ returns c =
     rw (c .serving .ensures .0, c .before .third-set .ensures, c .before .before .row-among .ensures) (servers-mask (p .0) _ _ (p .2) (p .1 .variable) _)
 
 pub triangle-servers-spec : {M : Type 1} → statement M
-triangle-servers-spec = tie.close (tie.spec mul-row-among element-copy-out-row-among row-among-requires third-set-requires serving-requires returns)
+triangle-servers-spec = tie.close (tie.spec (λ c. search needs) (λ c. search needs) row-among-requires third-set-requires serving-requires returns)

@@ -8,19 +8,13 @@ use borrow.Author.Needs.{needs}
 use Rattle.undo.proofs.mended.Statement.{statement}
 use Rattle.undo.proofs.mended.Tie as tie
 
-has32-requires : tie.Need-has32-requires
-has32-requires c κs = search needs
-
 mended-other-requires : tie.Need-mended-other-requires
 unfolding stateOf
 mended-other-requires c κs = let p = c .before .before .before .pre in let a = c .before .before .before .args in let x = other-active (c .before .has32 .result) (a .j) (a .i) (c .if1 .taken) in let h = sym (c .before .has32 .ensures) ∙ x .0 in (p .0, (p .1 .0, (live-value (p .0) (a .j) (a .w) (p .1 .1 .1 (T-of h) (x .1)), (h, x .1))))
-
-returns : tie.Need-returns
-returns c = search needs
 
 returns-2 : tie.Need-returns-2
 unfolding stateOf
 returns-2 c = mended-out _ _ _ _ _ _ (c .before .has32 .ensures) (c .if1 .left)
 
 pub mended-spec : {M : Type 1} → statement M
-mended-spec = tie.close (tie.spec has32-requires mended-other-requires returns returns-2)
+mended-spec = tie.close (tie.spec (λ c κs. search needs) mended-other-requires (λ c. search needs) returns-2)

@@ -26,20 +26,8 @@ abbrev μ-loop : tie.MeasureT-loop
 loop-holds : tie.Need-loop-holds Inv-loop μ-loop
 loop-holds c = (omega arith, refl, sym (filled-none _ _))
 
-slice-read-mended : tie.Need-slice-read-mended Inv-loop μ-loop
-slice-read-mended c = search needs
-
 mended-requires : tie.Need-mended-requires Inv-loop μ-loop
 mended-requires c κs = let l = c .before .before .loop in let a = c .before .before .before .before .before .args in let f : ℕ → ℕ = λ k. mended (held (a .t .now)) (stateOf (sets (a .active) (a .on .now))) (a .i) (a .v) k (planOf (a .out .now) k) in let lt : l .j < length (a .out .now) = omega arith in let e : getD (l .out) (l .j) 0 ≡ getD (a .out .now) (l .j) 0 = ap (λ (z : List ℕ). getD z (l .j) 0) (l .inv .2) ∙ filled-here (l .j) f (a .out .now) lt in let p = c .before .before .before .before .before .pre in let few = held-few (a .t .now) in let n = p .1 .1 .long in (p .0, (p .1 .0, (omega arith, λ h d. subst (λ (x : ℕ). T ((stateOf (sets (a .active) (a .on .now))) .live (l .j) x)) (sym e) (p .1 .1 .live (l .j) h d))))
-
-slice-write-out : tie.Need-slice-write-out Inv-loop μ-loop
-slice-write-out c = search needs
-
-add-j : tie.Need-add-j Inv-loop μ-loop
-add-j c = search needs
-
-loop-less : tie.Need-loop-less Inv-loop μ-loop
-loop-less c = search needs
 
 loop-again : tie.Need-loop-again Inv-loop μ-loop
 loop-again c = let l = c .before .before .before .loop in let a = c .before .before .before .before .before .before .args in let f : ℕ → ℕ = λ k. mended (held (a .t .now)) (stateOf (sets (a .active) (a .on .now))) (a .i) (a .v) k (planOf (a .out .now) k) in let lt : l .j < length (a .out .now) = omega arith in let e : getD (l .out) (l .j) 0 ≡ getD (a .out .now) (l .j) 0 = ap (λ (z : List ℕ). getD z (l .j) 0) (l .inv .2) ∙ filled-here (l .j) f (a .out .now) lt in (omega arith, simp length-set (l .inv .1), ap (λ (x : ℕ). set (l .out) (l .j) x) (c .mended .ensures ∙ ap (λ (w : ℕ). mended (held (a .t .now)) (stateOf (sets (a .active) (a .on .now))) (a .i) (a .v) (l .j) w) e) ∙ ap (λ (z : List ℕ). set z (l .j) (f (l .j))) (l .inv .2) ∙ filled-more (l .j) f (a .out .now) lt)
@@ -57,11 +45,11 @@ repair-spec =
     Inv-loop
     μ-loop
     loop-holds
-    slice-read-mended
+    (λ c. search needs)
     mended-requires
-    slice-write-out
-    add-j
-    loop-less
+    (λ c. search needs)
+    (λ c. search needs)
+    (λ c. search needs)
     loop-again
     same-length
     returns)

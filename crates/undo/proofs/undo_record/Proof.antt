@@ -8,39 +8,18 @@ use borrow.Author.Needs.{needs}
 use Rattle.undo.proofs.undo_record.Statement.{statement}
 use Rattle.undo.proofs.undo_record.Tie as tie
 
-enum-told : tie.Need-enum-told
-enum-told c = search needs
-
-enum-known-r : tie.Need-enum-known-r
-enum-known-r c = search needs
-
 undo-snake-requires : tie.Need-undo-snake-requires
 undo-snake-requires c κs = let p = c .before .before .before .before .before .before .before .before .pre in let a = c .before .before .before .before .before .before .before .before .args in (p .0, subst (λ (x : Record). Undoable (a .t .now) (a .t2) x (a .out .now)) (c .before .before .before .before .r .given .1) (p .1))
 
-enum-known-r-2 : tie.Need-enum-known-r-2
-enum-known-r-2 c = search needs
-
 undo-triangle-requires : tie.Need-undo-triangle-requires
 undo-triangle-requires c κs = let p = c .before .before .before .before .before .before .before .before .pre in let a = c .before .before .before .before .before .before .before .before .args in (p .0, subst (λ (x : Record). Undoable (a .t .now) (a .t2) x (a .out .now)) (c .before .before .before .before .r2 .given .1) (p .1))
-
-enum-told-2 : tie.Need-enum-told-2
-enum-told-2 c = search needs
-
-enum-told-3 : tie.Need-enum-told-3
-enum-told-3 c = search needs
 
 returns : tie.Need-returns
 unfolding undo
 returns c = rw (c .enum-told .given .1) (tab-back _ _ (c .before .before .before .before .pre .1 .long))
 
-same-length : tie.Need-same-length
-same-length c = search needs
-
 returns-2 : tie.Need-returns-2
 returns-2 c = rw (c .before .before .before .before .before .before .before .r .given .1) (c .before .before .undo-snake .ensures)
-
-same-length-2 : tie.Need-same-length-2
-same-length-2 c = search needs
 
 returns-3 : tie.Need-returns-3
 returns-3 c = rw (c .before .before .before .before .before .before .before .r2 .given .1) (c .before .before .undo-triangle .ensures)
@@ -57,17 +36,17 @@ pub undo-record-spec : {M : Type 1} → statement M
 undo-record-spec =
     tie.close
     (tie.spec
-    enum-told
-    enum-known-r
+    (λ c. search needs)
+    (λ c. search needs)
     undo-snake-requires
-    enum-known-r-2
+    (λ c. search needs)
     undo-triangle-requires
-    enum-told-2
-    enum-told-3
+    (λ c. search needs)
+    (λ c. search needs)
     returns
-    same-length
+    (λ c. search needs)
     returns-2
-    same-length-2
+    (λ c. search needs)
     returns-3
     returns-4
     returns-5)

@@ -20,11 +20,8 @@ cast-out c = let a = c .before .before .before .before .before .before .args in 
 slice-write-out : tie.Need-slice-write-out
 slice-write-out c = let a = c .before .before .before .before .before .before .args in let p = c .before .before .before .before .before .before .pre in let F = p .0 .fits in let h = lawful-iff (held (a .t .now)) (stateOf (sets (a .active) (a .on .now))) (Snake (a .i) (a .v)) .0 (p .1 .lawfully) .1 in let o = snake-live F (a .i) (a .v) h in let y = live-value (p .0) (a .i) (a .v) o in let n = F .active-lt (a .i) (F .live-active (a .i) (a .v) o) in let e = p .1 .long in omega arith
 
-same-length : tie.Need-same-length
-same-length c = search needs
-
 returns : tie.Need-returns
 returns c = let a = c .before .before .before .before .before .before .args in let p = c .before .before .before .before .before .before .pre in let F = p .0 .fits in let h = lawful-iff (held (a .t .now)) (stateOf (sets (a .active) (a .on .now))) (Snake (a .i) (a .v)) .0 (p .1 .lawfully) .1 in let o = snake-live F (a .i) (a .v) h in let y = live-value (p .0) (a .i) (a .v) o in let n = F .active-lt (a .i) (F .live-active (a .i) (a .v) o) in snake-store (held (a .t .now)) (stateOf (sets (a .active) (a .on .now))) (a .i) (a .v) (a .out .now) _ n (c .before .before .repair .ensures)
 
 pub undo-snake-spec : {M : Type 1} → statement M
-undo-snake-spec = tie.close (tie.spec repair-requires cast-out slice-write-out same-length returns)
+undo-snake-spec = tie.close (tie.spec repair-requires cast-out slice-write-out (λ c. search needs) returns)

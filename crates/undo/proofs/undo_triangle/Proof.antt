@@ -26,9 +26,6 @@ cast-out c = let h = c .lowest-triangle .ensures .below in omega arith
 slice-write-out : tie.Need-slice-write-out
 slice-write-out c = let a = c .before .before .before .before .args in let p = c .before .before .before .before .pre in let F = p .0 .fits in let x = triangle-left F (a .i) (a .j) (planOf (a .out .now)) (lawful-iff (held (a .t .now)) (stateOf (sets (a .active) (a .on .now))) (Triangle (a .i) (a .j)) .0 (p .1 .lawfully) .1) (p .1 .solved) in let e = p .1 .long in let n = F .active-lt (a .i) (x .1 .0) in omega arith
 
-same-length : tie.Need-same-length
-same-length c = search needs
-
 returns : tie.Need-returns
 returns c = let a = c .before .before .before .before .args in let p = c .before .before .before .before .pre in let F = p .0 .fits in let x = triangle-left F (a .i) (a .j) (planOf (a .out .now)) (lawful-iff (held (a .t .now)) (stateOf (sets (a .active) (a .on .now))) (Triangle (a .i) (a .j)) .0 (p .1 .lawfully) .1) (p .1 .solved) in let e = p .1 .long in let n = F .active-lt (a .i) (x .1 .0) in triangle-store (held (a .t .now)) (stateOf (sets (a .active) (a .on .now))) (a .i) (a .j) _ (a .out .now) e n (c .lowest-triangle .ensures .is)
 
@@ -41,5 +38,5 @@ undo-triangle-spec =
     lowest-triangle-requires
     cast-out
     slice-write-out
-    same-length
+    (λ c. search needs)
     returns)

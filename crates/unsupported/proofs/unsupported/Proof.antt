@@ -8,18 +8,6 @@ use borrow.Author.Needs.{needs}
 use Rattle.unsupported.proofs.unsupported.Statement.{statement}
 use Rattle.unsupported.proofs.unsupported.Tie as tie
 
-mul-has16 : tie.Need-mul-has16
-mul-has16 c = search needs
-
-element-copy-out-has16 : tie.Need-element-copy-out-has16
-element-copy-out-has16 c = search needs
-
-has16-requires : tie.Need-has16-requires
-has16-requires c κs = search needs
-
-has32-requires : tie.Need-has32-requires
-has32-requires c κs = search needs
-
 unsupported-at-requires : tie.Need-unsupported-at-requires
 unsupported-at-requires c κs =
     let p = c .before .before .before .before .before .pre in
@@ -38,10 +26,10 @@ pub unsupported-spec : {M : Type 1} → statement M
 unsupported-spec =
     tie.close
     (tie.spec
-    mul-has16
-    element-copy-out-has16
-    has16-requires
-    has32-requires
+    (λ c. search needs)
+    (λ c. search needs)
+    (λ c κs. search needs)
+    (λ c κs. search needs)
     unsupported-at-requires
     returns
     returns-2)

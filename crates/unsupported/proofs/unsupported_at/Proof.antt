@@ -5,12 +5,6 @@ use borrow.Author.Needs.{needs}
 use Rattle.unsupported.proofs.unsupported_at.Statement.{statement}
 use Rattle.unsupported.proofs.unsupported_at.Tie as tie
 
-mul-row-among : tie.Need-mul-row-among
-mul-row-among c = search needs
-
-element-copy-out-row-among : tie.Need-element-copy-out-row-among
-element-copy-out-row-among c = search needs
-
 row-among-requires : tie.Need-row-among-requires
 row-among-requires c κs = let p = c .before .before .pre in (p .0 .table, domain-values (p .0) _ (p .2), p .1, p .2, p .3)
 
@@ -20,4 +14,4 @@ returns c =
     rw (c .row-among .ensures) (unsupported-word (p .0) _ _ _ (p .2))
 
 pub unsupported-at-spec : {M : Type 1} → statement M
-unsupported-at-spec = tie.close (tie.spec mul-row-among element-copy-out-row-among row-among-requires returns)
+unsupported-at-spec = tie.close (tie.spec (λ c. search needs) (λ c. search needs) row-among-requires returns)

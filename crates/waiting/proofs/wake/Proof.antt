@@ -13,47 +13,8 @@ Inv-loop pending₀ waiting₀ l from row₀ pending waiting row = (row ≤ rows
 abbrev μ-loop : tie.MeasureT-loop
 μ-loop pending₀ waiting₀ l from row₀ pending waiting row = rows - row
 
-mul-from : tie.Need-mul-from Inv-loop μ-loop
-mul-from c = search needs
-
 loop-holds : tie.Need-loop-holds Inv-loop μ-loop
 loop-holds c = (omega arith, waking-none _ _ _ (c .pre .1) (c .pre .2))
-
-mul-pending : tie.Need-mul-pending Inv-loop μ-loop
-mul-pending c = search needs
-
-element-copy-out-pending : tie.Need-element-copy-out-pending Inv-loop μ-loop
-element-copy-out-pending c = search needs
-
-add-pending : tie.Need-add-pending Inv-loop μ-loop
-add-pending c = search needs
-
-mul-pending-2 : tie.Need-mul-pending-2 Inv-loop μ-loop
-mul-pending-2 c = search needs
-
-element-copy-out-pending-2 : tie.Need-element-copy-out-pending-2 Inv-loop μ-loop
-element-copy-out-pending-2 c = search needs
-
-mul-pending-3 : tie.Need-mul-pending-3 Inv-loop μ-loop
-mul-pending-3 c = search needs
-
-element-write-pending : tie.Need-element-write-pending Inv-loop μ-loop
-element-write-pending c = search needs
-
-add-waiting : tie.Need-add-waiting Inv-loop μ-loop
-add-waiting c = search needs
-
-mul-waiting : tie.Need-mul-waiting Inv-loop μ-loop
-mul-waiting c = search needs
-
-element-write-waiting : tie.Need-element-write-waiting Inv-loop μ-loop
-element-write-waiting c = search needs
-
-add-row : tie.Need-add-row Inv-loop μ-loop
-add-row c = search needs
-
-loop-less : tie.Need-loop-less Inv-loop μ-loop
-loop-less c = search needs
 
 loop-again : tie.Need-loop-again Inv-loop μ-loop
 loop-again c =
@@ -69,19 +30,19 @@ wake-spec =
     (tie.spec
     Inv-loop
     μ-loop
-    mul-from
+    (λ c. search needs)
     loop-holds
-    mul-pending
-    element-copy-out-pending
-    add-pending
-    mul-pending-2
-    element-copy-out-pending-2
-    mul-pending-3
-    element-write-pending
-    add-waiting
-    mul-waiting
-    element-write-waiting
-    add-row
-    loop-less
+    (λ c. search needs)
+    (λ c. search needs)
+    (λ c. search needs)
+    (λ c. search needs)
+    (λ c. search needs)
+    (λ c. search needs)
+    (λ c. search needs)
+    (λ c. search needs)
+    (λ c. search needs)
+    (λ c. search needs)
+    (λ c. search needs)
+    (λ c. search needs)
     loop-again
     returns)

@@ -12,59 +12,8 @@ Inv-loop pending₀ waiting l c row from i₀ pending i = (i ≤ 32) × Triangle
 abbrev μ-loop : tie.MeasureT-loop
 μ-loop pending₀ waiting l c row from i₀ pending i = 32 - i
 
-add-row : tie.Need-add-row Inv-loop μ-loop
-add-row c = search needs
-
-mul-row : tie.Need-mul-row Inv-loop μ-loop
-mul-row c = search needs
-
-mul-from : tie.Need-mul-from Inv-loop μ-loop
-mul-from c = search needs
-
-add-from : tie.Need-add-from Inv-loop μ-loop
-add-from c = search needs
-
 loop-holds : tie.Need-loop-holds Inv-loop μ-loop
 loop-holds c = (omega arith, triangles-waking-none _ _ _ _ (c .pre .2))
-
-add-pending : tie.Need-add-pending Inv-loop μ-loop
-add-pending c = search needs
-
-mul-pending : tie.Need-mul-pending Inv-loop μ-loop
-mul-pending c = search needs
-
-element-copy-out-pending : tie.Need-element-copy-out-pending Inv-loop μ-loop
-element-copy-out-pending c = search needs
-
-add-weight : tie.Need-add-weight Inv-loop μ-loop
-add-weight c = search needs
-
-mul-weight : tie.Need-mul-weight Inv-loop μ-loop
-mul-weight c = search needs
-
-element-copy-out-weight : tie.Need-element-copy-out-weight Inv-loop μ-loop
-element-copy-out-weight c = search needs
-
-cast-weight : tie.Need-cast-weight Inv-loop μ-loop
-cast-weight c = search needs
-
-weight-requires : tie.Need-weight-requires Inv-loop μ-loop
-weight-requires c κs = search needs
-
-add-pending-2 : tie.Need-add-pending-2 Inv-loop μ-loop
-add-pending-2 c = search needs
-
-mul-pending-2 : tie.Need-mul-pending-2 Inv-loop μ-loop
-mul-pending-2 c = search needs
-
-element-write-pending : tie.Need-element-write-pending Inv-loop μ-loop
-element-write-pending c = search needs
-
-add-i : tie.Need-add-i Inv-loop μ-loop
-add-i c = search needs
-
-loop-less : tie.Need-loop-less Inv-loop μ-loop
-loop-less c = search needs
 
 loop-again : tie.Need-loop-again Inv-loop μ-loop
 loop-again c =
@@ -80,23 +29,23 @@ wake-triangles-spec =
     (tie.spec
     Inv-loop
     μ-loop
-    add-row
-    mul-row
-    mul-from
-    add-from
+    (λ c. search needs)
+    (λ c. search needs)
+    (λ c. search needs)
+    (λ c. search needs)
     loop-holds
-    add-pending
-    mul-pending
-    element-copy-out-pending
-    add-weight
-    mul-weight
-    element-copy-out-weight
-    cast-weight
-    weight-requires
-    add-pending-2
-    mul-pending-2
-    element-write-pending
-    add-i
-    loop-less
+    (λ c. search needs)
+    (λ c. search needs)
+    (λ c. search needs)
+    (λ c. search needs)
+    (λ c. search needs)
+    (λ c. search needs)
+    (λ c. search needs)
+    (λ c κs. search needs)
+    (λ c. search needs)
+    (λ c. search needs)
+    (λ c. search needs)
+    (λ c. search needs)
+    (λ c. search needs)
     loop-again
     returns)

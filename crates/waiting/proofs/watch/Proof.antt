@@ -18,9 +18,6 @@ abbrev μ-loop : tie.MeasureT-loop
 loop-holds : tie.Need-loop-holds Inv-loop μ-loop
 loop-holds c = watching-none _ _ _ _ (search needs) (c .pre .2)
 
-lowest32-requires : tie.Need-lowest32-requires Inv-loop μ-loop
-lowest32-requires c κs = search needs
-
 -- the variable of a turn: one that is left
 at-turn : (c : tie.After-lowest32 Inv-loop μ-loop) → let l = c .lowest32 .result in let left = c .before .before .loop .left in (l < 32) × T (bit left l) × (without 32 left l < left)
 at-turn c = left-lowest 32 bit-without32 (c .before .before .loop .inv .part) (c .before .loop-test .taken) (c .lowest32 .ensures)
@@ -36,9 +33,6 @@ mul-with16 c = let l = at-turn c .0 in search needs
 
 element-copy-out-with16 : tie.Need-element-copy-out-with16 Inv-loop μ-loop
 element-copy-out-with16 c = let l = at-turn c .0 in search needs
-
-with16-requires : tie.Need-with16-requires Inv-loop μ-loop
-with16-requires c κs = search needs
 
 mul-waiting : tie.Need-mul-waiting Inv-loop μ-loop
 mul-waiting c = let l = at-turn (c .before .before) .0 in search needs
@@ -68,12 +62,12 @@ watch-spec =
     Inv-loop
     μ-loop
     loop-holds
-    lowest32-requires
+    (λ c κs. search needs)
     mul-at
     add-at
     mul-with16
     element-copy-out-with16
-    with16-requires
+    (λ c κs. search needs)
     mul-waiting
     element-write-waiting
     without32-requires

@@ -5,32 +5,17 @@ use Rattle.waiting_search.specs.Known.{Mendable}
 use Rattle.waiting_search.proofs.mend.Statement.{statement}
 use Rattle.waiting_search.proofs.mend.Tie as tie
 
-enum-known-r : tie.Need-enum-known-r
-enum-known-r c = search needs
-
 remove-known-requires : tie.Need-remove-known-requires
 remove-known-requires c κs = let q = c .before .before .before .before .before .before .before .pre in let w = subst (Mendable _ _) (c .before .before .before .before .r .given .1) (q .1) in (q .0, w .0, w .1, q .2, q .3, q .4)
-
-enum-known-r-2 : tie.Need-enum-known-r-2
-enum-known-r-2 c = search needs
 
 wake-requires : tie.Need-wake-requires
 wake-requires c κs = let q = c .before .before .before .before .before .before .pre in let w = subst (Mendable _ _) (c .before .before .before .r2 .given .1) (q .1) in (w, q .3, q .4)
 
-enum-known-r-3 : tie.Need-enum-known-r-3
-enum-known-r-3 c = search needs
-
 wake-requires-2 : tie.Need-wake-requires-2
 wake-requires-2 c κs = let q = c .before .before .before .before .before .before .pre in let w = subst (Mendable _ _) (c .before .before .before .r3 .given .1) (q .1) in (w, q .3, q .4)
 
-enum-known-r-4 : tie.Need-enum-known-r-4
-enum-known-r-4 c = search needs
-
 wake-value-requires : tie.Need-wake-value-requires
 wake-value-requires c κs = let q = c .before .before .before .before .before .before .pre in let w = subst (Mendable _ _) (c .before .before .before .r4 .given .1) (q .1) in (w .0 .variable, w .0 .value, q .3, q .4)
-
-enum-known-r-5 : tie.Need-enum-known-r-5
-enum-known-r-5 c = search needs
 
 remove-known-requires-2 : tie.Need-remove-known-requires-2
 remove-known-requires-2 c κs = let q = c .before .before .before .before .before .before .before .pre in let w = subst (Mendable _ _) (c .before .before .before .before .r5 .given .1) (q .1) in (q .0, w .0, w .1, q .2, q .3, q .4)
@@ -54,15 +39,15 @@ pub mend-spec : {M : Type 1} → statement M
 mend-spec =
     tie.close
     (tie.spec
-    enum-known-r
+    (λ c. search needs)
     remove-known-requires
-    enum-known-r-2
+    (λ c. search needs)
     wake-requires
-    enum-known-r-3
+    (λ c. search needs)
     wake-requires-2
-    enum-known-r-4
+    (λ c. search needs)
     wake-value-requires
-    enum-known-r-5
+    (λ c. search needs)
     remove-known-requires-2
     returns
     returns-2

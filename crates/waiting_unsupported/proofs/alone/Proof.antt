@@ -18,12 +18,6 @@ low c =
     let x = lowest-member 16 (c .before .before .before .before .args .domain) (p .2 .small) (p .3) in
     (omega (arith, x .0, c .lowest16 .ensures), subst (λ (z : ℕ). T (bit (c .before .before .before .before .args .domain) z)) (sym (c .lowest16 .ensures)) (x .1))
 
-rows-at-requires : tie.Need-rows-at-requires
-rows-at-requires c κs = search needs
-
-lowest16-requires : tie.Need-lowest16-requires
-lowest16-requires c κs = search needs
-
 add-rest : tie.Need-add-rest
 add-rest c = let l = low c .0 in search needs
 
@@ -32,18 +26,6 @@ mul-rest c = let l = low c .0 in search needs
 
 shared-slice-read-rest : tie.Need-shared-slice-read-rest
 shared-slice-read-rest c = let l = low (c .before) .0 in search needs
-
-highest16-requires : tie.Need-highest16-requires
-highest16-requires c κs = search needs
-
-add-rest-2 : tie.Need-add-rest-2
-add-rest-2 c = search needs
-
-mul-rest-2 : tie.Need-mul-rest-2
-mul-rest-2 c = search needs
-
-shared-slice-read-rest-2 : tie.Need-shared-slice-read-rest-2
-shared-slice-read-rest-2 c = search needs
 
 returns-2 : tie.Need-returns-2
 returns-2 c =
@@ -65,15 +47,15 @@ alone-spec =
     tie.close
     (tie.spec
     (λ c. alone-nothing _ _ _ (c .if1 .taken))
-    rows-at-requires
-    lowest16-requires
+    (λ c κs. search needs)
+    (λ c κs. search needs)
     add-rest
     mul-rest
     shared-slice-read-rest
-    highest16-requires
-    add-rest-2
-    mul-rest-2
-    shared-slice-read-rest-2
+    (λ c κs. search needs)
+    (λ c. search needs)
+    (λ c. search needs)
+    (λ c. search needs)
     returns-2
     all-alone-requires
     returns-3)

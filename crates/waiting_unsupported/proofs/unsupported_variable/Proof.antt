@@ -11,17 +11,8 @@ mul-known c = let long = c .before .pre .1 .long in search needs
 element-copy-out-known : tie.Need-element-copy-out-known
 element-copy-out-known c = let long = c .before .pre .1 .long in search needs
 
-mul-known-2 : tie.Need-mul-known-2
-mul-known-2 c = search needs
-
-element-copy-out-known-2 : tie.Need-element-copy-out-known-2
-element-copy-out-known-2 c = search needs
-
 returns : tie.Need-returns
 returns c = let p = c .before .before .before .before .pre in sym (known-none (p .0) _ (p .2) _ (p .1) (p .3) (c .if1 .taken))
-
-lowest16-requires : tie.Need-lowest16-requires
-lowest16-requires c κs = search needs
 
 unsupported-value-requires : tie.Need-unsupported-value-requires
 unsupported-value-requires c κs =
@@ -39,9 +30,9 @@ unsupported-variable-spec =
     (tie.spec
     mul-known
     element-copy-out-known
-    mul-known-2
-    element-copy-out-known-2
+    (λ c. search needs)
+    (λ c. search needs)
     returns
-    lowest16-requires
+    (λ c κs. search needs)
     unsupported-value-requires
     returns-2)
