@@ -54,7 +54,7 @@ fn do_work(fields: &[u8]) {
 
 // The run of a sheet with a trace's buffer.
 fn run_part(s: &[u8], b: &mut [u8]) {
-    let a = reduce::reduce(s, b);
+    let a = waiting_run::run_sheet(s, b);
     show_run(a, b);
 }
 

@@ -13,7 +13,7 @@ use Rattle.bounded.specs.Mask.{bit}
 use Rattle.bounded.proofs.Truth.{T-true, T-of, T-not, T-ext, and-iff, or-iff, eqb-iff, ltb-iff, lt-dec, split, both, neither, clash}
 use Rattle.problem.specs.Problem.{Problem, full}
 use Rattle.problem.specs.Held.{Bounded}
-use Rattle.problem.specs.Extend.{solvesWhole}
+use Rattle.problem.specs.PutBack.{solvesWhole}
 use Rattle.problem.proofs.Sound.{solvesWhole-iff}
 use Rattle.problem.specs.Sentences.{Solution}
 use Rattle.sheet.specs.Sheet.{layout, versionOf, Keeps}

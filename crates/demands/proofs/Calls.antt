@@ -10,8 +10,8 @@ use lib.ListN.{length, take, replicate, length-replicate}
 use lib.Seq.{take-append-seam}
 use Rattle.problem.specs.Problem.{Problem, State, full, sizeSum}
 use Rattle.problem.specs.Masks.{stateOf}
-use Rattle.problem.specs.Reduce.{run, afterTrace, endOf}
-use Rattle.problem.specs.Extend.{solvesWhole, planOf}
+use Rattle.problem.specs.Run.{run, afterTrace, endOf}
+use Rattle.problem.specs.PutBack.{solvesWhole, planOf}
 use Rattle.problem.specs.declared.End.{End}
 use Rattle.problem.specs.declared.End.the-variants as end·
 use Rattle.problem.specs.declared.Record.{Record}

@@ -6,7 +6,7 @@ use mathlib.Core.Logic.{_↔_, _≢_}
 use Prim.Native.Nat.{ℕ, _+_, _*_, _%_, _≤_}
 use lib.ListN.{length}
 use Rattle.problem.specs.Problem.{sizeSum}
-use Rattle.problem.specs.Reduce.{endOf}
+use Rattle.problem.specs.Run.{endOf}
 use Rattle.problem.specs.Sentences.{EndSays}
 use Rattle.problem.specs.Masks.{masksOf, Proper}
 use Rattle.sheet.specs.Sheet.{layout, readSheet, Keeps}

@@ -6,8 +6,8 @@ use Prim.Native.Nat.{ℕ, _+_, _*_, _≤_}
 use lib.Dec.{T}
 use lib.ListN.{length}
 use Rattle.problem.specs.Problem.{sizeSum}
-use Rattle.problem.specs.Reduce.{lawful, lawfulTrace, after, afterTrace}
-use Rattle.problem.specs.Extend.{solvesWhole, planOf}
+use Rattle.problem.specs.Run.{lawful, lawfulTrace, after, afterTrace}
+use Rattle.problem.specs.PutBack.{solvesWhole, planOf}
 use Rattle.problem.specs.Masks.{stateOf}
 use Rattle.problem.specs.Sentences.{Solvable, NoneEmpty}
 use Rattle.problem.specs.Causes.{SomeEmpty}

@@ -5,7 +5,7 @@ use mathlib.Core.List.{List}
 use Prim.Native.Nat.{ℕ}
 use lib.Dec.{T}
 use lib.ListN.{length}
-use Rattle.problem.specs.Manual.{arcConsistent, finished}
+use Rattle.problem.specs.Hand.{arcConsistent, finished}
 use Rattle.problem.specs.Masks.{Proper}
 use Rattle.problem.specs.Sentences.{Active, Alike}
 use Rattle.sheet.specs.Sheet.{layout, Keeps}

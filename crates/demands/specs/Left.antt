@@ -2,7 +2,7 @@
 use mathlib.Core.List.{List}
 use Prim.Native.Nat.{ℕ}
 use Rattle.problem.specs.Problem.{Problem, State, full}
-use Rattle.problem.specs.Reduce.{run, afterTrace}
+use Rattle.problem.specs.Run.{run, afterTrace}
 use Rattle.problem.specs.declared.Record.{Record}
 use Rattle.sheet.specs.Sheet.{layout}
 use Rattle.sheet.specs.Relation.{problemOf}

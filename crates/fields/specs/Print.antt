@@ -6,7 +6,7 @@ use lib.Dec.{ltb}
 use lib.ListN.{take, length}
 use Rattle.bounded.specs.Bounded.{countBelow}
 use Rattle.problem.specs.Problem.{Problem, State, full, sizeSum, liveCount}
-use Rattle.problem.specs.Reduce.{run, afterTrace, endOf}
+use Rattle.problem.specs.Run.{run, afterTrace, endOf}
 use Rattle.problem.specs.Record.{fieldsOf}
 use Rattle.problem.specs.declared.Record.{Record}
 use Rattle.problem.specs.declared.Record.the-variants.{Unsupported, Snake, Triangle, Neighbourhood, SnakeSubstitution}

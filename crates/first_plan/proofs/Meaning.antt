@@ -11,7 +11,7 @@ use lib.ListN.{length, set, length-set}
 use lib.Seq.{getD-set-same, getD-set-other}
 use Rattle.bounded.proofs.Truth.{T-true, T-of, clash, eq-dec, lt-dec}
 use Rattle.problem.specs.Problem.{Problem, State}
-use Rattle.problem.specs.Extend.{solves, planOf}
+use Rattle.problem.specs.PutBack.{solves, planOf}
 use Rattle.problem.specs.Sentences.{Active, Fits, Solution, Solvable}
 use Rattle.problem.proofs.Sound.{solves-iff}
 use Rattle.first_plan.specs.First.{none, orElse, firstOf, firstFrom, firstPlan, NotAfter}

@@ -9,7 +9,7 @@ use lib.ListN.{length, set, length-set}
 use lib.Seq.{getD-set-same, getD-set-other}
 use Rattle.bounded.proofs.Truth.{T-true, T-false, T-not, T-ext, and-iff, not-iff, eqb-iff, eq-dec}
 use Rattle.problem.specs.Problem.{Problem, State, remove}
-use Rattle.problem.specs.Extend.{solves, planOf}
+use Rattle.problem.specs.PutBack.{solves, planOf}
 use Rattle.problem.proofs.Reflect.{turn, remove-live, remove-fits}
 use Rattle.problem.specs.Sentences.{Active, Live, Allowed, Fits, Solution}
 use Rattle.problem.proofs.Sound.{solves-iff, remove-undone}

@@ -4,7 +4,7 @@ use mathlib.Core.List.{List, [], _∷_}
 use Prim.Native.Nat.{ℕ}
 use Rattle.bounded.specs.Bounded as bounded
 use Rattle.problem.specs.Problem.{Problem, bothWays, full, eliminate, anyLive, allActive, allOther}
-use Rattle.problem.specs.Extend.{solves}
+use Rattle.problem.specs.PutBack.{solves}
 use Rattle.problem.specs.Samples.{problem, unequal}
 use Rattle.first_plan.specs.First.{found, none, orElse, firstOf, firstFrom, firstPlan}
 

@@ -9,7 +9,7 @@ use Prim.Native.Nat.{ℕ, zero, suc, _<_}
 use lib.Dec.{T}
 use lib.ListN.{set}
 use Rattle.problem.specs.Problem.{Problem, State}
-use Rattle.problem.specs.Extend.{solves, planOf}
+use Rattle.problem.specs.PutBack.{solves, planOf}
 use Rattle.first_plan.specs.declared.Found.{Found}
 
 -- the plan w is found; or there is none, and w is left as it was

@@ -20,7 +20,7 @@ use lib.Dec.{ltb}
 use Rattle.bounded.proofs.Truth.{T-of, eq-dec}
 use Rattle.bounded.proofs.Bounded.{any-iff, lowest-is}
 use Rattle.problem.specs.Problem.{Problem, State, stateFits, noneEmpty, anyLive, lowestLive, snake}
-use Rattle.problem.specs.Manual.{call}
+use Rattle.problem.specs.Hand.{call}
 use Rattle.problem.specs.Held.{Bounded}
 use Rattle.problem.proofs.OneCall.{call-misfit, call-item, call-emptied, call-none, call-done}
 use Rattle.problem.specs.declared.Call.{Call}

@@ -9,7 +9,7 @@ use native.Mathlib.Omega.{arith}
 use lib.Dec.{T, eqb}
 use Rattle.bounded.proofs.Causes.{cause-iff, number-iff}
 use Rattle.problem.specs.Problem.{Problem, State, snake}
-use Rattle.problem.specs.Manual.{call}
+use Rattle.problem.specs.Hand.{call}
 use Rattle.problem.specs.Masks.{Proper}
 use Rattle.problem.specs.declared.Call.{Call}
 use Rattle.problem.specs.declared.Call.the-variants as outcome

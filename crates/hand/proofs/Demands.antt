@@ -5,7 +5,7 @@ use Prim.Native.Nat.{ℕ}
 use lib.Dec.{T}
 use lib.ListN.{length}
 use Rattle.problem.specs.Problem.{Problem, State}
-use Rattle.problem.specs.Manual.{finished, arcConsistent}
+use Rattle.problem.specs.Hand.{finished, arcConsistent}
 use Rattle.problem.specs.Masks.{stateOf, masksOf, Proper}
 use Rattle.problem.specs.declared.Masks.{Masks}
 use Rattle.problem.specs.Sentences.{Active, Alike}

@@ -7,7 +7,7 @@ use Prim.Native.Nat.{ℕ, _≤_}
 use lib.Dec.{T}
 use lib.ListN.{length}
 use Rattle.problem.specs.Problem.{Problem, State, full, stateFits}
-use Rattle.problem.specs.Manual.{start, call, stateAfter, callState, callsState, finished, arcConsistent}
+use Rattle.problem.specs.Hand.{start, call, stateAfter, callState, callsState, finished, arcConsistent}
 use Rattle.problem.specs.Held.{Bounded}
 use Rattle.problem.specs.Masks.{Proper}
 use Rattle.problem.specs.declared.Call.{Call}

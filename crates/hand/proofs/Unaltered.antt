@@ -4,7 +4,7 @@ use mathlib.Core.List.{List}
 use Prim.Native.Nat.{ℕ}
 use native.Mathlib.Omega.{arith}
 use Rattle.problem.specs.Problem.{Problem}
-use Rattle.problem.specs.Manual.{call}
+use Rattle.problem.specs.Hand.{call}
 use Rattle.problem.specs.Masks.{emptyMasks}
 use Rattle.problem.specs.declared.Call.{Call}
 use Rattle.problem.specs.declared.Call.the-variants as outcome

@@ -3,7 +3,7 @@ use mathlib.Core.Bool.{Bool}
 use mathlib.Core.List.{List, [], _∷_}
 use Prim.Native.Nat.{ℕ}
 use Rattle.problem.specs.Problem.{Problem, State, stateFits, eliminate}
-use Rattle.problem.specs.Manual.{start, call}
+use Rattle.problem.specs.Hand.{start, call}
 use Rattle.problem.specs.Masks.{stateOf, masksOf, emptyMasks}
 use Rattle.problem.specs.declared.Call.{Call}
 use Rattle.problem.specs.declared.Call.the-variants as outcome

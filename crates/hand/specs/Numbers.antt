@@ -2,18 +2,18 @@
 use Prim.Native.Nat.{ℕ}
 use Rattle.sheet.specs.Sheet.{sheetNumber}
 use Rattle.hand.specs.declared.HandRefusal.{HandRefusal}
-use Rattle.hand.specs.declared.HandRefusal.the-variants as manual
+use Rattle.hand.specs.declared.HandRefusal.the-variants as refusal
 use Rattle.hand.specs.declared.StartOutcome.{StartOutcome}
 use Rattle.hand.specs.declared.StartOutcome.the-variants as started
 use Rattle.hand.specs.declared.CallOutcome.{CallOutcome}
 use Rattle.hand.specs.declared.CallOutcome.the-variants as called
 
 abbrev pub handRefusalNumber : HandRefusal → ℕ
-handRefusalNumber (manual.Sheet r) = sheetNumber r
-handRefusalNumber manual.State = 11
-handRefusalNumber manual.Item = 12
-handRefusalNumber manual.Emptied = 13
-handRefusalNumber manual.Rule = 14
+handRefusalNumber (refusal.Sheet r) = sheetNumber r
+handRefusalNumber refusal.State = 11
+handRefusalNumber refusal.Item = 12
+handRefusalNumber refusal.Emptied = 13
+handRefusalNumber refusal.Rule = 14
 
 abbrev pub startNumber : StartOutcome → ℕ
 startNumber started.Started = 0

@@ -10,7 +10,7 @@ use Rattle.bounded.specs.Mask.{bit}
 use Rattle.bounded.proofs.Truth.{T-true, T-false, T-of, and-iff, ltb-iff}
 use Rattle.bounded.proofs.Bounded.{lowest-is, lowest-passes, lowest-least, lowest-unique}
 use Rattle.problem.specs.Problem.{Problem, stateFits, noneEmpty, anyLive, lowestLive, snake}
-use Rattle.problem.specs.Manual.{call}
+use Rattle.problem.specs.Hand.{call}
 use Rattle.problem.specs.Held.{held}
 use Rattle.problem.specs.Masks.{stateOf}
 use Rattle.problem.specs.declared.Masks.{Masks}

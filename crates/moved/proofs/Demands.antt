@@ -8,7 +8,7 @@ use native.Mathlib.Omega.{arith}
 use lib.ListN.{length, take, drop}
 use Rattle.bounded.proofs.Truth.{clash}
 use Rattle.problem.specs.Problem.{Problem}
-use Rattle.problem.specs.Extend.{solvesWhole}
+use Rattle.problem.specs.PutBack.{solvesWhole}
 use Rattle.buffers.specs.Bytes.{AreBytes}
 use Rattle.sheet.specs.Sheet.{layout, versionOf, variablesOf, sizeAt, Keeps}
 use Rattle.sheet.specs.Relation.{rowsOf, problemOf}

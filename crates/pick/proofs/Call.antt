@@ -11,7 +11,7 @@ use lib.ListN.{length}
 use borrow.Author.Tests.{eq-eqb, ne-eqb}
 use Rattle.bounded.specs.Bounded.{oneIf}
 use Rattle.bounded.proofs.Truth.{eq-dec}
-use Rattle.problem.specs.Extend.{solvesWhole, planOf}
+use Rattle.problem.specs.PutBack.{solvesWhole, planOf}
 use Rattle.problem.specs.declared.End.{End}
 use Rattle.sheet.specs.Sheet.{layout}
 use Rattle.sheet.specs.Relation.{problemOf}

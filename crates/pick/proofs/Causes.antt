@@ -11,7 +11,7 @@ use borrow.Author.Tests.{lt-ltb, le-ltb, eq-eqb, ne-eqb}
 use Rattle.bounded.proofs.Truth.{T-true, T-false, T-dec, lt-dec, eq-dec}
 use Rattle.bounded.proofs.Causes.{cause-iff, number-iff}
 use Rattle.problem.specs.Problem.{Problem, full, sizeSum}
-use Rattle.problem.specs.Reduce.{run, endOf}
+use Rattle.problem.specs.Run.{run, endOf}
 use Rattle.problem.specs.Held.{Bounded}
 use Rattle.problem.specs.declared.End.{End}
 use Rattle.sheet.specs.Sheet.{layout, readSheet, Keeps}

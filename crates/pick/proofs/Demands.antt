@@ -10,9 +10,9 @@ use lib.ListN.{length, take, drop}
 use lib.Seq.{take-append-seam}
 use Rattle.bounded.proofs.Truth.{T-true, T-false, lt-dec, eq-dec}
 use Rattle.problem.specs.Problem.{Problem, full, sizeSum}
-use Rattle.problem.specs.Reduce.{run}
+use Rattle.problem.specs.Run.{run}
 use Rattle.problem.specs.Held.{Bounded}
-use Rattle.problem.specs.Extend.{solves, solvesWhole, planOf}
+use Rattle.problem.specs.PutBack.{solves, solvesWhole, planOf}
 use Rattle.problem.specs.declared.End.{End}
 use Rattle.sheet.specs.Sheet.{layout, readSheet, Keeps}
 use Rattle.sheet.specs.Relation.{problemOf}

@@ -12,8 +12,8 @@ use Rattle.bounded.specs.Bounded.{allBelow}
 use Rattle.bounded.proofs.Truth.{T-dec, and-iff, or-iff, eqb-iff}
 use Rattle.bounded.proofs.Bounded.{all-iff}
 use Rattle.problem.specs.Problem.{Problem, State, full}
-use Rattle.problem.specs.Reduce.{run}
-use Rattle.problem.specs.Extend.{solves, solvesWhole, planOf}
+use Rattle.problem.specs.Run.{run}
+use Rattle.problem.specs.PutBack.{solves, solvesWhole, planOf}
 use Rattle.problem.specs.Held.{Bounded, held, RowTable}
 use Rattle.problem.specs.Masks.{stateOf, masksOf}
 use Rattle.problem.specs.declared.Masks.{Masks}

@@ -5,7 +5,7 @@ use Prim.Native.Nat.{ℕ}
 use lib.Dec.{eqb}
 use lib.ListN.{length, replicate, take}
 use Rattle.problem.specs.Problem.{Problem, State, full}
-use Rattle.problem.specs.Reduce.{run, afterTrace, endOf}
+use Rattle.problem.specs.Run.{run, afterTrace, endOf}
 use Rattle.problem.specs.Masks.{masksOf, emptyMasks}
 use Rattle.problem.specs.declared.End.{End}
 use Rattle.sheet.specs.Sheet.{sheetNumber}

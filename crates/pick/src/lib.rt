@@ -108,7 +108,7 @@ fn pick_sized(t: &[u16], trace: &mut [u8], plan: &mut [u8]) -> Picked
     ensures trace { λ _. ⌜ now (trace .exit) ≡ (pickDone (held (now (t .entry))) (now (trace .entry)) (now (plan .entry))) .trace ⌝ }
     ensures plan { λ _. ⌜ now (plan .exit) ≡ (pickDone (held (now (t .entry))) (now (trace .entry)) (now (plan .entry))) .plan ⌝ }
 {
-    let done = reduce::run_table(t, trace);
+    let done = waiting_run::run_table(t, trace);
     let state = done.state;
     let outcome = done.outcome;
     match outcome {

@@ -6,7 +6,7 @@ use Prim.Native.Nat.{ℕ, zero, suc, _≤_, _<_}
 use native.Mathlib.Omega.{arith}
 use lib.ListN.{length, getD}
 use Rattle.problem.specs.Record.{kindOf, fieldsOf, effectOf, recordOf, itemOf, thirdOf, fourthOf, partsOf}
-use Rattle.problem.specs.Reduce.{kindBound}
+use Rattle.problem.specs.Run.{kindBound}
 use Rattle.problem.specs.declared.Record.{Record}
 use Rattle.problem.specs.declared.Record.the-variants.{Unsupported, Snake, Triangle, Neighbourhood, SnakeSubstitution}
 use Rattle.problem.specs.declared.Parts.{Parts}

@@ -10,7 +10,7 @@ use native.Mathlib.Omega.{arith}
 use lib.Dec.{T}
 use Rattle.bounded.proofs.Truth.{T-true, lt-dec}
 use Rattle.problem.specs.Problem.{Problem, State, noneEmpty, slideSpares, liveCount}
-use Rattle.problem.specs.Reduce.{holdsBy, holds, lawful, afterTrace, stepIf, first, nextUnsupported, nextSnake, nextTriangle, nextNeighbourhood, nextSnakeSubstitutionBy, kindBound, nextOfKindBy, nextOfKind, next, runFrom, runBy, run}
+use Rattle.problem.specs.Run.{holdsBy, holds, lawful, afterTrace, stepIf, first, nextUnsupported, nextSnake, nextTriangle, nextNeighbourhood, nextSnakeSubstitutionBy, kindBound, nextOfKindBy, nextOfKind, next, runFrom, runBy, run}
 use Rattle.problem.specs.Record.{kindOf, itemOf, thirdOf, fourthOf}
 use Rattle.problem.specs.Order.{Before, FirstLawful}
 use Rattle.problem.specs.declared.Record.{Record}

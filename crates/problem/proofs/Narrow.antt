@@ -8,7 +8,7 @@ use native.Mathlib.Omega.{arith}
 use lib.Dec.{T}
 use Rattle.problem.specs.Problem.{Problem, State, noneEmpty, unsupported, snake, triangle, neighbourhood, snakeSubstitution, slideKeeps, firstBreak}
 use Rattle.problem.specs.Rulebook.{beforeFour}
-use Rattle.problem.specs.Reduce.{nextUnsupported, nextSnake, nextTriangle, nextNeighbourhood, nextSnakeSubstitutionBy, kindBound, nextOfKindBy, nextBy, runBy}
+use Rattle.problem.specs.Run.{nextUnsupported, nextSnake, nextTriangle, nextNeighbourhood, nextSnakeSubstitutionBy, kindBound, nextOfKindBy, nextBy, runBy}
 use Rattle.problem.specs.Record.{kindOf}
 use Rattle.problem.specs.declared.Record.{Record}
 use Rattle.problem.specs.declared.Record.the-variants.{Unsupported, Snake, Triangle, Neighbourhood, SnakeSubstitution}

@@ -10,7 +10,7 @@ use Rattle.bounded.proofs.Truth.{T-true, T-false, T-dec, lt-dec, and-iff, imp-f
 use Rattle.bounded.proofs.Causes.{cause-iff}
 use Rattle.bounded.proofs.Bounded.{all-or, lowest-least, lowest-unique}
 use Rattle.problem.specs.Problem.{Problem, State, maxVariables, maxValues, stateFits, noneEmpty, anyLive, lowestLive, snake}
-use Rattle.problem.specs.Manual.{call}
+use Rattle.problem.specs.Hand.{call}
 use Rattle.problem.specs.declared.Call.{Call}
 use Rattle.problem.specs.declared.Call.the-variants.{Eliminated, Misfit, NotActive, Emptied, NoSnake}
 use Rattle.problem.proofs.Reflect.{fits-test, allActive-or, anyLive-iff, lowestLive-is, noneEmpty-iff, snake-iff}

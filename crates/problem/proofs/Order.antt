@@ -12,7 +12,7 @@ use Rattle.bounded.specs.Bounded.{countBelow}
 use Rattle.bounded.proofs.Truth.{T-ext, T-true, T-false, T-dec, eq-dec, and-iff, not-iff, ltb-iff}
 use Rattle.bounded.proofs.Bounded.{count-lt, count-most}
 use Rattle.problem.specs.Problem.{Problem, State, stateFits, noneEmpty, allActive, anyLive, lowestLive, snake, eliminate}
-use Rattle.problem.specs.Manual.{call, stateAfter, callState, callsState, finished, pairLeft, arcConsistent}
+use Rattle.problem.specs.Hand.{call, stateAfter, callState, callsState, finished, pairLeft, arcConsistent}
 use Rattle.problem.specs.declared.Call.the-variants.{Eliminated}
 use Rattle.problem.proofs.Reflect.{turn, fits-test, allActive-or, anyLive-iff, snake-iff, finished-iff, noneEmpty-iff, lowestLive-is, eliminate-active, eliminate-live, eliminate-fits}
 use Rattle.problem.specs.Sentences.{Alike, Active, Live, Allowed, Fits, Snake, ArcConsistent, Finished, NoneEmpty, Solvable}

@@ -8,7 +8,7 @@ use Prim.Native.Nat.{ℕ}
 use lib.Dec.{T}
 use Rattle.bounded.proofs.Truth.{T-ext, eq-dec}
 use Rattle.problem.specs.Problem.{Problem, State, unsupported, snake, triangle, neighbourhood, snakeSubstitution, slideSpares, remove, eliminate}
-use Rattle.problem.specs.Reduce.{holds, holdsBy, lawful, afterEffect, after, lawfulTrace, afterTrace, run}
+use Rattle.problem.specs.Run.{holds, holdsBy, lawful, afterEffect, after, lawfulTrace, afterTrace, run}
 use Rattle.problem.specs.Published.{HasSupport, NoSupport, DeSnakeBy, DeSnake, TriangleBy, TriangleProperty, Arrow, NeighbourhoodSubstitutable, WavyArrow, SnakeSubstitutable, TwoValues, Published, Related, VariableEliminated, ValueEliminated, EffectPublished, StepPublished}
 use Rattle.problem.specs.Record.{effectOf}
 use Rattle.problem.specs.declared.Effect.{Effect}

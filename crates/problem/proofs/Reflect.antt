@@ -11,7 +11,7 @@ use Rattle.problem.specs.Problem.{Problem, State, full, maxVariables, ma
 use Rattle.problem.specs.Sentences.{Active, Live, Allowed, Fits, Spoils, Substitutes, Unsupported, SnakeServes, Snake, TriangleServes, Triangle, Neighbourhood, SlideServes, SnakeSubstitution, Supported, ArcConsistent, Finished, NoneEmpty}
 use Rattle.problem.specs.declared.Cover.{Cover}
 use Rattle.problem.specs.declared.Cover.the-variants.{Holds}
-use Rattle.problem.specs.Manual.{supported, arcConsistent, finished}
+use Rattle.problem.specs.Hand.{supported, arcConsistent, finished}
 
 pub turn : (P : Problem) (i a j b : ℕ) → Allowed P i a j b → Allowed P j b i a
 turn P i a j b t = subst T (P .symmetric i a j b) t

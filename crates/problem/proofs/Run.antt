@@ -13,7 +13,7 @@ use Rattle.bounded.proofs.Truth.{T-of, T-true, T-not}
 use Rattle.bounded.proofs.Bounded.{any-iff}
 use Rattle.problem.specs.Problem.{Problem, State, full, allActive, anyLive, noneEmpty, unsupported, snake, triangle, neighbourhood, snakeSubstitution, liveCount, sizeSum}
 use Rattle.problem.specs.Rulebook.{Rulebook, inForce}
-use Rattle.problem.specs.Reduce.{holdsBy, lawfulBy, lawful, after, lawfulTraceBy, lawfulTrace, afterTrace, stepIf, first, nextUnsupported, nextSnake, nextTriangle, nextNeighbourhood, nextSnakeSubstitutionBy, kindBound, nextOfKindBy, nextOfKind, nextBy, next, runFromBy, runFrom, runBy, run, endOf}
+use Rattle.problem.specs.Run.{holdsBy, lawfulBy, lawful, after, lawfulTraceBy, lawfulTrace, afterTrace, stepIf, first, nextUnsupported, nextSnake, nextTriangle, nextNeighbourhood, nextSnakeSubstitutionBy, kindBound, nextOfKindBy, nextOfKind, nextBy, next, runFromBy, runFrom, runBy, run, endOf}
 use Rattle.problem.specs.declared.Record.{Record}
 use Rattle.problem.specs.declared.Record.the-variants.{Unsupported, Snake, Triangle, Neighbourhood, SnakeSubstitution}
 use Rattle.problem.specs.declared.Next.{Next}

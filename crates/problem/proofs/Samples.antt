@@ -3,9 +3,9 @@ use mathlib.Core.Path.{refl}
 use Rattle.bounded.specs.Bounded as bounded
 use Rattle.bounded.specs.Table as table
 use Rattle.problem.specs.Problem.{bothWays, full, stateFits, allActive, allLive, anyLive, lowestLive, allOther, allThird, noneEmpty, spoils, spoiler, breaks, firstBreak, coverAsked, unsupported, snakeServes, snake, triangleServes, triangle, neighbourhood, slideServes, snakeSubstitution, remove, eliminate, liveCount}
-use Rattle.problem.specs.Reduce.{holdsBy, lawfulBy, brokenCover, after, lawfulTraceBy, afterTrace, stepIf, first, nextUnsupported, nextSnake, nextTriangle, nextNeighbourhood, nextSnakeSubstitutionBy, nextOfKindBy, nextBy, runFromBy, runBy, endOf}
-use Rattle.problem.specs.Manual.{supported, prune, pruneTimes, start, call}
-use Rattle.problem.specs.Extend.{solves, put, repair, undo, undoTrace}
+use Rattle.problem.specs.Run.{holdsBy, lawfulBy, brokenCover, after, lawfulTraceBy, afterTrace, stepIf, first, nextUnsupported, nextSnake, nextTriangle, nextNeighbourhood, nextSnakeSubstitutionBy, nextOfKindBy, nextBy, runFromBy, runBy, endOf}
+use Rattle.problem.specs.Hand.{supported, prune, pruneTimes, start, call}
+use Rattle.problem.specs.PutBack.{solves, put, repair, undo, undoTrace}
 use Rattle.problem.specs.Solutions.{solutionsFrom, solutionCount}
 use Rattle.problem.specs.Samples.{AllRows, rows}
 

@@ -8,7 +8,7 @@ use native.Mathlib.Numerals.{add-one}
 use native.Mathlib.Omega.{arith}
 use lib.Dec.{T}
 use Rattle.bounded.proofs.Truth.{T-of, T-not, T-false, at-or-below}
-use Rattle.problem.specs.Reduce.{stepIf, first, isStep}
+use Rattle.problem.specs.Run.{stepIf, first, isStep}
 use Rattle.problem.specs.declared.Record.{Record}
 use Rattle.problem.specs.declared.Next.{Next}
 use Rattle.problem.specs.declared.Next.the-variants.{Step, Nothing}

@@ -9,7 +9,7 @@ use lib.Dec.{T}
 use Rattle.bounded.specs.Bounded.{sumTo, oneIf}
 use Rattle.bounded.proofs.Truth.{T-dec, T-true, T-false, ltb-iff, eq-dec, lt-dec, at-or-below}
 use Rattle.problem.specs.Problem.{Problem, State}
-use Rattle.problem.specs.Extend.{solves, put}
+use Rattle.problem.specs.PutBack.{solves, put}
 use Rattle.problem.specs.Solutions.{solutionsFrom, solutionCount, solvable}
 use Rattle.problem.specs.Sentences.{Active, Fits, Solution, Solvable}
 use Rattle.problem.proofs.Sound.{solves-iff, put-same, put-other}

@@ -6,7 +6,7 @@ use Prim.Native.Nat.{ℕ}
 use lib.Dec.{T, eqb}
 use Rattle.bounded.proofs.Truth.{T-true, T-false, T-dec, eq-dec, and-iff, not-iff, eqb-iff}
 use Rattle.problem.specs.Problem.{Problem, State, full, lowestLive, snakeServes, triangleServes, slideServes, remove, eliminate}
-use Rattle.problem.specs.Extend.{solves, solvesWhole, put, repair, undo}
+use Rattle.problem.specs.PutBack.{solves, solvesWhole, put, repair, undo}
 use Rattle.problem.specs.declared.Record.the-variants as record·
 use Rattle.problem.proofs.Reflect.{full-fits, turn, allActive-iff, allOther-iff, lowestLive-is, snakeServes-iff, triangleServes-iff, slideServes-iff, remove-live, eliminate-active, eliminate-live}
 use Rattle.problem.specs.Sentences.{Solution, Solvable, Active, Live, Allowed, Fits, Substitutes, Unsupported, Snake, Triangle, TriangleServes, Neighbourhood, SnakeSubstitution}

@@ -11,7 +11,7 @@ use Rattle.bounded.proofs.Bounded.{all-iff}
 use Rattle.bounded.proofs.Loops.{lowest-or, at-lowest-is, at-lowest-none}
 use Rattle.bounded.proofs.Causes.{cause-iff}
 use Rattle.problem.specs.Problem.{Problem, State, allLive, allOther, allThird, noneEmpty, unspoilt, breakAt, spoils, spoiler, snakeServes, triangleServes, neighbourhood, slideServes, breaks, firstBreak, coverAsked}
-use Rattle.problem.specs.Reduce.{holdsBy, lawfulBy, lawful, brokenCover}
+use Rattle.problem.specs.Run.{holdsBy, lawfulBy, lawful, brokenCover}
 use Rattle.problem.specs.declared.Record.{Record}
 use Rattle.problem.specs.declared.Record.the-variants.{Unsupported, Snake, Triangle, Neighbourhood, SnakeSubstitution}
 use Rattle.problem.specs.declared.Cover.{Cover}

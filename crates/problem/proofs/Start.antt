@@ -8,7 +8,7 @@ use native.Mathlib.Omega.{arith}
 use lib.Dec.{T, eqb, ltb}
 use Rattle.bounded.proofs.Truth.{and-iff, eqb-iff, ltb-iff}
 use Rattle.problem.specs.Problem.{Problem, State, full, allActive, allLive, liveCount}
-use Rattle.problem.specs.Manual.{supported, prune, pruneTimes, startTurns, start}
+use Rattle.problem.specs.Hand.{supported, prune, pruneTimes, startTurns, start}
 use Rattle.problem.proofs.Reflect.{full-fits, allActive-iff, allActive-or, allLive-iff, allLive-or, supported-iff}
 use Rattle.problem.specs.Sentences.{Active, Live, Allowed, Fits, Supported, ArcConsistent, Solution}
 use Rattle.problem.proofs.Count.{count-falls}

@@ -11,8 +11,8 @@ use Rattle.bounded.proofs.Truth.{and-iff}
 use Rattle.problem.specs.Problem.{Problem, State, full, noneEmpty, slideSpares, remove, eliminate, liveCount, sizeSum}
 use Rattle.problem.specs.Rulebook.{Rulebook, inForce}
 use Rattle.problem.specs.Record.{effectOf}
-use Rattle.problem.specs.Reduce.{holdsBy, holds, lawfulBy, lawful, afterEffect, after, lawfulTraceBy, lawfulTrace, afterTrace}
-use Rattle.problem.specs.Extend.{undo, undoTrace}
+use Rattle.problem.specs.Run.{holdsBy, holds, lawfulBy, lawful, afterEffect, after, lawfulTraceBy, lawfulTrace, afterTrace}
+use Rattle.problem.specs.PutBack.{undo, undoTrace}
 use Rattle.problem.specs.declared.Effect.{Effect}
 use Rattle.problem.specs.declared.Effect.the-variants.{Removes, Eliminates}
 use Rattle.problem.specs.declared.Record.{Record}

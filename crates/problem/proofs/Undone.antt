@@ -7,7 +7,7 @@ use lib.Dec.{T, eqb}
 use Rattle.bounded.proofs.Truth.{T-true, T-false, and-iff, not-iff, eqb-iff}
 use Rattle.bounded.proofs.Bounded.{lowest-least}
 use Rattle.problem.specs.Problem.{Problem, State, lowestLive, snake, snakeServes, triangle, triangleServes}
-use Rattle.problem.specs.Extend.{repair, undo}
+use Rattle.problem.specs.PutBack.{repair, undo}
 use Rattle.problem.specs.declared.Record.the-variants.{Unsupported, Snake, Triangle, Neighbourhood, SnakeSubstitution}
 use Rattle.problem.proofs.Reflect.{lowestLive-is, snakeServes-iff, snake-iff, triangleServes-iff, triangle-iff}
 use Rattle.problem.specs.Sentences.{Active, Live, Allowed, Fits, SnakeServes, TriangleServes}

@@ -9,7 +9,7 @@ use native.Mathlib.Omega.{arith}
 use lib.Dec.{T}
 use Rattle.problem.specs.Problem.{Problem, State, snakeSubstitution, slideSpares, slideKeeps, liveCount}
 use Rattle.problem.specs.Rulebook.{beforeFour, afterFour}
-use Rattle.problem.specs.Reduce.{holdsBy, lawfulBy, after, lawfulTraceBy, afterTrace, kindBound, nextOfKindBy, nextBy, runFromBy, runBy}
+use Rattle.problem.specs.Run.{holdsBy, lawfulBy, after, lawfulTraceBy, afterTrace, kindBound, nextOfKindBy, nextBy, runFromBy, runBy}
 use Rattle.problem.specs.declared.Record.{Record}
 use Rattle.problem.specs.declared.Record.the-variants.{Unsupported, Snake, Triangle, Neighbourhood, SnakeSubstitution}
 use Rattle.problem.specs.declared.Next.{Next}

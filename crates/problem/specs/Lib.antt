@@ -1,9 +1,9 @@
 pub mod Problem
 pub mod Rulebook
 pub mod Record
-pub mod Reduce
-pub mod Manual
-pub mod Extend
+pub mod Run
+pub mod Hand
+pub mod PutBack
 pub mod Sentences
 pub mod Order
 pub mod Published

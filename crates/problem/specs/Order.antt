@@ -6,7 +6,7 @@ use Prim.Native.Nat.{ℕ, _<_}
 use lib.Dec.{T}
 use Rattle.problem.specs.Problem.{Problem, State}
 use Rattle.problem.specs.Record.{kindOf, itemOf, thirdOf, fourthOf}
-use Rattle.problem.specs.Reduce.{lawful}
+use Rattle.problem.specs.Run.{lawful}
 use Rattle.problem.specs.declared.Record.{Record}
 
 -- x stands before y: by the kind, then i, then the third field, then the fourth

@@ -10,9 +10,9 @@ use Rattle.bounded.specs.Mask.{bit}
 use Rattle.bounded.specs.Table.{tab}
 use Rattle.problem.specs.Problem.{Problem, State, bothWays, both-ways-symmetric, full, spoiler}
 use Rattle.problem.specs.Rulebook.{beforeFour}
-use Rattle.problem.specs.Reduce.{brokenCover, lawfulTrace, lawfulTraceBy, afterTrace, run, runBy, endOf}
-use Rattle.problem.specs.Manual.{start, call}
-use Rattle.problem.specs.Extend.{undoTrace}
+use Rattle.problem.specs.Run.{brokenCover, lawfulTrace, lawfulTraceBy, afterTrace, run, runBy, endOf}
+use Rattle.problem.specs.Hand.{start, call}
+use Rattle.problem.specs.PutBack.{undoTrace}
 use Rattle.problem.specs.Solutions.{solutionCount}
 use Rattle.problem.specs.declared.Record.{Record}
 use Rattle.problem.specs.declared.Record.the-variants.{Unsupported, Snake, Triangle, Neighbourhood, SnakeSubstitution}

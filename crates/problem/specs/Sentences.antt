@@ -1,4 +1,4 @@
--- What the tests of Problem.antt and Manual.antt ask, as sentences, and what a solution is. proofs/Reflect.antt and Sound.antt show that each
+-- What the tests of Problem.antt and Hand.antt ask, as sentences, and what a solution is. proofs/Reflect.antt and Sound.antt show that each
 -- test holds exactly where its sentence does.
 use mathlib.Core.Path.{_≡_}
 use mathlib.Core.Bool.{Bool}
@@ -6,7 +6,7 @@ use mathlib.Core.Logic.{_≢_}
 use Prim.Native.Nat.{ℕ, _<_}
 use lib.Dec.{T}
 use Rattle.problem.specs.Problem.{Problem, State}
-use Rattle.problem.specs.Manual.{pairLeft}
+use Rattle.problem.specs.Hand.{pairLeft}
 use Rattle.problem.specs.declared.End.{End}
 use Rattle.problem.specs.declared.End.the-variants.{Impossible, Solved, Rest}
 

@@ -4,7 +4,7 @@ use Prim.Native.Nat.{ℕ, zero, suc}
 use lib.Dec.{ltb}
 use Rattle.bounded.specs.Bounded.{sumTo, oneIf}
 use Rattle.problem.specs.Problem.{Problem, State}
-use Rattle.problem.specs.Extend.{solves, put}
+use Rattle.problem.specs.PutBack.{solves, put}
 
 -- the solutions that agree with p at the variables not below k
 unfoldable pub solutionsFrom : Problem → State → ℕ → (ℕ → ℕ) → ℕ

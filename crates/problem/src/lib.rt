@@ -4,7 +4,7 @@ ghost use mathlib.Core.Path.{_≡_};
 ghost use Rattle.problem.specs.Problem.{unspoilt as unspoiltOf, unbroken as unbrokenOf};
 ghost use Rattle.problem.specs.Masks.{emptyMasks};
 ghost use Rattle.problem.specs.Record.{recordOf, effectOf, partsOf};
-ghost use Rattle.problem.specs.Reduce.{isStep};
+ghost use Rattle.problem.specs.Run.{isStep};
 
 // A state as masks: the variables that are active, and the values in the domain of each.
 pub struct Masks {

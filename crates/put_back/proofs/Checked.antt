@@ -12,7 +12,7 @@ use borrow.Author.Tests.{lt-ltb, le-ltb, ne-eqb}
 use Rattle.bounded.proofs.Truth.{T-true, T-false, T-dec, lt-dec, eq-dec, and-iff, eqb-iff}
 use Rattle.bounded.proofs.Causes.{cause-iff}
 use Rattle.problem.specs.Problem.{Problem, State, full}
-use Rattle.problem.specs.Reduce.{lawful, brokenCover, after, lawfulTraceBy, lawfulTrace, afterTrace}
+use Rattle.problem.specs.Run.{lawful, brokenCover, after, lawfulTraceBy, lawfulTrace, afterTrace}
 use Rattle.problem.specs.declared.Record.{Record}
 use Rattle.problem.specs.declared.Break.{Break}
 use Rattle.problem.specs.declared.Break.the-variants.{At, Nowhere}

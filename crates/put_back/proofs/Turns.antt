@@ -4,7 +4,7 @@ use mathlib.Core.Bool.{true, false}
 use mathlib.Core.List.{List, []}
 use Prim.Native.Nat.{ℕ, suc, _+_}
 use Rattle.problem.specs.Problem.{Problem, State}
-use Rattle.problem.specs.Reduce.{lawful, brokenCover, after}
+use Rattle.problem.specs.Run.{lawful, brokenCover, after}
 use Rattle.problem.specs.declared.Record.{Record}
 use Rattle.trace.specs.Trace.{recordAt}
 use Rattle.put_back.specs.PutBack.{Lawful, Fault, unlawfulRecord, withRecord, checkFrom}

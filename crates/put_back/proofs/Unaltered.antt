@@ -8,7 +8,7 @@ use native.Mathlib.Omega.{arith}
 use lib.ListN.{length}
 use Rattle.bounded.proofs.Truth.{eq-dec}
 use Rattle.problem.specs.Problem.{Problem, full}
-use Rattle.problem.specs.Reduce.{afterTrace}
+use Rattle.problem.specs.Run.{afterTrace}
 use Rattle.sheet.specs.Sheet.{layout}
 use Rattle.sheet.specs.Relation.{problemOf}
 use Rattle.put_back.specs.PutBack.{PutBackResult, Checked, Lawful, Fault, checkTrace, planFits, afterCheck, putBackOver, putBackJob}

@@ -6,8 +6,8 @@ use Prim.Native.Nat.{ℕ, _<_}
 use lib.Dec.{T}
 use lib.ListN.{length}
 use Rattle.problem.specs.Problem.{Problem, State, full}
-use Rattle.problem.specs.Reduce.{lawful, lawfulTrace, afterTrace}
-use Rattle.problem.specs.Extend.{planOf}
+use Rattle.problem.specs.Run.{lawful, lawfulTrace, afterTrace}
+use Rattle.problem.specs.PutBack.{planOf}
 use Rattle.problem.specs.Sentences.{Active, Live, Allowed}
 use Rattle.problem.specs.Causes.{CoverAlone, BreaksAt}
 use Rattle.problem.specs.Published.{Published}

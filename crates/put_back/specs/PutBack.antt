@@ -7,8 +7,8 @@ use lib.ListN.{length}
 use Rattle.bounded.specs.Bounded.{allBelow}
 use Rattle.bounded.specs.Table.{tab}
 use Rattle.problem.specs.Problem.{Problem, State, full}
-use Rattle.problem.specs.Reduce.{lawful, brokenCover, after, afterTrace}
-use Rattle.problem.specs.Extend.{solves, planOf, undoTrace}
+use Rattle.problem.specs.Run.{lawful, brokenCover, after, afterTrace}
+use Rattle.problem.specs.PutBack.{solves, planOf, undoTrace}
 use Rattle.problem.specs.declared.Record.{Record}
 use Rattle.problem.specs.declared.Break.{Break}
 use Rattle.problem.specs.declared.Break.the-variants.{At, Nowhere}

@@ -5,7 +5,7 @@ use mathlib.Core.List.{List}
 use Prim.Native.Nat.{ℕ, _-_, _/_, _%_}
 use native.Mathlib.Omega.{arith}
 use Rattle.problem.specs.Problem.{full}
-use Rattle.problem.specs.Reduce.{lawfulTrace, afterTrace}
+use Rattle.problem.specs.Run.{lawfulTrace, afterTrace}
 use Rattle.sheet.specs.Sheet.{layout, variablesOf, Keeps}
 use Rattle.sheet.specs.Relation.{problemOf}
 use Rattle.put_back.specs.PutBack.{putBackJob, planFits}
@@ -20,7 +20,7 @@ use Rattle.put_back.specs.Numbers.{putBackNumber}
 use Rattle.put_back.specs.declared.PutBackOutcome.{PutBackOutcome}
 use Rattle.put_back.proofs.Unaltered.{put-back-unaltered}
 use lib.Dec.{T}
-use Rattle.problem.specs.Extend.{solvesWhole, planOf}
+use Rattle.problem.specs.PutBack.{solvesWhole, planOf}
 use Rattle.problem.specs.declared.Record.{Record}
 use Rattle.trace.specs.Trace.{traceBytes}
 use Rattle.jobs.proofs.Opened.{variables-of}

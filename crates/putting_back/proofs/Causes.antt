@@ -13,8 +13,8 @@ use Rattle.bounded.proofs.Truth.{T-true, T-false, T-dec, eq-dec, and-iff, or-if
 use Rattle.bounded.proofs.Bounded.{all-iff, all-or}
 use Rattle.bounded.proofs.Causes.{cause-iff, number-iff}
 use Rattle.problem.specs.Problem.{Problem, State, full, allOther}
-use Rattle.problem.specs.Reduce.{lawful, lawfulTrace, afterTrace}
-use Rattle.problem.specs.Extend.{solves, planOf}
+use Rattle.problem.specs.Run.{lawful, lawfulTrace, afterTrace}
+use Rattle.problem.specs.PutBack.{solves, planOf}
 use Rattle.problem.specs.declared.Record.{Record}
 use Rattle.problem.proofs.Reflect.{full-fits, allActive-or}
 use Rattle.problem.specs.Sentences.{Active, Live, Allowed, Fits, Solution}

@@ -10,8 +10,8 @@ use Rattle.bounded.specs.Bounded.{allBelow}
 use Rattle.bounded.proofs.Truth.{T-true, and-iff}
 use Rattle.bounded.proofs.Table.{getD-tab}
 use Rattle.problem.specs.Problem.{Problem, full}
-use Rattle.problem.specs.Reduce.{lawfulTrace, afterTrace, run}
-use Rattle.problem.specs.Extend.{solves, solvesWhole, undoTrace, planOf}
+use Rattle.problem.specs.Run.{lawfulTrace, afterTrace, run}
+use Rattle.problem.specs.PutBack.{solves, solvesWhole, undoTrace, planOf}
 use Rattle.problem.specs.declared.Record.{Record}
 use Rattle.problem.proofs.Reflect.{full-fits}
 use Rattle.problem.specs.Sentences.{Active, Live, Fits, Solvable}

@@ -11,8 +11,8 @@ use Rattle.bounded.specs.Bounded.{allBelow}
 use Rattle.bounded.proofs.Truth.{and-iff, or-iff, eqb-iff}
 use Rattle.bounded.proofs.Bounded.{all-iff}
 use Rattle.problem.specs.Problem.{Problem, State, full}
-use Rattle.problem.specs.Reduce.{afterTrace, run}
-use Rattle.problem.specs.Extend.{solves, solvesWhole, planOf}
+use Rattle.problem.specs.Run.{afterTrace, run}
+use Rattle.problem.specs.PutBack.{solves, solvesWhole, planOf}
 use Rattle.problem.specs.declared.Record.{Record}
 use Rattle.problem.specs.declared.End.{End}
 use Rattle.problem.specs.declared.End.the-variants.{Impossible, Solved}

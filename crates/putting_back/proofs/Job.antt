@@ -6,8 +6,8 @@ use Prim.Native.Nat.{ℕ}
 use lib.ListN.{length}
 use Rattle.bounded.specs.Table.{tab}
 use Rattle.problem.specs.Problem.{Problem, State, full}
-use Rattle.problem.specs.Reduce.{afterTrace}
-use Rattle.problem.specs.Extend.{undoTrace, planOf}
+use Rattle.problem.specs.Run.{afterTrace}
+use Rattle.problem.specs.PutBack.{undoTrace, planOf}
 use Rattle.problem.specs.Held.{held, RowTable}
 use Rattle.problem.specs.Masks.{stateOf, masksOf}
 use Rattle.problem.specs.declared.Masks.{Masks}

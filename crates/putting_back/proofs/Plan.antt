@@ -10,7 +10,7 @@ use Rattle.bounded.specs.Bounded.{allBelow}
 use Rattle.bounded.proofs.Truth.{T-ext, T-dec, and-iff, or-iff, imp-iff, not-iff, eqb-iff}
 use Rattle.bounded.proofs.Bounded.{all-iff}
 use Rattle.problem.specs.Problem.{Problem, State}
-use Rattle.problem.specs.Extend.{solves, planOf}
+use Rattle.problem.specs.PutBack.{solves, planOf}
 use Rattle.problem.specs.Sentences.{Active, Live, Allowed, Fits, Solution}
 use Rattle.problem.proofs.Sound.{solves-iff}
 use Rattle.put_back.specs.PutBack.{planFits}

@@ -9,7 +9,7 @@ use native.Mathlib.Omega.{arith}
 use lib.Dec.{T}
 use lib.ListN.{length}
 use Rattle.problem.specs.Problem.{Problem, State, full}
-use Rattle.problem.specs.Reduce.{lawful, lawfulTrace, afterTrace}
+use Rattle.problem.specs.Run.{lawful, lawfulTrace, afterTrace}
 use Rattle.problem.specs.Held.{Bounded}
 use Rattle.problem.specs.declared.Record.{Record}
 use Rattle.problem.proofs.Reflect.{full-fits}

@@ -6,7 +6,7 @@ use lib.Dec.{T, eqb}
 use lib.ListN.{length}
 use Rattle.bounded.specs.Bounded.{imp, allBelow}
 use Rattle.problem.specs.Problem.{Problem, State}
-use Rattle.problem.specs.Extend.{planOf}
+use Rattle.problem.specs.PutBack.{planOf}
 use Rattle.problem.specs.Masks.{stateOf}
 use Rattle.problem.specs.declared.Masks.{Masks}
 

@@ -6,7 +6,7 @@ ghost use Prim.Native.Nat.{_<_, _≤_};
 ghost use lib.ListN.{length};
 ghost use Rattle.bounded.specs.Bounded.{allBelow};
 ghost use Rattle.problem.specs.Problem.{full};
-ghost use Rattle.problem.specs.Extend.{planOf};
+ghost use Rattle.problem.specs.PutBack.{planOf};
 ghost use Rattle.problem.specs.Held.{held, RowTable};
 ghost use Rattle.problem.specs.Masks.{stateOf, masksOf, Proper, sets};
 ghost use Rattle.held.specs.Ready.{Ready};

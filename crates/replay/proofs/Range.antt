@@ -8,7 +8,7 @@ use lib.Dec.{ltb}
 use borrow.Author.Tests.{ltb-true}
 use Rattle.bounded.proofs.Truth.{T-of, T-not, T-false, both, and-iff, ltb-iff}
 use Rattle.problem.specs.Problem.{Problem, State, noneEmpty, unsupported, snake, triangle, neighbourhood, snakeSubstitution, slideSpares, coverAsked}
-use Rattle.problem.specs.Reduce.{holds, lawfulBy, lawful, after}
+use Rattle.problem.specs.Run.{holds, lawfulBy, lawful, after}
 use Rattle.problem.specs.Held.{held}
 use Rattle.problem.specs.Masks.{stateOf, masksOf}
 use Rattle.problem.specs.declared.Masks.{Masks}

@@ -6,7 +6,7 @@ use Prim.Native.Nat.{ℕ, suc, _+_, _-_, _<_}
 use native.Mathlib.Omega.{arith}
 use lib.ListN.{length}
 use Rattle.problem.specs.Problem.{Problem, State}
-use Rattle.problem.specs.Reduce.{lawful, brokenCover, after, afterTrace}
+use Rattle.problem.specs.Run.{lawful, brokenCover, after, afterTrace}
 use Rattle.problem.specs.Held.{held}
 use Rattle.problem.specs.Masks.{stateOf, masksOf}
 use Rattle.problem.specs.declared.Masks.{Masks}

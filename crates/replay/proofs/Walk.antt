@@ -8,7 +8,7 @@ use lib.Dec.{T, ltb, eqb}
 use lib.ListN.{length}
 use borrow.Author.Tests.{lt-ltb, le-ltb, eq-eqb, ne-eqb}
 use Rattle.problem.specs.Problem.{Problem, State, full}
-use Rattle.problem.specs.Reduce.{lawful, brokenCover, after, lawfulTrace, afterTrace}
+use Rattle.problem.specs.Run.{lawful, brokenCover, after, lawfulTrace, afterTrace}
 use Rattle.problem.specs.declared.Record.{Record}
 use Rattle.problem.specs.Masks.{masksOf}
 use Rattle.problem.specs.declared.Masks.{Masks}

@@ -4,7 +4,7 @@ use mathlib.Core.List.{List}
 use Prim.Native.Nat.{ℕ, suc, _+_, _-_}
 use lib.ListN.{length}
 use Rattle.problem.specs.Problem.{Problem, State}
-use Rattle.problem.specs.Reduce.{lawful, brokenCover, after, afterTrace}
+use Rattle.problem.specs.Run.{lawful, brokenCover, after, afterTrace}
 use Rattle.problem.specs.Masks.{masksOf, stateOf, emptyMasks}
 use Rattle.problem.specs.declared.Masks.{Masks}
 use Rattle.problem.specs.declared.Break.{Break}

@@ -4,7 +4,7 @@ ghost use mathlib.Core.Bool.{true, false};
 ghost use Prim.Native.Nat.{_<_};
 ghost use lib.Dec.{T};
 ghost use Rattle.problem.specs.Problem.{full, unsupported as unsupportedAt, snake as snakeAt, triangle as triangleAt, neighbourhood as neighbourhoodAt, snakeSubstitution as slideAt, slideSpares, coverAsked};
-ghost use Rattle.problem.specs.Reduce.{holds as holdsAt, lawful as lawfulAt, brokenCover, after};
+ghost use Rattle.problem.specs.Run.{holds as holdsAt, lawful as lawfulAt, brokenCover, after};
 ghost use Rattle.problem.specs.Held.{held, RowTable};
 ghost use Rattle.problem.specs.Masks.{stateOf, masksOf, sets};
 ghost use Rattle.problem.specs.declared.Record.the-variants.{Neighbourhood};

@@ -8,7 +8,7 @@ use lib.ListN.{length}
 use borrow.Author.Tests.{lt-ltb, le-ltb}
 use Rattle.bounded.specs.Bounded.{countBelow, sumTo}
 use Rattle.problem.specs.Problem.{Problem, State, full, sizeSum, liveCount}
-use Rattle.problem.specs.Reduce.{run, afterTrace, endOf}
+use Rattle.problem.specs.Run.{run, afterTrace, endOf}
 use Rattle.problem.specs.Held.{Bounded}
 use Rattle.problem.specs.Masks.{stateOf}
 use Rattle.problem.specs.declared.End.{End}

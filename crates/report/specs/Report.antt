@@ -6,7 +6,7 @@ use Prim.Native.Nat.{ℕ, _≤_}
 use lib.Dec.{ltb}
 use lib.ListN.{length}
 use Rattle.problem.specs.Problem.{Problem, full}
-use Rattle.problem.specs.Reduce.{run, afterTrace, endOf}
+use Rattle.problem.specs.Run.{run, afterTrace, endOf}
 use Rattle.problem.specs.Masks.{masksOf}
 use Rattle.problem.specs.declared.End.{End}
 use Rattle.problem.specs.declared.Masks.{Masks}

@@ -119,7 +119,7 @@ fn put_sheet(out: &mut [u8], s: &[u8]) -> usize
     ensures within { λ r. ⌜ r ≤ reportRoom ⌝ }
 {
     let mut trace = [0u8; 2561];
-    let done = reduce::reduce(s, &mut trace);
+    let done = waiting_run::run_sheet(s, &mut trace);
     let state = done.state;
     let outcome = done.outcome;
     match outcome {

@@ -6,7 +6,7 @@ use native.Mathlib.Omega.{arith}
 use lib.Dec.{T}
 use Rattle.bounded.proofs.Truth.{T-dec, T-true, eq-dec}
 use Rattle.problem.specs.Problem.{Problem, State, noneEmpty, anyLive, unsupported, remove, eliminate}
-use Rattle.problem.specs.Reduce.{afterEffect, after, first, nextUnsupported, kindBound, nextOfKindBy, nextOfKind, next}
+use Rattle.problem.specs.Run.{afterEffect, after, first, nextUnsupported, kindBound, nextOfKindBy, nextOfKind, next}
 use Rattle.problem.specs.Record.{kindOf, effectOf, variableOf}
 use Rattle.problem.specs.declared.Record.{Record}
 use Rattle.problem.specs.declared.Record.the-variants.{Unsupported}

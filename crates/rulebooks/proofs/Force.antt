@@ -7,7 +7,7 @@ use lib.Dec.{ltb, eqb}
 use lib.ListN.{length}
 use Rattle.problem.specs.Problem.{Problem, State, full}
 use Rattle.problem.specs.Rulebook.{inForce}
-use Rattle.problem.specs.Reduce.{lawful, brokenCover, after}
+use Rattle.problem.specs.Run.{lawful, brokenCover, after}
 use Rattle.buffers.specs.Bytes.{byteAt}
 use Rattle.trace.specs.Trace.{recordAt}
 use Rattle.jobs.specs.WithSheet.{withSheet}

@@ -14,7 +14,7 @@ use lib.Seq.{take-append-seam}
 use Rattle.bounded.proofs.Truth.{T-of, T-true, split}
 use Rattle.problem.specs.Problem.{Problem, State, full}
 use Rattle.problem.specs.Rulebook.{Rulebook, beforeFour, afterFour}
-use Rattle.problem.specs.Reduce.{lawfulBy, brokenCover, after, lawfulTraceBy, runBy}
+use Rattle.problem.specs.Run.{lawfulBy, brokenCover, after, lawfulTraceBy, runBy}
 use Rattle.problem.specs.declared.Record.{Record}
 use Rattle.problem.specs.declared.Record.the-variants.{SnakeSubstitution}
 use Rattle.problem.specs.declared.Break.{Break}

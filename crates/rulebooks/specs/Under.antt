@@ -7,7 +7,7 @@ use lib.Dec.{ltb, eqb}
 use lib.ListN.{length}
 use Rattle.problem.specs.Problem.{Problem, State, full}
 use Rattle.problem.specs.Rulebook.{Rulebook}
-use Rattle.problem.specs.Reduce.{lawfulBy, brokenCover, after, runBy}
+use Rattle.problem.specs.Run.{lawfulBy, brokenCover, after, runBy}
 use Rattle.buffers.specs.Bytes.{byteAt}
 use Rattle.trace.specs.Trace.{recordAt}
 use Rattle.jobs.specs.WithSheet.{withSheet}

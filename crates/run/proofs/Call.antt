@@ -14,7 +14,7 @@ use Rattle.run.specs.Call.{RunFits, runCrossed, runCall, RunCall}
 use native.Mathlib.Omega.{arith}
 use Rattle.bounded.proofs.Truth.{eq-dec}
 use Rattle.problem.specs.Problem.{full}
-use Rattle.problem.specs.Reduce.{run}
+use Rattle.problem.specs.Run.{run}
 use Rattle.problem.proofs.Count.{sizes-most}
 use Rattle.problem.proofs.Run.{run-short}
 use Rattle.problem.specs.declared.End.{End}

@@ -8,7 +8,7 @@ use lib.ListN.{length}
 use Rattle.bounded.proofs.Truth.{lt-dec}
 use Rattle.bounded.proofs.Causes.{cause-iff, number-iff}
 use Rattle.problem.specs.Problem.{Problem, full, sizeSum}
-use Rattle.problem.specs.Reduce.{afterTrace, run, endOf}
+use Rattle.problem.specs.Run.{afterTrace, run, endOf}
 use Rattle.sheet.specs.Sheet.{layout, Keeps}
 use Rattle.sheet.specs.Relation.{problemOf}
 use Rattle.sheet.proofs.Refusals.{sheet-number}

@@ -7,10 +7,10 @@ use native.Mathlib.Omega.{arith}
 use lib.Dec.{T}
 use lib.ListN.{length, length-append}
 use Rattle.problem.specs.Problem.{Problem, State, full, sizeSum, noneEmpty}
-use Rattle.problem.specs.Reduce.{holds, lawfulTrace, afterTrace, run, endOf}
+use Rattle.problem.specs.Run.{holds, lawfulTrace, afterTrace, run, endOf}
 use Rattle.problem.specs.Held.{Bounded}
 use Rattle.problem.specs.Masks.{stateOf, masksOf}
-use Rattle.problem.specs.Extend.{undoTrace}
+use Rattle.problem.specs.PutBack.{undoTrace}
 use Rattle.problem.specs.declared.Record.{Record}
 use Rattle.problem.proofs.Apart.{fields-few}
 use Rattle.problem.proofs.Reflect.{full-fits}

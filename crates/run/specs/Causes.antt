@@ -6,9 +6,9 @@ use Prim.Native.Nat.{ℕ, _+_, _*_, _≤_, _<_}
 use lib.Dec.{T}
 use lib.ListN.{length}
 use Rattle.problem.specs.Problem.{Problem, State, full, sizeSum, noneEmpty}
-use Rattle.problem.specs.Reduce.{holds, lawfulTrace, afterTrace, run, endOf}
+use Rattle.problem.specs.Run.{holds, lawfulTrace, afterTrace, run, endOf}
 use Rattle.problem.specs.Masks.{masksOf}
-use Rattle.problem.specs.Extend.{undoTrace}
+use Rattle.problem.specs.PutBack.{undoTrace}
 use Rattle.problem.specs.Sentences.{Solution, Solvable, EndSays}
 use Rattle.problem.specs.Order.{FirstLawful}
 use Rattle.problem.specs.Published.{Published}

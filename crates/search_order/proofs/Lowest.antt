@@ -11,7 +11,7 @@ use Rattle.bounded.specs.Mask.{bit}
 use Rattle.bounded.proofs.Truth.{T-true, T-false}
 use Rattle.bounded.proofs.Members.{Sought, sought-least, sought-none}
 use Rattle.problem.specs.Problem.{Problem, State, slideSpares, unsupported, snake, triangle, neighbourhood, snakeSubstitution}
-use Rattle.problem.specs.Reduce.{stepIf, first, isStep, nextUnsupported, nextSnake, nextTriangle, nextNeighbourhood, nextSnakeSubstitutionBy, nextOfKindBy, nextOfKind}
+use Rattle.problem.specs.Run.{stepIf, first, isStep, nextUnsupported, nextSnake, nextTriangle, nextNeighbourhood, nextSnakeSubstitutionBy, nextOfKindBy, nextOfKind}
 use Rattle.problem.specs.Held.{held}
 use Rattle.problem.specs.Masks.{stateOf}
 use Rattle.problem.specs.declared.Masks.{Masks}

@@ -2,7 +2,7 @@
 -- serve for every table.
 use Prim.Native.Nat.{ℕ, zero, suc}
 use Rattle.problem.specs.Problem.{Problem, State, slideSpares, unsupported, snake, triangle, neighbourhood, snakeSubstitution}
-use Rattle.problem.specs.Reduce.{stepIf, first}
+use Rattle.problem.specs.Run.{stepIf, first}
 use Rattle.problem.specs.declared.Record.the-variants.{Unsupported, Snake, Triangle, Neighbourhood, SnakeSubstitution}
 use Rattle.problem.specs.declared.Next.{Next}
 use Rattle.problem.specs.declared.Next.the-variants.{Nothing}

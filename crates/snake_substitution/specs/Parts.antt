@@ -9,7 +9,7 @@ use lib.ListN.{length, getD}
 use Rattle.bounded.specs.Bounded.{imp}
 use Rattle.bounded.specs.Mask.{bit}
 use Rattle.problem.specs.Problem.{Problem, State, allLive, anyLive, slideServes, slideSpares}
-use Rattle.problem.specs.Reduce.{stepIf, first}
+use Rattle.problem.specs.Run.{stepIf, first}
 use Rattle.problem.specs.declared.Record.the-variants as record·
 use Rattle.problem.specs.declared.Next.{Next}
 use Rattle.problem.specs.Sentences.{Live, Allowed, SlideServes, SnakeSubstitution}

@@ -11,7 +11,7 @@ ghost use Rattle.bounded.specs.Mask.{bit};
 ghost use Rattle.problem.specs.Problem.{allOther, slideSpares, snakeSubstitution};
 ghost use Rattle.problem.specs.Held.{held, RowTable};
 ghost use Rattle.problem.specs.Masks.{stateOf, sets};
-ghost use Rattle.problem.specs.Reduce.{first};
+ghost use Rattle.problem.specs.Run.{first};
 ghost use Rattle.held.specs.Ready.{Ready, Value, Values};
 ghost use Rattle.cover.specs.Words.{others, thirds};
 ghost use Rattle.support.specs.Words.{partnersOf};

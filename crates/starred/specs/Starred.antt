@@ -6,8 +6,8 @@ use mathlib.Core.List.{List, [], _∷_, _++_}
 use Prim.Native.Nat.{ℕ, _-_}
 use lib.ListN.{length}
 use Rattle.problem.specs.Problem.{Problem, State, full, snake}
-use Rattle.problem.specs.Reduce.{afterTrace}
-use Rattle.problem.specs.Manual.{start}
+use Rattle.problem.specs.Run.{afterTrace}
+use Rattle.problem.specs.Hand.{start}
 use Rattle.problem.specs.Solutions.{solutionCount, solvable}
 use Rattle.problem.specs.declared.Masks.{Masks}
 use Rattle.problem.specs.declared.Record.{Record}

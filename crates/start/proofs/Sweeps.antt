@@ -17,7 +17,7 @@ use Rattle.bounded.proofs.Bounded.{any-iff}
 use Rattle.bounded.proofs.Loops.{all-each, all-intro}
 use Rattle.bounded.proofs.Mask.{bit-none, bit-mask, mask-is, mask-lt, zero-bits}
 use Rattle.problem.specs.Problem.{Problem, State, full, noneEmpty, allActive, allLive, liveCount, maxVariables}
-use Rattle.problem.specs.Manual.{supported, prune, start}
+use Rattle.problem.specs.Hand.{supported, prune, start}
 use Rattle.problem.specs.Held.{held, RowTable}
 use Rattle.problem.specs.Masks.{stateOf, masksOf, Proper}
 use Rattle.problem.specs.declared.Masks.{Masks}

@@ -5,7 +5,7 @@ use lib.Dec.{eqb}
 use lib.ListN.{getD}
 use Rattle.bounded.specs.Bounded.{allBelow}
 use Rattle.problem.specs.Problem.{Problem, State, maxVariables}
-use Rattle.problem.specs.Manual.{supported}
+use Rattle.problem.specs.Hand.{supported}
 use Rattle.problem.specs.declared.Masks.{Masks}
 
 -- one item: of its settings those with a partner at every other item stay on, and the other items keep theirs

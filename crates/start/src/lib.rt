@@ -3,7 +3,7 @@ ghost use Rattle.hand.specs.Call.{startCall};
 ghost use mathlib.Core.Path.{_≡_};
 ghost use Prim.Native.Nat.{_<_};
 ghost use Rattle.problem.specs.Problem.{noneEmpty, maxVariables};
-ghost use Rattle.problem.specs.Manual.{start as largest};
+ghost use Rattle.problem.specs.Hand.{start as largest};
 ghost use Rattle.problem.specs.Masks.{stateOf, masksOf, sets};
 ghost use Rattle.problem.specs.Held.{held, RowTable};
 ghost use Rattle.held.specs.Ready.{Ready};

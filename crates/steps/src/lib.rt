@@ -4,7 +4,7 @@ ghost use Prim.Native.Nat.{_<_};
 ghost use Rattle.problem.specs.Problem.{remove as removed, eliminate as eliminated};
 ghost use Rattle.problem.specs.Held.{held};
 ghost use Rattle.problem.specs.Masks.{stateOf, masksOf, sets};
-ghost use Rattle.problem.specs.Reduce.{after};
+ghost use Rattle.problem.specs.Run.{after};
 ghost use Rattle.held.specs.Ready.{Ready, Near};
 ghost use Rattle.steps.specs.Words.{domainAfter};
 ghost use Rattle.steps.specs.Steps.{Within};

@@ -16,7 +16,7 @@ use Rattle.bounded.proofs.Loops.{any-next}
 use Rattle.bounded.proofs.Mask.{bit-and, bit-or, bit-none, bit-mask, mask-ext, mask-is, bit-without32}
 use Rattle.bounded.proofs.Members.{Left, without-gone, without-part}
 use Rattle.problem.specs.Problem.{Problem, State, noneEmpty}
-use Rattle.problem.specs.Manual.{supported, prune}
+use Rattle.problem.specs.Hand.{supported, prune}
 use Rattle.problem.specs.Held.{rowsAt, held, RowTable}
 use Rattle.problem.specs.Masks.{stateOf}
 use Rattle.problem.specs.declared.Masks.{Masks}

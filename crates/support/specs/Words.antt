@@ -4,7 +4,7 @@ use Prim.Native.Nat.{ℕ}
 use Rattle.bounded.specs.Bounded.{anyBelow}
 use Rattle.bounded.specs.Mask.{bit, maskOf}
 use Rattle.problem.specs.Problem.{Problem, State, maxValues}
-use Rattle.problem.specs.Manual.{prune}
+use Rattle.problem.specs.Hand.{prune}
 
 module _ (P : Problem) where
   -- value c of j has the support v at i, where i has the set `domain` of values

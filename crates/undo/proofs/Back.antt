@@ -9,8 +9,8 @@ use Rattle.bounded.specs.Table.{tab}
 use Rattle.bounded.proofs.Truth.{T-of}
 use Rattle.bounded.proofs.Table.{length-tab}
 use Rattle.problem.specs.Problem.{Problem, State}
-use Rattle.problem.specs.Reduce.{holds, lawful, after, afterTrace}
-use Rattle.problem.specs.Extend.{undo, undoTrace, planOf}
+use Rattle.problem.specs.Run.{holds, lawful, after, afterTrace}
+use Rattle.problem.specs.PutBack.{undo, undoTrace, planOf}
 use Rattle.problem.specs.Held.{held}
 use Rattle.problem.specs.Masks.{stateOf, masksOf}
 use Rattle.problem.specs.declared.Masks.{Masks}

@@ -14,8 +14,8 @@ use Rattle.bounded.specs.Table.{tab, filled}
 use Rattle.bounded.proofs.Truth.{T-of, clash, both, eq-dec, not-iff, eqb-iff}
 use Rattle.bounded.proofs.Table.{length-tab, getD-tab}
 use Rattle.problem.specs.Problem.{Problem, State, lowestLive, snakeServes, triangleServes}
-use Rattle.problem.specs.Reduce.{holdsBy, holds, after, afterTrace, lawfulTrace}
-use Rattle.problem.specs.Extend.{put, repair, undo, undoTrace, planOf}
+use Rattle.problem.specs.Run.{holdsBy, holds, after, afterTrace, lawfulTrace}
+use Rattle.problem.specs.PutBack.{put, repair, undo, undoTrace, planOf}
 use Rattle.problem.specs.declared.Record.{Record}
 use Rattle.problem.specs.declared.Record.the-variants.{Unsupported, Snake, Triangle, Neighbourhood, SnakeSubstitution}
 use Rattle.problem.proofs.Reflect.{snake-iff, triangle-iff, eliminate-active, eliminate-live}

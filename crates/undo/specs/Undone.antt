@@ -8,8 +8,8 @@ use lib.Dec.{T, eqb}
 use lib.ListN.{length}
 use Rattle.bounded.specs.Table.{tab}
 use Rattle.problem.specs.Problem.{Problem, State, lowestLive, snakeServes}
-use Rattle.problem.specs.Reduce.{lawful, after, afterTrace}
-use Rattle.problem.specs.Extend.{undoTrace, planOf}
+use Rattle.problem.specs.Run.{lawful, after, afterTrace}
+use Rattle.problem.specs.PutBack.{undoTrace, planOf}
 use Rattle.problem.specs.Held.{held}
 use Rattle.problem.specs.Masks.{stateOf}
 use Rattle.problem.specs.declared.Masks.{Masks}

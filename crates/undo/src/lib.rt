@@ -8,7 +8,7 @@ ghost use Rattle.bounded.specs.Bounded.{lowest};
 ghost use Rattle.bounded.specs.Mask.{bit};
 ghost use Rattle.bounded.specs.Table.{tab};
 ghost use Rattle.problem.specs.Problem.{lowestLive, snakeServes, triangleServes};
-ghost use Rattle.problem.specs.Extend.{undo, planOf};
+ghost use Rattle.problem.specs.PutBack.{undo, planOf};
 ghost use Rattle.problem.specs.Held.{held, RowTable};
 ghost use Rattle.problem.specs.Masks.{stateOf, sets};
 ghost use Rattle.problem.specs.declared.Record.the-variants.{Snake, Triangle};

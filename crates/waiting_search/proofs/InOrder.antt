@@ -1,7 +1,7 @@
 -- The kinds in their order. Assumes nothing.
 use mathlib.Core.Path.{_≡_, refl}
 use Rattle.problem.specs.Problem.{Problem, State}
-use Rattle.problem.specs.Reduce.{first, nextOfKindBy, nextOfKind}
+use Rattle.problem.specs.Run.{first, nextOfKindBy, nextOfKind}
 use Rattle.problem.specs.declared.Next.the-variants.{Nothing}
 
 -- there is no kind 0

@@ -8,7 +8,7 @@ use lib.Dec.{T}
 use Rattle.bounded.specs.Mask.{bit}
 use Rattle.bounded.proofs.Truth.{T-true}
 use Rattle.problem.specs.Problem.{Problem, State, noneEmpty, slideSpares, remove, eliminate}
-use Rattle.problem.specs.Reduce.{holdsBy, holds, afterEffect, after, next}
+use Rattle.problem.specs.Run.{holdsBy, holds, afterEffect, after, next}
 use Rattle.problem.specs.Record.{kindOf, effectOf}
 use Rattle.problem.specs.Held.{held}
 use Rattle.problem.specs.Masks.{stateOf, masksOf}

@@ -19,7 +19,7 @@ use Rattle.bounded.proofs.Members.{Sought, sought-all, sought-next, left-and, l
 use Rattle.problem.specs.Problem.{Problem, State, slideSpares, neighbourhood}
 use Rattle.problem.specs.Held.{held}
 use Rattle.problem.specs.Masks.{stateOf}
-use Rattle.problem.specs.Reduce.{stepIf, first, isStep}
+use Rattle.problem.specs.Run.{stepIf, first, isStep}
 use Rattle.problem.specs.declared.Masks.{Masks}
 use Rattle.problem.specs.declared.Record.the-variants as record·
 use Rattle.problem.specs.declared.Next.the-variants.{Step, Nothing}

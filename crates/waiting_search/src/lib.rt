@@ -9,7 +9,7 @@ ghost use Rattle.bounded.specs.Mask.{bit};
 ghost use Rattle.problem.specs.Problem.{noneEmpty};
 ghost use Rattle.problem.specs.Held.{held};
 ghost use Rattle.problem.specs.Masks.{stateOf, masksOf, sets};
-ghost use Rattle.problem.specs.Reduce.{after, nextOfKind, next as nextOf};
+ghost use Rattle.problem.specs.Run.{after, nextOfKind, next as nextOf};
 ghost use Rattle.problem.specs.declared.Next.the-variants.{Step};
 ghost use Rattle.held.specs.Ready.{Ready, Value};
 ghost use Rattle.search_order.specs.Lowest.{stepFrom};

@@ -18,7 +18,7 @@ use Rattle.bounded.proofs.Members.{lowest-member}
 use Rattle.problem.specs.Problem.{Problem, State, noneEmpty, unsupported}
 use Rattle.problem.specs.Held.{held}
 use Rattle.problem.specs.Masks.{stateOf}
-use Rattle.problem.specs.Reduce.{stepIf, first}
+use Rattle.problem.specs.Run.{stepIf, first}
 use Rattle.problem.specs.declared.Masks.{Masks}
 use Rattle.problem.specs.declared.Record.the-variants.{Unsupported as step}
 use Rattle.problem.specs.declared.Next.{Next}

@@ -24,7 +24,7 @@ pub extern "C" fn zomuwedli_run(sheet: &[u8], trace: &mut [u8], state: &mut [u8]
     ensures trace { λ _. ⌜ now (trace .exit) ≡ (runCall (now (sheet .entry)) (now (trace .entry)) (now (state .entry))) .trace ⌝ }
     ensures state { λ _. ⌜ now (state .exit) ≡ (runCall (now (sheet .entry)) (now (trace .entry)) (now (state .entry))) .state ⌝ }
 {
-    reduce::run_call(sheet, trace, state)
+    waiting_run::run_call(sheet, trace, state)
 }
 
 // The start of taking out by hand. The refusal's number, or 0 with the state written.

@@ -4,7 +4,7 @@ use Prim.Native.Nat.{_-_, _≤_}
 use lib.ListN.{length, length-set}
 use Rattle.bounded.specs.Table.{filled}
 use Rattle.bounded.proofs.Table.{filled-none, filled-more, filled-end}
-use Rattle.problem.specs.Extend.{planOf}
+use Rattle.problem.specs.PutBack.{planOf}
 use Rattle.undo.proofs.Undo.{tab-back}
 use borrow.Author.Needs.{needs}
 use native.Mathlib.Omega.{arith}

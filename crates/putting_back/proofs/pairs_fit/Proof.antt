@@ -6,7 +6,7 @@ use lib.ListN.{length}
 use borrow.Author.Tests.{not-true, not-false}
 use Rattle.bounded.specs.Bounded.{allBelow}
 use Rattle.bounded.proofs.Loops.{all-none, all-more, all-fail, all-end}
-use Rattle.problem.specs.Extend.{planOf}
+use Rattle.problem.specs.PutBack.{planOf}
 use Rattle.problem.specs.Held.{held}
 use Rattle.problem.specs.Masks.{stateOf, sets}
 use Rattle.putting_back.specs.Plan.{pairsOf}

@@ -1,5 +1,5 @@
 -- `replay::broken_cover`: each arm's answer is the record's. Assumes nothing.
-use Rattle.problem.specs.Reduce.{brokenCover}
+use Rattle.problem.specs.Run.{brokenCover}
 use borrow.Author.Needs.{needs}
 use Rattle.replay.proofs.broken_cover.Statement.{statement}
 use Rattle.replay.proofs.broken_cover.Tie as tie

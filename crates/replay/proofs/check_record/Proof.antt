@@ -3,7 +3,7 @@ use mathlib.Core.Path.{sym, ap, _∙_}
 use mathlib.Core.Bool.{Bool}
 use Prim.Native.Nat.{_+_}
 use Rattle.bounded.proofs.Truth.{T-of}
-use Rattle.problem.specs.Reduce.{brokenCover, after}
+use Rattle.problem.specs.Run.{brokenCover, after}
 use Rattle.problem.specs.Held.{held}
 use Rattle.problem.specs.Masks.{stateOf, masksOf}
 use Rattle.problem.specs.declared.Masks.{Masks}

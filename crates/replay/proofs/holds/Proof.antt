@@ -1,5 +1,5 @@
 -- `replay::holds`: each arm's rule is the record's. Assumes nothing.
-use Rattle.problem.specs.Reduce.{holdsBy}
+use Rattle.problem.specs.Run.{holdsBy}
 use borrow.Author.Needs.{needs}
 use Rattle.replay.proofs.holds.Statement.{statement}
 use Rattle.replay.proofs.holds.Tie as tie

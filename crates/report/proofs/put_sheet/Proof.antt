@@ -13,21 +13,21 @@ use Rattle.report.proofs.put_sheet.Tie as tie
 put-run-requires : tie.Need-put-run-requires
 put-run-requires c κs =
     let a = c .before .before .before .before .before .before .before .before .before .before .before .args in
-    let r = c .before .before .before .before .before .before .before .reduce in
+    let r = c .before .before .before .before .before .before .before .run-sheet in
     let o = c .before .before .before .outcome .given .1 in
     (done-keeps (a .s .now) _ (omega arith) _ (r .ensures .0) _ _ _ o, (done-ran (a .s .now) _ (omega arith) _ (r .ensures .0) _ _ _ o _ (r .ensures .1), omega arith))
 
 returns : tie.Need-returns
 returns c =
     let a = c .before .before .before .before .before .before .before .before .before .before .before .before .before .before .args in
-    let r = c .before .before .before .before .before .before .before .before .before .before .reduce in
+    let r = c .before .before .before .before .before .before .before .before .before .before .run-sheet in
     let K = done-keeps (a .s .now) _ (omega arith) _ (r .ensures .0) _ _ _ (c .before .before .before .before .before .before .outcome .given .1) in
     rw (read-lines (a .s .now) K) (c .before .before .put-run .ensures)
 
 returns-2 : tie.Need-returns-2
 returns-2 c =
     let a = c .before .before .before .before .before .before .before .before .before .before .before .before .before .before .args in
-    let r = c .before .before .before .before .before .before .before .before .before .before .reduce in
+    let r = c .before .before .before .before .before .before .before .before .before .before .run-sheet in
     let e = refused-text (a .s .now) _ (omega arith) _ (r .ensures .0) _ (c .before .before .before .before .before .before .outcome2 .given .1) in
     let p = c .before .before .put-refused-line .ensures in
     let n = ap refusedLine (c .before .before .before .run-number .ensures) ∙ e in

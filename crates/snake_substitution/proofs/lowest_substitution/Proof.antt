@@ -4,7 +4,7 @@ use mathlib.Core.Path.{_≡_, sym, _∙_}
 use native.Mathlib.Omega.{arith}
 use lib.ListN.{getD}
 use borrow.Author.Needs.{needs}
-use Rattle.problem.specs.Reduce.{first}
+use Rattle.problem.specs.Run.{first}
 use Rattle.problem.specs.declared.Next.the-variants.{Nothing}
 use Rattle.snake_substitution.specs.Parts.{lowestGoal}
 use Rattle.problem.proofs.Search.{nothing-is, first-none, first-more, first-hit, first-end}

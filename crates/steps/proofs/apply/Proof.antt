@@ -1,6 +1,6 @@
 -- `steps::apply`: a value removed or a variable eliminated, as the record's effect says. Assumes nothing.
 use mathlib.Core.Path.{ap, sym, _∙_, subst}
-use Rattle.problem.specs.Reduce.{afterEffect, after}
+use Rattle.problem.specs.Run.{afterEffect, after}
 use Rattle.problem.specs.Held.{held}
 use Rattle.problem.specs.Masks.{stateOf, masksOf}
 use Rattle.problem.specs.declared.Effect.{Effect}

@@ -1,6 +1,6 @@
 -- `undo::undo_record`: each arm undoes its kind. Assumes nothing.
 use mathlib.Core.Path.{subst}
-use Rattle.problem.specs.Extend.{undo}
+use Rattle.problem.specs.PutBack.{undo}
 use Rattle.problem.specs.declared.Record.{Record}
 use Rattle.undo.specs.Undone.{Undoable}
 use Rattle.undo.proofs.Undo.{tab-back}

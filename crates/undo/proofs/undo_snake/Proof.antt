@@ -1,5 +1,5 @@
 -- `undo::undo_snake`: the others repaired, and i set. Assumes nothing.
-use Rattle.problem.specs.Extend.{planOf}
+use Rattle.problem.specs.PutBack.{planOf}
 use Rattle.problem.specs.Held.{held}
 use Rattle.problem.specs.Masks.{stateOf, sets}
 use Rattle.problem.proofs.Trace.{lawful-iff}

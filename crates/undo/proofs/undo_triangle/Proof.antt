@@ -1,5 +1,5 @@
 -- `undo::undo_triangle`: i gets the lowest value that serves for j's. Assumes nothing.
-use Rattle.problem.specs.Extend.{planOf}
+use Rattle.problem.specs.PutBack.{planOf}
 use Rattle.problem.specs.Held.{held}
 use Rattle.problem.specs.Masks.{stateOf, sets}
 use Rattle.problem.proofs.Trace.{lawful-iff}

@@ -5,7 +5,7 @@ use native.Mathlib.Omega.{arith}
 use borrow.Author.Needs.{needs}
 use borrow.Author.Tests.{not-true}
 use Rattle.problem.specs.Problem.{unsupported}
-use Rattle.problem.specs.Reduce.{stepIf, first}
+use Rattle.problem.specs.Run.{stepIf, first}
 use Rattle.problem.specs.Held.{held}
 use Rattle.problem.specs.Masks.{stateOf, sets}
 use Rattle.problem.specs.declared.Next.the-variants.{Nothing}

@@ -1,12 +1,12 @@
--- `reduce::end_of`. Assumes nothing.
+-- `waiting_run::end_of`. Assumes nothing.
 use mathlib.Core.Path.{sym, ap, _∙_}
 use mathlib.Core.Bool.{not}
 use borrow.Author.Tests.{not-true, not-false, eq-eqb, ne-eqb}
 use Rattle.problem.proofs.Run.{end-impossible, end-rest, end-solved}
-use Rattle.reduce.proofs.States.{some-active}
+use Rattle.waiting_run.proofs.States.{some-active}
 use borrow.Author.Needs.{needs}
-use Rattle.reduce.proofs.end_of.Statement.{statement}
-use Rattle.reduce.proofs.end_of.Tie as tie
+use Rattle.waiting_run.proofs.end_of.Statement.{statement}
+use Rattle.waiting_run.proofs.end_of.Tie as tie
 
 returns : tie.Need-returns
 returns c = sym (end-impossible _ _ (sym (c .before .none-empty .ensures) ∙ not-true _ (c .if1 .taken)))

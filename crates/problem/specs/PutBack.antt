@@ -5,7 +5,7 @@ use Prim.Native.Nat.{ℕ}
 use lib.Dec.{eqb}
 use lib.ListN.{getD}
 use Rattle.problem.specs.Problem.{Problem, State, full, allActive, allOther, lowestLive, snakeServes, triangleServes}
-use Rattle.problem.specs.Reduce.{after}
+use Rattle.problem.specs.Run.{after}
 use Rattle.problem.specs.declared.Record.{Record}
 use Rattle.problem.specs.declared.Record.the-variants.{Unsupported, Snake, Triangle, Neighbourhood, SnakeSubstitution}
 

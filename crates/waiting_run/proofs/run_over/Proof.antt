@@ -1,12 +1,12 @@
--- `reduce::run_over`: the buffer first, by the sum of the sizes. Assumes nothing.
+-- `waiting_run::run_over`: the buffer first, by the sum of the sizes. Assumes nothing.
 use mathlib.Core.Path.{ap, sym, _∙_}
 use native.Mathlib.Omega.{arith}
 use Rattle.problem.specs.Held.{held}
 use Rattle.run.specs.Run.{RunResult}
 use Rattle.run.proofs.Opened.{run-buffer-refused-over, run-accepted-over}
 use borrow.Author.Needs.{needs}
-use Rattle.reduce.proofs.run_over.Statement.{statement}
-use Rattle.reduce.proofs.run_over.Tie as tie
+use Rattle.waiting_run.proofs.run_over.Statement.{statement}
+use Rattle.waiting_run.proofs.run_over.Tie as tie
 
 returns : tie.Need-returns
 returns c =

@@ -1,8 +1,8 @@
--- `reduce::refused`. Assumes nothing.
+-- `waiting_run::refused`. Assumes nothing.
 use Rattle.run.specs.declared.RunOutcome.the-variants.{Refused}
 use borrow.Author.Needs.{needs}
-use Rattle.reduce.proofs.refused.Statement.{statement}
-use Rattle.reduce.proofs.refused.Tie as tie
+use Rattle.waiting_run.proofs.refused.Statement.{statement}
+use Rattle.waiting_run.proofs.refused.Tie as tie
 
 returns : tie.Need-returns
 returns c = λ i. record { outcome = Refused (c .before .args .r); state = c .empty-masks .ensures i }

@@ -9,7 +9,7 @@ use lib.ListN.{length, set, length-append, length-set}
 use lib.Seq.{drop-set-lt}
 use Rattle.bounded.proofs.Truth.{T-true, and-iff, ltb-iff}
 use Rattle.problem.specs.Problem.{Problem, State, full, noneEmpty, liveCount, sizeSum}
-use Rattle.problem.specs.Reduce.{lawful, after, lawfulTraceBy, lawfulTrace, afterTrace, next, runBy, run, endOf}
+use Rattle.problem.specs.Run.{lawful, after, lawfulTraceBy, lawfulTrace, afterTrace, next, runBy, run, endOf}
 use Rattle.problem.specs.Held.{held, RowTable}
 use Rattle.problem.specs.Masks.{stateOf, masksOf}
 use Rattle.problem.specs.declared.Masks.{Masks}

@@ -1,12 +1,12 @@
--- `reduce::reduce`: what reading the sheet finds, and the table that it fills. Assumes nothing.
+-- `waiting_run::run_sheet`: what reading the sheet finds, and the table that it fills. Assumes nothing.
 use mathlib.Core.Path.{sym, ap, _∙_}
 use Rattle.problem.specs.Problem.{Problem}
 use Rattle.run.specs.Run.{RunResult, runOver}
 use Rattle.jobs.proofs.Opened.{sheet-table}
 use Rattle.run.proofs.Opened.{run-sheet-refused, run-kept}
 use borrow.Author.Needs.{needs}
-use Rattle.reduce.proofs.reduce.Statement.{statement}
-use Rattle.reduce.proofs.reduce.Tie as tie
+use Rattle.waiting_run.proofs.run_sheet.Statement.{statement}
+use Rattle.waiting_run.proofs.run_sheet.Tie as tie
 
 blank-table-requires : tie.Need-blank-table-requires
 blank-table-requires c κs = search needs
@@ -50,8 +50,8 @@ returns-2 c =
     let p = c .before .before .run-over .ensures in
     (p .0 ∙ ap (λ (x : RunResult). x .answer) q, p .1 ∙ ap (λ (x : RunResult). x .buffer) q)
 
-pub reduce-spec : {M : Type 1} → statement M
-reduce-spec =
+pub run-sheet-spec : {M : Type 1} → statement M
+run-sheet-spec =
     tie.close
     (tie.spec
     blank-table-requires

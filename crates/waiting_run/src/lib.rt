@@ -5,7 +5,7 @@ ghost use mathlib.Core.List.{[]};
 ghost use Prim.Native.Nat.{_≤_, _+_, _*_};
 ghost use lib.ListN.{length, set};
 ghost use Rattle.problem.specs.Problem.{sizeSum};
-ghost use Rattle.problem.specs.Reduce.{endOf};
+ghost use Rattle.problem.specs.Run.{endOf};
 ghost use Rattle.problem.specs.Held.{held, RowTable};
 ghost use Rattle.problem.specs.Masks.{stateOf};
 ghost use Rattle.held.specs.Ready.{Ready};
@@ -116,7 +116,7 @@ pub fn run_over(t: &[u16], b: &mut [u8]) -> RunAnswer
 }
 
 // The run: lent a sheet and a buffer for the trace. A refused run leaves the buffer as it was.
-pub fn reduce(s: &[u8], b: &mut [u8]) -> RunAnswer
+pub fn run_sheet(s: &[u8], b: &mut [u8]) -> RunAnswer
     ensures { λ r. ⌜ (r ≡ (runJob (now (s .entry)) (now (b .entry))) .answer) × (now (b .exit) ≡ (runJob (now (s .entry)) (now (b .entry))) .buffer) ⌝ }
 {
     let mut t = table::blank_table();
@@ -144,7 +144,7 @@ pub fn run_call(sheet: &[u8], trace: &mut [u8], state: &mut [u8]) -> u64
     if state.len() != STATE_LENGTH {
         return boundary::bad_state();
     }
-    let done = reduce(sheet, trace);
+    let done = run_sheet(sheet, trace);
     let outcome = done.outcome;
     let last = done.state;
     run::put_ran_state(state, outcome, last);

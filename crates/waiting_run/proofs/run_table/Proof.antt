@@ -1,4 +1,4 @@
--- `reduce::run_table`: the loop of the run. Each turn uses up a value, which is the measure. Assumes nothing.
+-- `waiting_run::run_table`: the loop of the run. Each turn uses up a value, which is the measure. Assumes nothing.
 use mathlib.Core.Path.{sym, ap, _∙_}
 use native.Mathlib.Omega.{arith}
 use Prim.Native.Nat.{ℕ}
@@ -12,9 +12,9 @@ use Rattle.waiting.specs.Waiting.{Waits}
 use Rattle.waiting.proofs.Waiting.{waits-fresh}
 use Rattle.waiting_unsupported.specs.Words.{AllUnsupported}
 use Rattle.steps.proofs.States.{after-state}
-use Rattle.reduce.proofs.Running.{Running, first-lasts, running-start, running-next, same-length as kept-length, falls, record-room, step-counts, record-small, done-buffer, done-answer}
-use Rattle.reduce.proofs.run_table.Statement.{statement}
-use Rattle.reduce.proofs.run_table.Tie as tie
+use Rattle.waiting_run.proofs.Running.{Running, first-lasts, running-start, running-next, same-length as kept-length, falls, record-room, step-counts, record-small, done-buffer, done-answer}
+use Rattle.waiting_run.proofs.run_table.Statement.{statement}
+use Rattle.waiting_run.proofs.run_table.Tie as tie
 
 abbrev Inv-loop : tie.InvT-loop
 Inv-loop t b₀ state₀ words₀ pending₀ waiting₀ at₀ steps₀ b state words pending waiting at steps =
