@@ -1,12 +1,12 @@
 """What the pages name stands where they say it does.
 
-The pages are those of PAGES. Looked at, outside blocks of code:
+The pages are those of PAGES. Looked at, and in blocks of code only paths:
 - a name with a place, as `run-worked`, run: Worked (crates/run/proofs/Worked.antt), or `runJob`, run/specs/Run.antt: the file declares it;
 - a name with a hyphen: some file declares it, and in INDEXES one that its table row, list item or paragraph names, or that the page places it in;
 - the names of a table whose last column is headed "file": declared in the files of that column ("same": those of the row above);
 - the names of a column headed "field of `R`": fields in the file of definitions that declares R;
 - a function, as `held::rows_at`: the sources of that crate have it;
-- a name with a hyphen, an underscore or a capital inside: some file of the tree has it;
+- a name with a hyphen, an underscore or a capital: some file of the tree has it;
 - a wrong build, as sheet/six_before_seven: crates/sheet/must-fail/six_before_seven.edit;
 - a path of this tree, and a link, with its heading;
 - README's table and picture of the crates: the crates of crates.txt and no others.
@@ -28,7 +28,7 @@ KIT = {"the-variants"}
 NAME = r"[^\W\d_][\w'-]*"
 PLACE = re.compile(
     r"(?P<path>\b(?:crates/)?(?P<crate>[a-z]\w*)/(?P<folder>specs|proofs|src)/(?P<file>[A-Za-z]\w*)\.(?:antt|rt)\b)"
-    r"|(?P<room>\b[a-z]\w*): (?P<rooms>[A-Z]\w*(?:, [A-Z]\w*)*)(?![\w-])"
+    r"|(?P<room>\b[a-z]\w*): (?P<rooms>[A-Z]\w*(?:, [A-Z]\w*)*)(?!\.antt|[\w-])"
     r"|(?<![\w/])(?:(?P<within>specs|proofs)/)?(?P<beside>[A-Z]\w*)\.antt\b"
     r"|\bcrates/(?P<whole>[a-z]\w*)(?:/(?P<part>specs|proofs))?(?![\w/])"
 )
@@ -101,7 +101,9 @@ class Page:
         self.cited, self.loose = set(), []
 
     def fault(self, line, what):
-        self.faults.append(f"{self.path}:{line}: {what}")
+        told = f"{self.path}:{line}: {what}"
+        if told not in self.faults:
+            self.faults.append(told)
 
     # ---- names with places
 
@@ -109,7 +111,7 @@ class Page:
         """The places of a text as (start, end, files), a file without a crate being beside the one before it."""
         found, crate, folder = [], None, None
         for place in PLACE.finditer(text):
-            if place["whole"] or place["beside"] and crate is None:
+            if place["whole"]:
                 crate, folder = place["whole"], place["part"]
                 continue
             if place["path"]:
@@ -124,8 +126,10 @@ class Page:
             else:
                 of = re.match(r" of ([a-z]\w*(?:(?:, | and |, and )[a-z]\w*)*)", text[place.end() :])
                 crates = re.split(r", and |, | and ", of[1]) if of else [crate]
-                if of and crates[0] not in self.tree.crates:
+                if crates[0] not in self.tree.crates:
                     crate = folder = None
+                    if not glob.glob(f"crates/*/*/{place['beside']}.antt") and not STANDS_FOR.search(place[0]):
+                        self.fault(line, f"no crate has {place[0]}")
                     continue
                 files = [self.beside(some, place["within"] or folder, place["beside"]) for some in crates if not of or some in self.tree.crates]
             for file in files:
@@ -224,10 +228,10 @@ class Page:
             for crate, name in re.findall(r"`([a-z]\w*)::(\w+)", text):
                 if crate in self.tree.crates and not self.tree.has(glob.glob(f"crates/{crate}/src/*.rt"), name):
                     self.fault(line, f"crate {crate} has no {name}")
-            for name in re.findall(rf"`({NAME})`", text):
-                if re.search(r"[-_]|[a-z][A-Z]", name):
+            for name, rest in re.findall(rf"`({NAME})((?: [^`]*)?)`", text):
+                if re.search(r"[-_]|[A-Z].", name) and not (rest and name[0].islower()):
                     self.counts["words"] += 1
-                    if name not in self.tree.words and not STANDS_FOR.search(name) and not name.startswith(("-", "rt ")):
+                    if name not in self.tree.words and not STANDS_FOR.search(name):
                         self.fault(line, f"no file has {name}")
 
     def wrong_builds(self):
@@ -254,7 +258,8 @@ class Page:
     def paths(self):
         rooms = "|".join(sorted(self.tree.crates))
         named = re.compile(rf"(?<![\w/.-])((?:{'|'.join(FOLDERS)})/[\w./*+-]*|(?:{rooms})/(?:specs|proofs|src|must-fail)(?:/[\w.+-]*)?)")
-        for line, text in self.units:
+        code = [(line, text) for line, text in enumerate(self.text.splitlines(), 1) if text.startswith("    ")]
+        for line, text in self.units + code:
             text = re.sub(r"\]\([^)]*\)", "]", text)
             for path in named.findall(text):
                 path = path.rstrip(".")
@@ -263,7 +268,7 @@ class Page:
                 self.counts["paths"] += 1
                 path = path if path.split("/")[0] in FOLDERS else f"crates/{path}"
                 if not glob.glob(re.sub(r"-N\b", "-*", path)):
-                    self.fault(line, f"no path {path}")
+                    self.fault(line, f"no file {path}")
 
     def links(self):
         for line, text in self.units:
@@ -274,7 +279,7 @@ class Page:
                 path = os.path.normpath(os.path.join(os.path.dirname(self.path), file)) if file else self.path
                 self.counts["paths"] += 1
                 if not os.path.exists(path):
-                    self.fault(line, f"no path {path}")
+                    self.fault(line, f"no file {path}")
                 elif heading and heading not in headings(read(path)):
                     self.fault(line, f"{path} has no heading {heading}")
 
@@ -316,7 +321,6 @@ def main():
         faults += page.faults
         for what, number in page.counts.items():
             counts[what] = counts.get(what, 0) + number
-    faults = list(dict.fromkeys(faults))
     print("\n".join(faults))
     print(
         f"{counts['placed']} names with a place, {counts['near']} beside one, {counts['words']} names, {counts['wrong']} wrong builds and"
