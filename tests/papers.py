@@ -4,7 +4,7 @@ The pages are those of PAGES. Looked at, and in blocks of code only paths:
 - a name with a place, as `run-worked`, run: Worked (crates/run/proofs/Worked.antt), or `runJob`, run/specs/Run.antt: the file declares it;
 - a name with a hyphen: some file declares it, and in INDEXES one that its table row, list item or paragraph names, or that the page places it in;
 - the names of a table whose last column is headed "file": declared in the files of that column ("same": those of the row above);
-- the names of a column headed "field of `R`": fields in the file of definitions that declares R;
+- the names of a column headed "field of `R`": the fields of the record R, all of them;
 - a function, as `held::rows_at`: the sources of that crate have it;
 - a name with a hyphen, an underscore or a capital: some file of the tree has it;
 - a wrong build, as sheet/six_before_seven: crates/sheet/must-fail/six_before_seven.edit;
@@ -48,8 +48,7 @@ class Tree:
 
     def __init__(self):
         self.declared, self.words = {}, set()
-        names = [line.split(":")[0] for line in read("crates.txt").splitlines() if ":" in line and not line.startswith("#")]
-        self.crates = set(names)
+        self.crates = set(re.findall(r"^(\w+):", read("crates.txt"), re.M))
         for path in glob.glob("crates/*/*/**/*", recursive=True) + glob.glob("crates/*/must-fail/*"):
             if path.endswith((".antt", ".rt", ".edit")) and os.path.isfile(path):
                 text = read(path)
@@ -59,10 +58,18 @@ class Tree:
             for path in glob.glob(pattern, recursive=True):
                 if os.path.isfile(path) and path != "tests/papers.py":
                     self.words.update(re.findall(r"[A-Za-z]\w*", read(path)))
-        self.words.update(word for path in glob.glob("crates/*") for word in [os.path.basename(path)])
+        self.words.update(os.listdir("crates"))
 
     def has(self, paths, name):
         return any(name in self.declared.get(path, ()) for path in paths)
+
+    def fields(self, record):
+        """The fields of a record of specs/."""
+        for path in self.declared:
+            block = "/specs/" in path and re.search(rf"^pub record {record}\b.*\n((?:  .*\n|\n)*)", read(path), re.M)
+            if block:
+                return set(re.findall(rf"^  pub ({NAME}) :", block[1], re.M))
+        return set()
 
 
 def declarations(path, text):
@@ -120,7 +127,8 @@ class Page:
             elif place["room"]:
                 direct = text[: place.start()].endswith("`, ")
                 files = [f"crates/{place['room']}/proofs/{file}.antt" for file in place["rooms"].split(", ")]
-                if not direct and not all(os.path.isfile(file) for file in files):
+                sure = direct or text[: place.start()].endswith("(") and place["room"] in self.tree.crates
+                if not sure and not all(os.path.isfile(file) for file in files):
                     continue
                 crate, folder = place["room"], "proofs"
             else:
@@ -194,7 +202,7 @@ class Page:
                 self.fault(line, f"{name} is declared in no file that is named beside it")
 
     def tables(self):
-        header, files = None, []
+        header, files, listed = None, [], {}
         for line, text in self.units:
             if not text.startswith("|"):
                 header = None
@@ -212,7 +220,16 @@ class Page:
             for head, cell in zip(header, cells):
                 record = re.fullmatch(r"field of `(\w+)`", head)
                 if record:
-                    self.stand(line, cell, [file for file in self.tree.declared if "/specs/" in file and self.tree.has([file], record[1])])
+                    listed.setdefault(record[1], []).extend((line, name) for name in re.findall(rf"`({NAME})`", cell))
+        for record, names in listed.items():
+            fields = self.tree.fields(record)
+            self.cited.update(fields)
+            self.counts["placed"] += len(names)
+            for line, name in names:
+                if name not in fields:
+                    self.fault(line, f"{name} is no field of {record}")
+            for name in sorted(fields - {name for _, name in names}):
+                self.fault(0, f"the field {name} of {record} has no row")
 
     def stand(self, line, cell, files):
         for name in re.findall(rf"`({NAME})[^`]*`", cell):
@@ -285,11 +302,11 @@ class Page:
 
     def crates(self):
         """README only: its table and its picture of the crates."""
-        section = self.text.split("\n## The crates\n")[1].split("\n## ")[0]
-        rows = section.split("| crate | inside | changes with |\n|---|---|---|\n")[1].split("\n\n")[0].splitlines()
+        section = self.text.partition("\n## The crates\n")[2].partition("\n## ")[0]
+        rows = section.partition("| crate | inside | changes with |\n|---|---|---|\n")[2].partition("\n\n")[0].splitlines()
         table = [name for row in rows for name in row.split("|")[1].strip().split(", ")]
-        lines = [line for line in section.splitlines() if line.startswith("    ")]
-        drawn = [name for line in lines for name in re.findall(r"\w+", re.split(r"(?<=\S)\s{2,}", line.strip(), maxsplit=1)[1])]
+        lines = [re.split(r"\s{2,}", line.strip(), maxsplit=1) for line in section.splitlines() if line.startswith("    ")]
+        drawn = [name for line in lines for name in re.findall(r"\w+", line[-1])]
         for what, names in (("table", table), ("picture", drawn)):
             for name in sorted(self.tree.crates - set(names)):
                 self.fault(0, f"the {what} of the crates lacks {name}")
@@ -321,7 +338,8 @@ def main():
         faults += page.faults
         for what, number in page.counts.items():
             counts[what] = counts.get(what, 0) + number
-    print("\n".join(faults))
+    for fault in faults:
+        print(fault)
     print(
         f"{counts['placed']} names with a place, {counts['near']} beside one, {counts['words']} names, {counts['wrong']} wrong builds and"
         f" {counts['paths']} paths in the pages, {len(faults)} not as they say"
