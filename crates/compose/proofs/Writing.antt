@@ -20,7 +20,7 @@ use Rattle.buffers.specs.Bytes.{numberBytes}
 use Rattle.sheet.specs.Sheet.{Layout, layout}
 use Rattle.sheet.proofs.Versions.{test-taken}
 use Rattle.buffers.specs.Written.{written, fronted}
-use Rattle.buffers.proofs.Written.{sets-written, word-put, written-nil, written-one, written-more, written-front, length-written}
+use Rattle.buffers.proofs.Written.{sets-written, written-nil, written-one, written-more, written-front, length-written}
 use Rattle.compose.specs.Compose.{rowNumber, pairBars, hasBlock, blockCount, rowsBytes, blockBytes, placeBytes, blocksBytes, sheetLength, sheetBytes}
 use Rattle.compose.specs.Parts.{markOf, BlockMarked, BytesWrote, Underway, frontBytes}
 use Rattle.buffers.proofs.Stands.{length-number}
