@@ -244,7 +244,7 @@ fn wake_value(pending: &mut [u16; ROWS], waiting: &mut [u16; WAITING], i: usize,
     wake(pending, waiting, i);
 }
 
-// Beside that, in the state after it, values that lost their last support at i are bare.
+// Beside that, in the state after it, values that lost their last support at i are unsupported.
 fn remove_known(
     t: &[u16],
     active: u32,
@@ -263,7 +263,7 @@ fn remove_known(
     wake_value(pending, waiting, i, b);
 }
 
-// What is known after a step, in the state after it. A cover leaves no value bare: what b supported, a supports too. A variable is
+// What is known after a step, in the state after it. A cover leaves no value unsupported: what b supported, a supports too. A variable is
 // eliminated only where each value has its supports, so that no other domain changes.
 fn mend(
     t: &[u16],

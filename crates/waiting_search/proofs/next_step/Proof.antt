@@ -1,4 +1,4 @@
--- `waiting_search::next_step`: a loop over the kinds; what is remembered stays true. Assumes nothing.
+-- `waiting_search::next_step`: a loop over the kinds; what waits stays right. Assumes nothing.
 use Prim.Native.Nat.{_≤_, _-_}
 use mathlib.Core.Path.{_≡_, sym, _∙_}
 use native.Mathlib.Omega.{arith}
