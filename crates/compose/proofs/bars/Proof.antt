@@ -30,6 +30,9 @@ size-requires-2 c κs = let p = c .before .before .pre in let few = held-few (no
 below32-requires : tie.Need-below32-requires Inv-loop μ-loop
 below32-requires c κs = let e = c .size2 .ensures in let l = held-narrow (c .before .before .before .pre .table) (c .before .before .before .args .j) in omega arith
 
+cast-full : tie.Need-cast-full Inv-loop μ-loop
+cast-full c = search needs
+
 loop-holds : tie.Need-loop-holds Inv-loop μ-loop
 loop-holds c = (omega arith, any-none _)
 
@@ -74,6 +77,7 @@ bars-spec =
     size-requires
     size-requires-2
     below32-requires
+    cast-full
     loop-holds
     row-number-requires
     returns
