@@ -16,7 +16,7 @@ import os
 import re
 import sys
 
-PAGES = ("README.md", "docs/DEMANDS.md", "docs/READING.md", "docs/CONTRIBUTING.md", "docs/DECISIONS.md")
+PAGES = ("README.md", "docs/DEMANDS.md", "docs/READING.md", "docs/CONTRIBUTING.md", "docs/DECISIONS.md", "docs/FORMAT.md")
 INDEXES = ("docs/DEMANDS.md", "docs/READING.md")
 FOLDERS = ("crates", "docs", "rust", "tests", "examples", "include")
 # words that stand for a name
