@@ -1,5 +1,5 @@
 -- A job over a sheet, by what reading the sheet finds. Assumes nothing.
-use mathlib.Core.Path.{_≡_, refl, sym, subst}
+use mathlib.Core.Path.{_≡_, refl, sym, ap, subst, _∙_}
 use mathlib.Core.List.{List}
 use mathlib.Core.Logic.{_⊎_, inl, inr}
 use Prim.Native.Nat.{ℕ}
@@ -29,12 +29,21 @@ pub variables-of : (s : List ℕ) → (problemOf layout s) .n ≡ variablesOf s
 unfolding problemOf
 variables-of s = refl
 
--- a sheet that is accepted keeps the layout, and the table that it fills can be read and holds its problem
-pub sheet-table : (s t : List ℕ) (n m : ℕ) → readSheet layout s ≡ read.Accepted n m → (Keeps layout s → Filled (problemOf layout s) t) → Keeps layout s × RowTable t × (held t ≡ problemOf layout s)
-sheet-table s t n m e F =
-    let K = keeps layout s n m e in
-    let B = problem-bounded s K in
-    (K, filled-rows B (F K), held-filled B (F K))
+-- What reading a sheet into a table answers, and the table: refused, or it keeps the layout, the table can be read and what is done over its
+-- problem is the job over the sheet.
+module _ {x : SheetRead} (s t : List ℕ) (R : (x ≡ readSheet layout s) × (Keeps layout s → Filled (problemOf layout s) t)) where
+  pub table-refused : {r : SheetRefusal} → x ≡ read.Refused r → readSheet layout s ≡ read.Refused r
+  table-refused e = sym (R .0) ∙ e
+
+  module _ {n m : ℕ} (e : x ≡ read.Accepted n m) where
+    pub table-kept : Keeps layout s
+    table-kept = keeps layout s n m (sym (R .0) ∙ e)
+
+    pub table-rows : RowTable t
+    table-rows = filled-rows (problem-bounded s table-kept) (R .1 table-kept)
+
+    pub table-job : {A : Type 0} {job : A} (over : Problem → A) → (Keeps layout s → job ≡ over (problemOf layout s)) → over (held t) ≡ job
+    table-job over k = ap over (held-filled (problem-bounded s table-kept) (R .1 table-kept)) ∙ sym (k table-kept)
 
 module _ {A : Type 0} (s : List ℕ) (refused : SheetRefusal → A) (over : Problem → A) where
   -- the sheet's refusal comes first
