@@ -13,7 +13,6 @@ use Rattle.problem.specs.Problem.{Problem, State}
 use Rattle.problem.specs.Held.{held}
 use Rattle.problem.specs.Masks.{stateOf}
 use Rattle.problem.specs.declared.Masks.{Masks}
-use Rattle.problem.specs.Sentences.{Live, Neighbourhood}
 use Rattle.rests.proofs.Rests.{neighbourhood-rests}
 use Rattle.held.specs.Ready.{Ready, Among}
 use Rattle.held.proofs.Laws.{active-32, live-value}

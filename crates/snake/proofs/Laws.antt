@@ -1,5 +1,5 @@
 -- The snake rule over words, and what its failure rests on. Assumes nothing.
-use mathlib.Core.Path.{_≡_, sym, _∙_, subst}
+use mathlib.Core.Path.{_≡_, sym, subst}
 use mathlib.Core.Bool.{true, false, not, _&&_}
 use mathlib.Core.Logic.{inl, inr, ⊎-elim, _≢_, _↔_, Iff·rfl}
 use mathlib.Core.List.{List}

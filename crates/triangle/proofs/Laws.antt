@@ -1,5 +1,5 @@
 -- The triangle rule over words, and what its failure rests on. Assumes nothing.
-use mathlib.Core.Path.{_≡_, refl, sym, ap, _∙_}
+use mathlib.Core.Path.{_≡_, refl, _∙_}
 use mathlib.Core.Bool.{Bool, _&&_}
 use mathlib.Core.Logic.{inl, inr, _≢_, _↔_, Iff·rfl}
 use mathlib.Core.List.{List}

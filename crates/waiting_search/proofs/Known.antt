@@ -1,11 +1,9 @@
 -- What is known of a state, its unsupported values and what the search waits for, brought up to the next step. Assumes nothing.
 use mathlib.Core.Path.{_≡_, sym, subst}
-use mathlib.Core.Bool.{true}
 use mathlib.Core.List.{List}
 use Prim.Native.Nat.{ℕ, _≤_, _<_}
 use native.Mathlib.Omega.{arith}
 use lib.Dec.{T}
-use Rattle.bounded.specs.Mask.{bit}
 use Rattle.bounded.proofs.Truth.{T-true}
 use Rattle.problem.specs.Problem.{Problem, State, noneEmpty, slideSpares, remove, eliminate}
 use Rattle.problem.specs.Run.{holdsBy, holds, afterEffect, after, next}
@@ -25,7 +23,7 @@ use Rattle.problem.proofs.Run.{next-lawful}
 use Rattle.waiting.specs.Waiting.{Waits, Woken}
 use Rattle.rests.proofs.Changes.{remove-below, eliminate-below, eliminate-keeps, cover-arc, later-arc}
 use Rattle.waiting.proofs.Waiting.{waits-removed, waits-eliminated}
-use Rattle.held.specs.Ready.{Ready, Value}
+use Rattle.held.specs.Ready.{Ready}
 use Rattle.held.proofs.Laws.{live-value, active-32}
 use Rattle.steps.proofs.States.{after-state}
 use Rattle.waiting_unsupported.specs.Words.{AllUnsupported, Mended}

@@ -1,6 +1,6 @@
 -- The tests of a variable that are pending, tried one after another: where one finds a step, where it fails and waits, and where none is
 -- left. Assumes nothing.
-use mathlib.Core.Path.{_≡_, refl, sym, ap, _∙_, subst}
+use mathlib.Core.Path.{_≡_, sym, ap, _∙_, subst}
 use mathlib.Core.Bool.{Bool, true, false, not, _||_}
 use mathlib.Core.List.{List}
 use mathlib.Core.Logic.{inl, inr, ⊎-elim, _≢_}
@@ -26,7 +26,7 @@ use Rattle.problem.specs.declared.Next.the-variants.{Step, Nothing}
 use Rattle.problem.proofs.Reflect.{snake-iff, triangle-iff, neighbourhood-iff, snakeSubstitution-iff}
 use Rattle.problem.proofs.Run.{first-each, stepIf-none}
 use Rattle.problem.proofs.Search.{stepIf-on, first-ext, first-off, first-at, outside}
-use Rattle.problem.specs.Sentences.{Live, Active, Snake, Triangle, Neighbourhood, SnakeSubstitution}
+use Rattle.problem.specs.Sentences.{Live, Snake, Triangle, Neighbourhood, SnakeSubstitution}
 use Rattle.rests.specs.Rests.{Rests, Of}
 use Rattle.rests.proofs.Rests.{rests-fails}
 use Rattle.waiting.specs.Waiting.{groups, rowOf, triangleGroup, substitutions, Passes, TrianglesPending, Waits, Learned, TriangleLearned}

@@ -1,5 +1,4 @@
 -- `waiting::pending_of`: the word of the row. Assumes nothing.
-use lib.ListN.{getD}
 use borrow.Author.Needs.{needs}
 use Rattle.waiting.proofs.pending_of.Statement.{statement}
 use Rattle.waiting.proofs.pending_of.Tie as tie

@@ -1,5 +1,4 @@
 -- `waiting_search::step_from`: each kind by itself, and the numbers that no kind has. Assumes nothing.
-use mathlib.Core.Path.{_≡_}
 use native.Mathlib.Omega.{arith}
 use borrow.Author.Needs.{needs}
 use Rattle.search_order.proofs.Lowest.{no-kind}

@@ -1,6 +1,5 @@
 -- `waiting_search::triangle_variable`: every variable that makes a step with i is still left. Assumes nothing.
-use mathlib.Core.Path.{_≡_, sym, _∙_}
-use mathlib.Core.Bool.{true}
+use mathlib.Core.Path.{sym, _∙_}
 use mathlib.Core.Logic.{_≢_}
 use Prim.Native.Nat.{_<_}
 use native.Mathlib.Omega.{arith}
