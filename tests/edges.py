@@ -7,6 +7,8 @@ import sys
 TOP = pathlib.Path(__file__).resolve().parent.parent
 # libraries of the kit that a program is linked with though no line of its own names them
 LINKED = {"libc"}
+# crates whose types stand in a type that is used, though no line names them: a refusal of putting back holds a sheet's
+WITHIN = {"replay": {"sheet"}}
 
 
 def listed():
@@ -41,7 +43,7 @@ def main():
         for other in sorted(uses - has):
             print(f"{crate} uses {other}, which its line does not name")
             faults += 1
-        for other in sorted(has - uses - LINKED):
+        for other in sorted(has - uses - LINKED - WITHIN.get(crate, set())):
             print(f"{crate} names {other}, which no file of it uses")
             faults += 1
     print(f"{sum(len(has) for has in edges.values())} edges of {len(edges)} crates, {faults} out of order")
