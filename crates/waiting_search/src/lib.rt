@@ -1,6 +1,5 @@
 // The search of the engine that waits: the next step in the order that the format requires, the lowest kind that holds anywhere, then the
-// lowest fields; and what is known of the state that it leads to. A test is made where it is pending: what is not has failed, and what its
-// failure rests on has not changed.
+// lowest fields; and what is known of the state that it leads to.
 ghost use mathlib.Core.Path.{_≡_};
 ghost use mathlib.Core.Bool.{true};
 ghost use Prim.Native.Nat.{_<_};
@@ -16,144 +15,25 @@ ghost use Rattle.search_order.specs.Lowest.{stepFrom};
 ghost use Rattle.waiting.specs.Waiting.{rows, waitingLength, Waits};
 ghost use Rattle.waiting_unsupported.specs.Words.{AllUnsupported, Mended};
 ghost use Rattle.waiting_search.specs.Known.{ValueWoken, Mendable, MendedBy};
-use bounded::has16;
-use bounded::has32;
-use bounded::lowest16;
-use bounded::lowest32;
-use bounded::without16;
-use bounded::without32;
-use neighbourhood::neighbourhood_rests;
 use problem::Masks;
 use problem::Next;
 use problem::Record;
 use problem::is_step;
-use snake::snake_rests;
-use snake_substitution::lowest_substitution;
-use snake_substitution::substitution_rests;
 use steps::apply;
-use triangle::triangle_rests;
-use waiting::NEIGHBOURHOODS;
 use waiting::ROWS;
-use waiting::SNAKES;
-use waiting::SUBSTITUTIONS;
 use waiting::WAITING;
-use waiting::learn;
-use waiting::learn_triangle;
-use waiting::pending_of;
-use waiting::pending_triangles;
 use waiting::wake;
 use waiting::wake_triangles;
 use waiting_unsupported::mend_unsupported;
 use waiting_unsupported::unsupported_variable;
+use waiting_variable::neighbourhood_variable;
+use waiting_variable::snake_variable;
+use waiting_variable::substitution_variable;
+use waiting_variable::triangle_variable;
 
-// ---- the lowest step of a kind from a variable
+// ---- the next step
 
-fn snake_variable(
-    t: &[u16],
-    active: u32,
-    on: &[u16; 32],
-    pending: &mut [u16; ROWS],
-    waiting: &mut [u16; WAITING],
-    i: usize,
-) -> Next
-    requires { ⌜ Ready (now t) (sets active (now on)) × Waits (held (now t)) (stateOf (sets active (now on))) (now pending) (now waiting) × (i < 32) ⌝ }
-    ensures is { λ r. ⌜ r ≡ stepFrom (held (now (t .entry))) (stateOf (sets active (now (on .entry)))) 2 i ⌝ }
-    ensures waits { λ _. ⌜ Waits (held (now (t .entry))) (stateOf (sets active (now (on .entry)))) (now (pending .exit)) (now (waiting .exit)) ⌝ }
-{
-    let mut left = pending_of(pending, SNAKES, i) & on[i];
-    while left != 0 {
-        let v = lowest16(left);
-        let fails = snake_rests(t, active, on, i, v);
-        if fails == 0 {
-            return Next::Step(Record::Snake(i, v));
-        }
-        learn(pending, waiting, fails, SNAKES, i, v);
-        left = without16(left, v);
-    }
-    Next::Nothing
-}
-
-fn triangle_variable(
-    t: &[u16],
-    active: u32,
-    on: &[u16; 32],
-    pending: &mut [u16; ROWS],
-    waiting: &mut [u16; WAITING],
-    i: usize,
-) -> Next
-    requires { ⌜ Ready (now t) (sets active (now on)) × Waits (held (now t)) (stateOf (sets active (now on))) (now pending) (now waiting) × (i < 32) ⌝ }
-    ensures is { λ r. ⌜ r ≡ stepFrom (held (now (t .entry))) (stateOf (sets active (now (on .entry)))) 3 i ⌝ }
-    ensures waits { λ _. ⌜ Waits (held (now (t .entry))) (stateOf (sets active (now (on .entry)))) (now (pending .exit)) (now (waiting .exit)) ⌝ }
-{
-    if !has32(active, i) {
-        return Next::Nothing;
-    }
-    let mut left = without32(active & pending_triangles(pending, i), i);
-    while left != 0 {
-        let j = lowest32(left);
-        let found = triangle_rests(t, active, on, i, j);
-        if found.by == 16 {
-            return Next::Step(Record::Triangle(i, j));
-        }
-        learn_triangle(pending, waiting, found.rests, i, j, found.by);
-        left = without32(left, j);
-    }
-    Next::Nothing
-}
-
-// The values that substitute for b are found together, and the lowest is taken.
-fn neighbourhood_variable(
-    t: &[u16],
-    active: u32,
-    on: &[u16; 32],
-    pending: &mut [u16; ROWS],
-    waiting: &mut [u16; WAITING],
-    i: usize,
-) -> Next
-    requires { ⌜ Ready (now t) (sets active (now on)) × Waits (held (now t)) (stateOf (sets active (now on))) (now pending) (now waiting) × (i < 32) ⌝ }
-    ensures is { λ r. ⌜ r ≡ stepFrom (held (now (t .entry))) (stateOf (sets active (now (on .entry)))) 4 i ⌝ }
-    ensures waits { λ _. ⌜ Waits (held (now (t .entry))) (stateOf (sets active (now (on .entry)))) (now (pending .exit)) (now (waiting .exit)) ⌝ }
-{
-    let mut left = pending_of(pending, NEIGHBOURHOODS, i) & on[i];
-    while left != 0 {
-        let b = lowest16(left);
-        let found = neighbourhood_rests(t, active, on, i, b);
-        if found.left != 0 {
-            return Next::Step(Record::Neighbourhood(i, b, lowest16(found.left)));
-        }
-        learn(pending, waiting, found.rests, NEIGHBOURHOODS, i, b);
-        left = without16(left, b);
-    }
-    Next::Nothing
-}
-
-// All values of a variable are one test.
-fn substitution_variable(
-    t: &[u16],
-    active: u32,
-    on: &[u16; 32],
-    pending: &mut [u16; ROWS],
-    waiting: &mut [u16; WAITING],
-    i: usize,
-) -> Next
-    requires { ⌜ Ready (now t) (sets active (now on)) × Waits (held (now t)) (stateOf (sets active (now on))) (now pending) (now waiting) × (i < 32) ⌝ }
-    ensures is { λ r. ⌜ r ≡ stepFrom (held (now (t .entry))) (stateOf (sets active (now (on .entry)))) 5 i ⌝ }
-    ensures waits { λ _. ⌜ Waits (held (now (t .entry))) (stateOf (sets active (now (on .entry)))) (now (pending .exit)) (now (waiting .exit)) ⌝ }
-{
-    if !has16(pending_of(pending, SUBSTITUTIONS, i), 0) | (on[i] == 0) {
-        return Next::Nothing;
-    }
-    let mut goals = [0u16; 16];
-    let rests = substitution_rests(t, active, on, &mut goals, i);
-    let found = lowest_substitution(&goals, i);
-    if is_step(found) {
-        return found;
-    }
-    learn(pending, waiting, rests, SUBSTITUTIONS, i, 0);
-    Next::Nothing
-}
-
-// Of a number that no kind has, none.
+// The lowest step of a kind from a variable. Of a number that no kind has, none.
 fn step_from(
     t: &[u16],
     active: u32,
@@ -177,8 +57,6 @@ fn step_from(
         _ => Next::Nothing,
     }
 }
-
-// ---- the next step
 
 // The lowest step of a kind; of a number that no kind has, none.
 fn next_of_kind(

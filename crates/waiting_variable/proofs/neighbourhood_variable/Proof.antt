@@ -1,4 +1,4 @@
--- `waiting_search::neighbourhood_variable`: every value that another substitutes for is still left. Assumes nothing.
+-- `waiting_variable::neighbourhood_variable`: every value that another substitutes for is still left. Assumes nothing.
 use mathlib.Core.Path.{_≡_}
 use mathlib.Core.Bool.{true}
 use Prim.Native.Nat.{_<_}
@@ -11,9 +11,9 @@ use Rattle.problem.specs.Masks.{stateOf, sets}
 use Rattle.held.proofs.Laws.{bit-value}
 use Rattle.waiting.specs.Waiting.{Waits}
 use Rattle.search_order.proofs.Lowest.{Seeking, seeking-hit, seeking-end}
-use Rattle.waiting_search.proofs.Trying.{value-turn, neighbourhood-made, neighbourhood-found, values-first, values-next}
-use Rattle.waiting_search.proofs.neighbourhood_variable.Statement.{statement}
-use Rattle.waiting_search.proofs.neighbourhood_variable.Tie as tie
+use Rattle.waiting_variable.proofs.Trying.{value-turn, neighbourhood-made, neighbourhood-found, values-first, values-next}
+use Rattle.waiting_variable.proofs.neighbourhood_variable.Statement.{statement}
+use Rattle.waiting_variable.proofs.neighbourhood_variable.Tie as tie
 
 abbrev Inv-loop : tie.InvT-loop
 Inv-loop t active on pending₀ waiting₀ i left₀ pending waiting left =

@@ -1,4 +1,4 @@
--- `waiting_search::triangle_variable`: every variable that makes a step with i is still left. Assumes nothing.
+-- `waiting_variable::triangle_variable`: every variable that makes a step with i is still left. Assumes nothing.
 use mathlib.Core.Path.{sym, _∙_}
 use mathlib.Core.Logic.{_≢_}
 use Prim.Native.Nat.{_<_}
@@ -13,9 +13,9 @@ use Rattle.problem.specs.Masks.{stateOf, sets}
 use Rattle.waiting.specs.Waiting.{Waits}
 use Rattle.waiting_unsupported.proofs.Words.{at-lowest}
 use Rattle.search_order.proofs.Lowest.{Seeking, seeking-hit, seeking-end}
-use Rattle.waiting_search.proofs.Trying.{triangle-found, triangles-first, triangles-next, triangles-off}
-use Rattle.waiting_search.proofs.triangle_variable.Statement.{statement}
-use Rattle.waiting_search.proofs.triangle_variable.Tie as tie
+use Rattle.waiting_variable.proofs.Trying.{triangle-found, triangles-first, triangles-next, triangles-off}
+use Rattle.waiting_variable.proofs.triangle_variable.Statement.{statement}
+use Rattle.waiting_variable.proofs.triangle_variable.Tie as tie
 
 abbrev Inv-loop : tie.InvT-loop
 Inv-loop t active on pending₀ waiting₀ i left₀ pending waiting left = Seeking (held t) (stateOf (sets active on)) 3 i left₀ left × Waits (held t) (stateOf (sets active on)) pending waiting

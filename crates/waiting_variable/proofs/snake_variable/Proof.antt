@@ -1,4 +1,4 @@
--- `waiting_search::snake_variable`: every value that makes a step is still left. Assumes nothing.
+-- `waiting_variable::snake_variable`: every value that makes a step is still left. Assumes nothing.
 use mathlib.Core.Path.{_≡_}
 use mathlib.Core.Bool.{true}
 use Prim.Native.Nat.{_<_}
@@ -10,9 +10,9 @@ use Rattle.problem.specs.Held.{held}
 use Rattle.problem.specs.Masks.{stateOf, sets}
 use Rattle.waiting.specs.Waiting.{Waits}
 use Rattle.search_order.proofs.Lowest.{Seeking, seeking-hit, seeking-end}
-use Rattle.waiting_search.proofs.Trying.{value-turn, snake-made, snake-found, values-first, values-next}
-use Rattle.waiting_search.proofs.snake_variable.Statement.{statement}
-use Rattle.waiting_search.proofs.snake_variable.Tie as tie
+use Rattle.waiting_variable.proofs.Trying.{value-turn, snake-made, snake-found, values-first, values-next}
+use Rattle.waiting_variable.proofs.snake_variable.Statement.{statement}
+use Rattle.waiting_variable.proofs.snake_variable.Tie as tie
 
 abbrev Inv-loop : tie.InvT-loop
 Inv-loop t active on pending₀ waiting₀ i left₀ pending waiting left =

@@ -1,4 +1,4 @@
--- `waiting_search::substitution_variable`: the lowest goal left, or a failure that is entered. Assumes nothing.
+-- `waiting_variable::substitution_variable`: the lowest goal left, or a failure that is entered. Assumes nothing.
 use mathlib.Core.Path.{_≡_, sym, _∙_}
 use native.Mathlib.Omega.{arith}
 use borrow.Author.Needs.{needs}
@@ -7,9 +7,9 @@ use Rattle.problem.specs.Masks.{stateOf, sets}
 use Rattle.problem.proofs.Search.{nothing-is}
 use Rattle.waiting.proofs.Waiting.{waits-learned}
 use Rattle.search_order.specs.Lowest.{stepFrom}
-use Rattle.waiting_search.proofs.Trying.{goals-first, goals-rest, goals-none}
-use Rattle.waiting_search.proofs.substitution_variable.Statement.{statement}
-use Rattle.waiting_search.proofs.substitution_variable.Tie as tie
+use Rattle.waiting_variable.proofs.Trying.{goals-first, goals-rest, goals-none}
+use Rattle.waiting_variable.proofs.substitution_variable.Statement.{statement}
+use Rattle.waiting_variable.proofs.substitution_variable.Tie as tie
 
 returns : tie.Need-returns
 returns c =
