@@ -2,7 +2,8 @@
 
 The pages are those of PAGES. Looked at, and in blocks of code only paths:
 - a name with a place, as `run-worked`, run: Worked (crates/run/proofs/Worked.antt), or `runJob`, run/specs/Run.antt: the file declares it;
-- a name with a hyphen: some file declares it, and in INDEXES one that its table row, list item or paragraph names, or that the page places it in;
+- a name with a hyphen: some file declares it; on the pages of INDEXES one that its table row, list item or paragraph names, or that the page
+  has it placed in;
 - the names of a table whose last column is headed "file": declared in the files of that column ("same": those of the row above);
 - the names of a column headed "field of `R`": the fields of the record R, all of them;
 - a function, as `held::rows_at`: the sources of that crate have it;
@@ -139,7 +140,8 @@ class Page:
                     if not glob.glob(f"crates/*/*/{place['beside']}.antt") and not STANDS_FOR.search(place[0]):
                         self.fault(line, f"no crate has {place[0]}")
                     continue
-                files = [self.beside(some, place["within"] or folder, place["beside"]) for some in crates if not of or some in self.tree.crates]
+                known = [some for some in crates if some in self.tree.crates]
+                files = [self.beside(some, place["within"] or folder, place["beside"]) for some in known]
             for file in files:
                 if not os.path.isfile(file):
                     self.fault(line, f"no file {file}")
