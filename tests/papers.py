@@ -189,7 +189,7 @@ class Page:
         """A case of an enum that the file reads; or, where it is said to be one, a field or a case of what the crate defines."""
         crates = {file.split("/")[1] for file in files}
         read_there = any(re.search(rf"\b{re.escape(name)}\b", read(file)) for file in files if os.path.isfile(file))
-        if read_there and self.tree.has(glob.glob("crates/*/src/lib.rt"), name):
+        if read_there and name[0].isupper() and self.tree.has(glob.glob("crates/*/src/lib.rt"), name):
             return True
         defined = [file for crate in crates for file in glob.glob(f"crates/{crate}/specs/*.antt")]
         return bool(said) and (read_there or self.tree.has(defined, name))
