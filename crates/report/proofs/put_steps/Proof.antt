@@ -1,6 +1,7 @@
 -- `report::put_steps`: the step lines, written one by one. Assumes nothing.
 use mathlib.Core.Path.{sym, _∙_}
 use Prim.Native.Nat.{_-_}
+use native.Mathlib.Numerals.{unary-clauses}
 use native.Mathlib.Omega.{arith}
 use Rattle.report.proofs.Records.{read-small}
 use Rattle.fields.specs.Print.{stepLines}
@@ -18,7 +19,7 @@ abbrev μ-loop : tie.MeasureT-loop
 μ-loop out₀ at trace steps place₀ end₀ k₀ out place end k = steps - k
 
 loop-holds : tie.Need-loop-holds Inv-loop μ-loop
-loop-holds c = putting-start _ _ _ _ _ (c .before .before .pre .1)
+loop-holds c = simp unary-clauses (putting-start _ _ _ _ _ (c .before .before .pre .1))
 
 put-step-line-requires : tie.Need-put-step-line-requires Inv-loop μ-loop
 put-step-line-requires c κs =
