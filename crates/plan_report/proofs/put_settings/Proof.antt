@@ -28,13 +28,14 @@ loop-again : tie.Need-loop-again Inv-loop μ-loop
 loop-again c =
     let w = c .before .before .before .before .before .before .loop in
     let p = c .before .before .put-field .ensures in
-    putting-next _ _ _ _ _ _ _ _ _ (w .inv) (omega arith) _ _ (one-field _ _ (omega arith)) _ _ (p .0) (p .1)
+    let a = c .before .before .before .before .before .before .before .before .before .args in
+    putting-next _ _ _ _ _ _ _ _ _ (w .inv) (omega arith) _ _ (one-field (a .plan .now) (w .k) (omega arith)) _ _ (p .0) (p .1)
 
 same-length : tie.Need-same-length Inv-loop μ-loop
 same-length c = kept-length _ _ _ _ _ _ _ _ _ (c .before .loop .inv)
 
 returns : tie.Need-returns Inv-loop μ-loop
-returns c = let w = c .before .loop in (all-put _ _ _ _ _ _ _ _ _ (w .inv) (no-field _ _ (omega arith)), omega (arith, w .inv .within, w .inv .turn))
+returns c = let w = c .before .loop in let a = c .before .before .before .before .args in (all-put _ _ _ _ _ _ _ _ _ (w .inv) (no-field (a .plan .now) (w .k) (omega arith)), omega (arith, w .inv .within, w .inv .turn))
 
 pub put-settings-spec : {M : Type 1} → statement M
 put-settings-spec =
