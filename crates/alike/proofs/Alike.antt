@@ -1,7 +1,6 @@
 -- Every job but the move answers on the moved sheet as on the sheet, for all that it is lent besides, refused or not, and leaves the same
 -- bytes: one law, and a corollary for each job. Assumes nothing.
 use mathlib.Core.Path.{_≡_, refl, sym, ap, _∙_}
-use mathlib.Core.Bool.{Bool}
 use mathlib.Core.List.{List, [], _∷_}
 use Prim.Native.Nat.{ℕ}
 use Rattle.problem.specs.Problem.{Problem}
@@ -40,13 +39,10 @@ module _ (s : List ℕ) (K : Keeps layout s) where
       blocks : blocksOf (movedBytes s) ≡ blocksOf s
       blocks = blocks-counted layout (movedBytes s) (move-keeps s K) ∙ ap (λ (P : Problem). blockCount P 1024 0) (move-same s K) ∙ sym (blocks-counted layout s K)
 
-  -- the run, by either rulebook
-  pub run-alike-by : (spare : Bool) (b : List ℕ) → runJob (movedBytes s) b ≡ runJob s b
-  unfolding runJob
-  run-alike-by spare b = sheet-alike _ _
-
+  -- the run
   pub run-alike : (b : List ℕ) → runJob (movedBytes s) b ≡ runJob s b
-  run-alike b = run-alike-by _ b
+  unfolding runJob
+  run-alike b = sheet-alike _ _
 
   -- taking out by hand
   pub start-alike : startJob (movedBytes s) ≡ startJob s
@@ -62,13 +58,10 @@ module _ (s : List ℕ) (K : Keeps layout s) where
   calls-alike st [] = refl
   calls-alike st (i ∷ l) = ap (λ (y : CallAnswer). callsJob (movedBytes s) (y .state) l) (call-alike st i) ∙ calls-alike ((callJob s st i) .state) l
 
-  -- putting back, by either rulebook
-  pub put-back-alike-by : (spare : Bool) (t p b : List ℕ) → putBackJob (movedBytes s) t p b ≡ putBackJob s t p b
-  unfolding putBackJob
-  put-back-alike-by spare t p b = sheet-alike _ _
-
+  -- putting back
   pub put-back-alike : (t p b : List ℕ) → putBackJob (movedBytes s) t p b ≡ putBackJob s t p b
-  put-back-alike t p b = put-back-alike-by _ t p b
+  unfolding putBackJob
+  put-back-alike t p b = sheet-alike _ _
 
   -- picking
   pub pick-alike : (b p : List ℕ) → pickJob (movedBytes s) b p ≡ pickJob s b p
