@@ -4,7 +4,7 @@ use mathlib.Core.Bool.{Bool, true, false, not, _&&_}
 use mathlib.Core.Logic.{_≢_}
 use Prim.Native.Nat.{ℕ}
 use lib.Dec.{eqb}
-use Rattle.bounded.specs.Bounded.{imp}
+use Rattle.bounded.specs.Quantifiers.{imp}
 use Rattle.bounded.proofs.Truth.{T-of, clash, both, not-iff, eqb-iff}
 
 pub guard : (a b : Bool) (k i : ℕ) → (a && (b && not (eqb k i))) ≡ true → (a ≡ true) × (b ≡ true) × (k ≢ i)

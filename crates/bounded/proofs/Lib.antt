@@ -1,5 +1,5 @@
 pub mod Truth
-pub mod Bounded
+pub mod Quantifiers
 pub mod Loops
 pub mod Mask
 pub mod Members

@@ -7,9 +7,9 @@ use Prim.Native.Nat.{ℕ, _+_, _≤_, _<_}
 use native.Mathlib.Numerals.{add-one}
 use native.Mathlib.Omega.{arith}
 use lib.Dec.{T}
-use Rattle.bounded.specs.Bounded.{allBelow, anyBelow, lowest, atLowest, sumTo}
+use Rattle.bounded.specs.Quantifiers.{allBelow, anyBelow, lowest, atLowest, sumTo}
 use Rattle.bounded.proofs.Truth.{T-true, T-false, T-of, T-not, T-ext, split, or-iff, at-or-below}
-use Rattle.bounded.proofs.Bounded.{all-iff, any-iff, lowest-is, lowest-unique, lowest-least}
+use Rattle.bounded.proofs.Quantifiers.{all-iff, any-iff, lowest-is, lowest-unique, lowest-least}
 
 -- ---- all
 

@@ -11,10 +11,10 @@ use lib.Bits.{bitAnd, and-step, and-shr, and-le-l, and-le-r, bitOr, or-step, or-
 use lib.Count.{leadingZeros, leading-top, trailingZeros, under}
 use lib.Pow.{shr-shr, pow-add, pow-mono, pow-pos, high}
 use borrow.Author.Tests.{eq-eqb, ne-eqb, eqb-true, eqb-false, lt-ltb, le-ltb}
-use Rattle.bounded.specs.Bounded.{allBelow, anyBelow, lowest, atLowest, imp}
+use Rattle.bounded.specs.Quantifiers.{allBelow, anyBelow, lowest, atLowest, imp}
 use Rattle.bounded.specs.Mask.{bit, maskOf, without, Highest}
 use Rattle.bounded.proofs.Truth.{T-ext, T-of, T-not, and-iff, or-iff, imp-iff, eqb-iff, split, clash, at-or-below, eq-dec, lt-dec}
-use Rattle.bounded.proofs.Bounded.{all-iff, lowest-here, lowest-later}
+use Rattle.bounded.proofs.Quantifiers.{all-iff, lowest-here, lowest-later}
 use Rattle.bounded.proofs.Loops.{any-each, any-intro, at-lowest-some, at-lowest-end}
 
 -- ---- a digit is 0 or 1

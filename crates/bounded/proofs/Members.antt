@@ -8,10 +8,10 @@ use native.Mathlib.Omega.{arith}
 use lib.Bits.{bitAnd, and-le-l, and-le-r}
 use lib.Dec.{T, eqb}
 use borrow.Author.Tests.{ne-eqb}
-use Rattle.bounded.specs.Bounded.{anyBelow, lowest}
+use Rattle.bounded.specs.Quantifiers.{anyBelow, lowest}
 use Rattle.bounded.specs.Mask.{bit, without, Highest}
 use Rattle.bounded.proofs.Truth.{T-of, T-not, split, clash, and-iff, imp-iff, not-iff, eqb-iff, eq-dec}
-use Rattle.bounded.proofs.Bounded.{all-iff, any-iff, lowest-is, lowest-le, lowest-least}
+use Rattle.bounded.proofs.Quantifiers.{all-iff, any-iff, lowest-is, lowest-le, lowest-least}
 use Rattle.bounded.proofs.Mask.{bit-and, member-some, within, zero-bits}
 
 -- the lowest member of a set that is not empty

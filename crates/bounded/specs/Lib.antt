@@ -1,3 +1,3 @@
-pub mod Bounded
+pub mod Quantifiers
 pub mod Mask
 pub mod Table

@@ -4,7 +4,7 @@ ghost use mathlib.Core.Bool.{cond};
 ghost use mathlib.Core.Logic.{_≢_};
 ghost use Prim.Native.Nat.{_-_, _^_, _<_, _≤_};
 ghost use lib.Bits.{bitOr};
-ghost use Rattle.bounded.specs.Bounded.{lowest, oneIf};
+ghost use Rattle.bounded.specs.Quantifiers.{lowest, oneIf};
 ghost use Rattle.bounded.specs.Mask.{bit, without as withoutOf, Highest};
 
 // Whether c is in a set of 32.

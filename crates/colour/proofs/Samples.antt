@@ -1,6 +1,6 @@
 -- The samples of colouring files, by computation. Assumes nothing.
 use mathlib.Core.Path.{_≡_, refl}
-use Rattle.bounded.specs.Bounded as bounded
+use Rattle.bounded.specs.Quantifiers as bounded
 use Rattle.bounded.specs.Mask as mask
 use Rattle.bounded.specs.Table as table
 use Rattle.problem.specs.Problem as problem

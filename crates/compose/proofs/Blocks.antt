@@ -11,7 +11,7 @@ use lib.Pow.{pow-mono}
 use borrow.Author.Tests.{leb-true}
 use Rattle.bounded.specs.Mask.{bit}
 use Rattle.bounded.proofs.Truth.{T-of, T-false, clash, not-iff}
-use Rattle.bounded.proofs.Bounded.{any-iff}
+use Rattle.bounded.proofs.Quantifiers.{any-iff}
 use Rattle.problem.specs.Problem.{Problem}
 use Rattle.problem.proofs.HeldTable.{row-sized}
 use Rattle.sheet.specs.Sheet.{Layout, layout, variablesOf, sizeAt, rowWidth, Keeps}

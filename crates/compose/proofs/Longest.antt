@@ -9,7 +9,7 @@ use native.Mathlib.Omega.{arith}
 use lib.Dec.{ltb}
 use lib.ListN.{length, length-append}
 use borrow.Author.Tests.{lt-ltb, le-ltb}
-use Rattle.bounded.specs.Bounded.{anyBelow}
+use Rattle.bounded.specs.Quantifiers.{anyBelow}
 use Rattle.bounded.proofs.Truth.{T-true, clash}
 use Rattle.problem.specs.Problem.{Problem}
 use Rattle.problem.specs.Held.{Bounded}

@@ -1,7 +1,7 @@
 -- Bench sheets, byte for byte, from the problems that they are. Assumes nothing.
 use mathlib.Core.Path.{_≡_, refl}
 use mathlib.Core.List.{[], _∷_}
-use Rattle.bounded.specs.Bounded.{anyBelow}
+use Rattle.bounded.specs.Quantifiers.{anyBelow}
 use Rattle.bounded.specs.Mask.{maskOf}
 use Rattle.bounded.specs.Table.{tab}
 use Rattle.problem.specs.Problem.{bothWays}

@@ -10,7 +10,7 @@ use lib.ListN.{length, getD, set, length-append, List·getD-append}
 use lib.Pow.{pow-pos}
 use lib.Seq.{sets}
 use borrow.Author.Tests.{lt-ltb, le-ltb}
-use Rattle.bounded.specs.Bounded.{oneIf}
+use Rattle.bounded.specs.Quantifiers.{oneIf}
 use Rattle.bounded.specs.Table.{tab, filled}
 use Rattle.bounded.proofs.Truth.{lt-dec}
 use Rattle.bounded.proofs.Table.{length-tab, getD-tab}

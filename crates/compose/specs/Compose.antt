@@ -5,7 +5,7 @@ use mathlib.Core.List.{List, [], _∷_, _++_}
 use Prim.Native.Nat.{ℕ, zero, suc, _+_, _/_, _%_, _^_, _≤_}
 use lib.Dec.{ltb}
 use lib.ListN.{length}
-use Rattle.bounded.specs.Bounded.{anyBelow, oneIf}
+use Rattle.bounded.specs.Quantifiers.{anyBelow, oneIf}
 use Rattle.bounded.specs.Mask.{maskOf}
 use Rattle.bounded.specs.Table.{tab}
 use Rattle.problem.specs.Problem.{Problem}

@@ -4,7 +4,7 @@ use mathlib.Core.Bool.{true}
 use mathlib.Core.List.{List, _∷_, _++_}
 use Prim.Native.Nat.{ℕ, _+_, _*_, _<_, _≤_}
 use lib.ListN.{length}
-use Rattle.bounded.specs.Bounded.{oneIf}
+use Rattle.bounded.specs.Quantifiers.{oneIf}
 use Rattle.problem.specs.Problem.{Problem}
 use Rattle.problem.specs.Held.{held, RowTable}
 use Rattle.buffers.specs.Bytes.{byteAt, numberBytes}

@@ -8,10 +8,10 @@ use lib.Dec.{T}
 use native.Mathlib.Nat.{lt-trans, lt-of-le-of-lt}
 use lib.Bits.{bitAnd, and-le-l}
 use lib.ListN.{getD}
-use Rattle.bounded.specs.Bounded.{imp, allBelow, lowest, atLowest}
+use Rattle.bounded.specs.Quantifiers.{imp, allBelow, lowest, atLowest}
 use Rattle.bounded.specs.Mask.{bit, without}
 use Rattle.bounded.proofs.Truth.{T-ext, T-not, T-false, T-true, split, clash, and-iff, imp-iff, imp-fails, not-iff, eqb-iff}
-use Rattle.bounded.proofs.Bounded.{all-iff, any-iff}
+use Rattle.bounded.proofs.Quantifiers.{all-iff, any-iff}
 use Rattle.bounded.proofs.Mask.{bit-and, bit-not16, bit-mask, bit-without32, mask-lt, member-lt, without-met}
 use Rattle.bounded.proofs.Members.{lowest-member}
 use Rattle.bounded.proofs.Loops.{all-intro, all-fail, lowest-or, at-lowest-is, at-lowest-none, at-lowest-same, at-lowest-ext}

@@ -11,10 +11,10 @@ use lib.Dec.{T, eqb}
 use lib.ListN.{getD}
 use lib.Pow.{pow-pos}
 use borrow.Author.Tests.{ne-eqb}
-use Rattle.bounded.specs.Bounded.{imp, allBelow}
+use Rattle.bounded.specs.Quantifiers.{imp, allBelow}
 use Rattle.bounded.specs.Mask.{bit, maskOf, without}
 use Rattle.bounded.proofs.Truth.{T-ext, T-of, T-dec, T-true, T-false, split, clash, and-iff, imp-iff, not-iff}
-use Rattle.bounded.proofs.Bounded.{all-iff}
+use Rattle.bounded.proofs.Quantifiers.{all-iff}
 use Rattle.bounded.proofs.Mask.{bit-and, bit-not16, bit-mask, bit-without32, mask-ext, member-lt, member-some, with-keeps, with-has, with-lt, within}
 use Rattle.bounded.proofs.Members.{Sought, sought-all, sought-none, without-gone}
 use Rattle.problem.specs.Problem.{Problem, State}

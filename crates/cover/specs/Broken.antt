@@ -15,7 +15,7 @@ module _ (P : Problem) (s : State) where
     pub at : (u : ℕ) → T (bit good u) → (T (bit left u) → ⊥) → (l : ℕ) × (l < 32) × T (bit broken l) × T (bit rest l) × (spoiler P s i u j w l ≢ Holds)
 
   -- a value of `bad`, not one of `good`, for which each of `good` breaks; r has j and the variables where they do
-  pub record Fault (rest good bad j r : ℕ) : Type 0 where
+  pub record UnservedBy (rest good bad j r : ℕ) : Type 0 where
     pub w : ℕ
     pub small : w < 16
     pub asked : T (bit bad w)
@@ -26,4 +26,4 @@ module _ (P : Problem) (s : State) where
   -- 0 where each of `bad` that is not one of `good` is served by one of `good`, else why one is not
   pub record UnservedIn (rest good bad j r : ℕ) : Type 0 where
     pub served : r ≡ 0 → T (allServedIn P s rest good bad j)
-    pub fails : r ≢ 0 → Fault rest good bad j r
+    pub fails : r ≢ 0 → UnservedBy rest good bad j r

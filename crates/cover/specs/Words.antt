@@ -3,7 +3,7 @@ use mathlib.Core.Bool.{Bool, true, false, not, _&&_}
 use Prim.Native.Nat.{ℕ}
 use lib.Bits.{bitAnd}
 use lib.Dec.{eqb}
-use Rattle.bounded.specs.Bounded.{imp, allBelow, anyBelow, atLowest}
+use Rattle.bounded.specs.Quantifiers.{imp, allBelow, anyBelow, atLowest}
 use Rattle.bounded.specs.Mask.{bit, maskOf, without}
 use Rattle.problem.specs.Held.{rowWord}
 use Rattle.problem.specs.Problem.{Problem, State, maxValues, unspoilt, breakAt, unbroken, spoiler}

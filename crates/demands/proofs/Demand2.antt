@@ -4,7 +4,7 @@ use mathlib.Core.List.{List, [], _∷_}
 use mathlib.Core.Logic.{_⊎_, inl, inr}
 use Prim.Native.Nat.{ℕ}
 use lib.Dec.{T}
-use Rattle.bounded.specs.Bounded as bounded
+use Rattle.bounded.specs.Quantifiers as bounded
 use Rattle.bounded.specs.Mask as mask
 use Rattle.bounded.specs.Table as table
 use Rattle.problem.specs.Problem as problem
@@ -55,7 +55,7 @@ module _ (P : Problem) where
 -- sheet E: two plans, and eight once item 0 is out
 more-plans : (solutionCount (sheetProblem sheetE) (fullSheet sheetE) ≡ 2)
     × (solutionCount (sheetProblem sheetE) (afterTrace (sheetProblem sheetE) (fullSheet sheetE) (Snake 0 0 ∷ [])) ≡ 8)
-unfolding bounded.allBelow bounded.anyBelow bounded.lowest bounded.atLowest bounded.sumTo bounded.countBelow mask.maskOf table.tab problem.bothWays problem.full problem.stateFits problem.allActive problem.allLive problem.anyLive problem.lowestLive problem.allOther problem.allThird problem.noneEmpty problem.spoils problem.spoiler problem.unsupported problem.snakeServes problem.snake problem.triangleServes problem.triangle problem.neighbourhood problem.slideServes problem.snakeSubstitution problem.breaks problem.firstBreak problem.coverAsked problem.remove problem.eliminate problem.liveCount problem.sizeSum run·.holdsBy run·.lawfulBy run·.brokenCover run·.after run·.afterTrace run·.stepIf run·.first run·.nextUnsupported run·.nextSnake run·.nextTriangle run·.nextNeighbourhood run·.nextSnakeSubstitutionBy run·.nextOfKindBy run·.nextBy run·.runFromBy run·.runBy run·.endOf hand·.supported hand·.prune hand·.pruneTimes hand·.start hand·.call back·.solves back·.put back·.repair back·.undo back·.undoTrace packed.stateOf packed.masksOf solutions.solutionsFrom solutions.solutionCount solutions.solvable sheet.beyond sheet.allowsAll sheet.blockOf sheet.blockAt sheet.blocksFrom sheet.badSizes sheet.readSheet relation.rowsFrom relation.rowsOf relation.pairAllowed relation.sizeOf relation.listed relation.allowedOf relation.problemOf
+unfolding bounded.allBelow bounded.anyBelow bounded.lowest bounded.atLowest bounded.sumTo bounded.countBelow mask.maskOf table.tab problem.bothWays problem.full problem.stateFits problem.allActive problem.allLive problem.anyLive problem.lowestLive problem.allOther problem.allThird problem.noneEmpty problem.spoils problem.spoiler problem.unsupported problem.snakeServes problem.snake problem.triangleServes problem.triangle problem.neighbourhood problem.substitutionServes problem.snakeSubstitution problem.breaks problem.firstBreak problem.coverAsked problem.remove problem.eliminate problem.liveCount problem.sizeSum run·.holdsBy run·.lawfulBy run·.brokenCover run·.after run·.afterTrace run·.stepIf run·.first run·.nextUnsupported run·.nextSnake run·.nextTriangle run·.nextNeighbourhood run·.nextSnakeSubstitutionBy run·.nextOfKindBy run·.nextBy run·.runFromBy run·.runBy run·.endOf hand·.supported hand·.prune hand·.pruneTimes hand·.start hand·.call back·.solves back·.put back·.repair back·.undo back·.undoTrace packed.stateOf packed.masksOf solutions.solutionsFrom solutions.solutionCount solutions.solvable sheet.beyond sheet.allowsAll sheet.blockOf sheet.blockAt sheet.blocksFrom sheet.badSizes sheet.readSheet relation.rowsFrom relation.rowsOf relation.pairAllowed relation.sizeOf relation.listed relation.allowedOf relation.problemOf
 more-plans = (refl, refl)
 
 pub demand-2 : Demand2

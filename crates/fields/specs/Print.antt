@@ -4,7 +4,7 @@ use mathlib.Core.List.{List, [], _∷_, _++_}
 use Prim.Native.Nat.{ℕ, zero, suc, _+_, _/_, _%_}
 use lib.Dec.{ltb}
 use lib.ListN.{take, length}
-use Rattle.bounded.specs.Bounded.{countBelow}
+use Rattle.bounded.specs.Quantifiers.{countBelow}
 use Rattle.problem.specs.Problem.{Problem, State, full, sizeSum, liveCount}
 use Rattle.problem.specs.Run.{run, afterTrace, endOf}
 use Rattle.problem.specs.Record.{fieldsOf}

@@ -8,10 +8,10 @@ use native.Mathlib.Omega.{arith}
 use lib.Dec.{T}
 use lib.ListN.{length, getD, set, length-set}
 use lib.Seq.{getD-set-same, getD-set-other, ext-getD}
-use Rattle.bounded.specs.Bounded.{lowest}
+use Rattle.bounded.specs.Quantifiers.{lowest}
 use Rattle.bounded.specs.Mask.{bit}
 use Rattle.bounded.proofs.Truth.{T-not, eq-dec}
-use Rattle.bounded.proofs.Bounded.{lowest-least, lowest-passes}
+use Rattle.bounded.proofs.Quantifiers.{lowest-least, lowest-passes}
 use Rattle.bounded.proofs.Mask.{bit-none}
 use Rattle.bounded.proofs.Members.{lowest-member, part-le, part-lt}
 use Rattle.problem.specs.Problem.{Problem, State, remove}

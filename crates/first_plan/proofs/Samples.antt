@@ -2,7 +2,7 @@
 use mathlib.Core.Path.{_≡_, refl}
 use mathlib.Core.List.{List, [], _∷_}
 use Prim.Native.Nat.{ℕ}
-use Rattle.bounded.specs.Bounded as bounded
+use Rattle.bounded.specs.Quantifiers as bounded
 use Rattle.problem.specs.Problem.{Problem, bothWays, full, eliminate, anyLive, allActive, allOther}
 use Rattle.problem.specs.PutBack.{solves}
 use Rattle.problem.specs.Samples.{problem, unequal}

@@ -11,7 +11,7 @@ use lib.ListN.{length, getD, set, length-set}
 use lib.Seq.{getD-set-same, getD-set-other}
 use Rattle.bounded.specs.Mask.{bit, without}
 use Rattle.bounded.proofs.Truth.{T-of, and-iff, eq-dec}
-use Rattle.bounded.proofs.Bounded.{any-iff}
+use Rattle.bounded.proofs.Quantifiers.{any-iff}
 use Rattle.bounded.proofs.Mask.{bit-and, bit-mask, member-lt}
 use Rattle.bounded.proofs.Members.{Left, without-part}
 use Rattle.problem.specs.Problem.{Problem, State}

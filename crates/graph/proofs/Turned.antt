@@ -7,7 +7,7 @@ use Prim.Native.Nat.{ℕ, zero, suc, _≤_, _<_}
 use native.Mathlib.Omega.{arith}
 use lib.Dec.{T, eqb, ltb}
 use lib.ListN.{length, getD}
-use Rattle.bounded.specs.Bounded.{oneIf}
+use Rattle.bounded.specs.Quantifiers.{oneIf}
 use Rattle.bounded.proofs.Truth.{T-true, T-false, T-dec, or-iff, not-iff, eqb-iff, ltb-iff, eq-dec}
 use Rattle.graph.specs.Graph.{fileLimit, fileLines, lineAt, anyLine, countLines, isBad, isSize, isEdge, isLoop, strays, isOutside, statedVertices, edgeFirst, badLines, badFile}
 use Rattle.graph.specs.declared.Line.{Line}

@@ -4,7 +4,7 @@ use mathlib.Core.List.{List, [], _∷_, map}
 use Prim.Native.Nat.{ℕ, _+_, _-_, _*_}
 use lib.Dec.{eqb, ltb, leb}
 use lib.ListN.{length, drop, getD}
-use Rattle.bounded.specs.Bounded.{oneIf}
+use Rattle.bounded.specs.Quantifiers.{oneIf}
 use Rattle.graph.specs.declared.Line.{Line}
 use Rattle.graph.specs.declared.Line.the-variants.{Comment, Size, Edge, Bad}
 use Rattle.graph.specs.declared.GraphRead.{GraphRead}

@@ -18,7 +18,7 @@ use mathlib.Core.Bool.{Bool, true, false, _&&_}
 use native.Mathlib.Omega.{arith}
 use lib.Dec.{ltb}
 use Rattle.bounded.proofs.Truth.{T-of, eq-dec}
-use Rattle.bounded.proofs.Bounded.{any-iff, lowest-is}
+use Rattle.bounded.proofs.Quantifiers.{any-iff, lowest-is}
 use Rattle.problem.specs.Problem.{Problem, State, stateFits, noneEmpty, anyLive, lowestLive, snake}
 use Rattle.problem.specs.Hand.{call}
 use Rattle.problem.specs.Held.{Bounded}

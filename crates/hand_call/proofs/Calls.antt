@@ -5,10 +5,10 @@ use mathlib.Core.List.{List}
 use Prim.Native.Nat.{ℕ, _≤_, _<_}
 use native.Mathlib.Omega.{arith}
 use lib.Dec.{T, ltb}
-use Rattle.bounded.specs.Bounded.{lowest}
+use Rattle.bounded.specs.Quantifiers.{lowest}
 use Rattle.bounded.specs.Mask.{bit}
 use Rattle.bounded.proofs.Truth.{T-true, T-false, T-of, and-iff, ltb-iff}
-use Rattle.bounded.proofs.Bounded.{lowest-is, lowest-passes, lowest-least, lowest-unique}
+use Rattle.bounded.proofs.Quantifiers.{lowest-is, lowest-passes, lowest-least, lowest-unique}
 use Rattle.problem.specs.Problem.{Problem, stateFits, noneEmpty, anyLive, lowestLive, snake}
 use Rattle.problem.specs.Hand.{call}
 use Rattle.problem.specs.Held.{held}

@@ -7,10 +7,10 @@ use native.Mathlib.Omega.{arith}
 use lib.Dec.{T, eqb, ltb}
 use lib.ListN.{getD}
 use lib.Pow.{pow-mono}
-use Rattle.bounded.specs.Bounded.{imp, allBelow, anyBelow}
+use Rattle.bounded.specs.Quantifiers.{imp, allBelow, anyBelow}
 use Rattle.bounded.specs.Mask.{bit, maskOf}
 use Rattle.bounded.proofs.Truth.{T-ext, T-false, T-not, and-iff, imp-iff, not-iff, ltb-iff, lt-dec}
-use Rattle.bounded.proofs.Bounded.{all-iff, any-iff}
+use Rattle.bounded.proofs.Quantifiers.{all-iff, any-iff}
 use Rattle.bounded.proofs.Mask.{bit-high, bit-mask, mask-lt, mask-ext, zero-bits}
 use Rattle.problem.specs.Problem.{Problem, State, stateFits}
 use Rattle.problem.specs.Masks.{stateOf}

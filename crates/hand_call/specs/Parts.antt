@@ -2,7 +2,7 @@
 use mathlib.Core.Bool.{Bool, _&&_}
 use Prim.Native.Nat.{ℕ}
 use lib.Dec.{ltb}
-use Rattle.bounded.specs.Bounded.{imp, allBelow}
+use Rattle.bounded.specs.Quantifiers.{imp, allBelow}
 use Rattle.problem.specs.Problem.{Problem, State, maxValues, eliminate}
 use Rattle.hand.specs.Hand.{handOf}
 use Rattle.hand.specs.declared.CallAnswer.{CallAnswer}

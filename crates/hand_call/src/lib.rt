@@ -5,7 +5,7 @@ ghost use mathlib.Core.Path.{_≡_};
 ghost use mathlib.Core.Bool.{true};
 ghost use Prim.Native.Nat.{_<_, _≤_};
 ghost use lib.Dec.{ltb};
-ghost use Rattle.bounded.specs.Bounded.{imp, allBelow, lowest};
+ghost use Rattle.bounded.specs.Quantifiers.{imp, allBelow, lowest};
 ghost use Rattle.bounded.specs.Mask.{bit};
 ghost use Rattle.problem.specs.Problem.{maxValues, stateFits, noneEmpty, snake as snakeHolds};
 ghost use Rattle.problem.specs.Masks.{stateOf, sets, Proper};

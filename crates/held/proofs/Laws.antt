@@ -10,10 +10,10 @@ use lib.Dec.{T, eqb, ltb}
 use lib.Bits.{bitAnd, and-le-l}
 use lib.ListN.{getD}
 use borrow.Author.Tests.{not-false}
-use Rattle.bounded.specs.Bounded.{imp, allBelow, anyBelow}
+use Rattle.bounded.specs.Quantifiers.{imp, allBelow, anyBelow}
 use Rattle.bounded.specs.Mask.{bit, maskOf}
 use Rattle.bounded.proofs.Truth.{T-ext, T-of, T-dec, T-false, and-iff, imp-iff, not-iff, ltb-iff}
-use Rattle.bounded.proofs.Bounded.{all-iff, any-iff}
+use Rattle.bounded.proofs.Quantifiers.{all-iff, any-iff}
 use Rattle.bounded.proofs.Mask.{bit-and, bit-mask, bit-mask-all, mask-lt, zero-bits}
 use Rattle.problem.specs.Problem.{Problem, State, allActive, allLive, anyLive}
 use Rattle.problem.specs.Held.{rowWord, rowsAt, heldSize, heldVariables, held, RowTable}

@@ -6,7 +6,7 @@ ghost use mathlib.Core.Logic.{_≢_};
 ghost use Prim.Native.Nat.{_<_, _≤_, _+_, _*_, _^_};
 ghost use lib.Bits.{bitAnd};
 ghost use lib.Dec.{ltb};
-ghost use Rattle.bounded.specs.Bounded.{imp};
+ghost use Rattle.bounded.specs.Quantifiers.{imp};
 ghost use Rattle.bounded.specs.Mask.{bit, maskOf};
 ghost use Rattle.problem.specs.Problem.{noneEmpty, anyLive, full, sizeSum};
 ghost use Rattle.problem.specs.Held.{rowWord, tableLength, rowsAt, held, Located, RowTable};

@@ -1,6 +1,6 @@
 -- Sheets moved, by computation. Assumes nothing.
 use mathlib.Core.Path.{refl}
-use Rattle.bounded.specs.Bounded.{anyBelow}
+use Rattle.bounded.specs.Quantifiers.{anyBelow}
 use Rattle.bounded.specs.Mask.{maskOf}
 use Rattle.bounded.specs.Table.{tab}
 use Rattle.problem.specs.Problem.{bothWays}

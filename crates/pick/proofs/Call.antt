@@ -9,7 +9,7 @@ use native.Mathlib.Omega.{arith}
 use lib.Dec.{T}
 use lib.ListN.{length}
 use borrow.Author.Tests.{eq-eqb, ne-eqb}
-use Rattle.bounded.specs.Bounded.{oneIf}
+use Rattle.bounded.specs.Quantifiers.{oneIf}
 use Rattle.bounded.proofs.Truth.{eq-dec}
 use Rattle.problem.specs.PutBack.{solvesWhole, planOf}
 use Rattle.problem.specs.declared.End.{End}

@@ -13,10 +13,10 @@ use lib.ListN.{length, getD, set, replicate, length-set}
 use lib.Pow.{shr-shr}
 use lib.Seq.{getD-set-same, getD-set-other}
 use borrow.Author.Tests.{ne-eqb}
-use Rattle.bounded.specs.Bounded.{sumTo, oneIf, countBelow}
+use Rattle.bounded.specs.Quantifiers.{sumTo, oneIf, countBelow}
 use Rattle.bounded.specs.Mask.{bit, without}
 use Rattle.bounded.proofs.Truth.{T-not, T-dec, and-iff, or-iff, eqb-iff, eq-dec, lt-dec}
-use Rattle.bounded.proofs.Bounded.{count-le, count-lt}
+use Rattle.bounded.proofs.Quantifiers.{count-le, count-lt}
 use Rattle.bounded.proofs.Mask.{bit-and, bit-or, bit-none, bit-high, bit-without32}
 use Rattle.bounded.proofs.Members.{Left, left-all, left-next, left-other, without-part, without-gone}
 use Rattle.problem.specs.Problem.{Problem}

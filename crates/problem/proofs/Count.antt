@@ -4,9 +4,9 @@ use Prim.Native.Nat.{ℕ, zero, suc, _*_, _<_, _≤_}
 use native.Mathlib.Omega.{arith}
 use mathlib.Core.Bool.{_&&_}
 use lib.Dec.{ltb}
-use Rattle.bounded.specs.Bounded.{sumTo}
+use Rattle.bounded.specs.Quantifiers.{sumTo}
 use Rattle.bounded.proofs.Truth.{and-iff, ltb-iff}
-use Rattle.bounded.proofs.Bounded.{sum-lt, sum-ext, count-le, count-lt, count-all}
+use Rattle.bounded.proofs.Quantifiers.{sum-lt, sum-ext, count-le, count-lt, count-all}
 use Rattle.problem.specs.Problem.{Problem, State, full, liveCount, sizeSum}
 use Rattle.problem.specs.Held.{Bounded}
 use Rattle.problem.specs.Sentences.{Live}

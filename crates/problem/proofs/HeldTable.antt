@@ -11,10 +11,10 @@ use lib.Dec.{T, eqb}
 use lib.ListN.{getD}
 use lib.Pow.{pow-mono}
 use borrow.Author.Tests.{lt-ltb, le-ltb}
-use Rattle.bounded.specs.Bounded.{lowest}
+use Rattle.bounded.specs.Quantifiers.{lowest}
 use Rattle.bounded.specs.Mask.{bit, maskOf}
 use Rattle.bounded.proofs.Truth.{T-ext, T-of, split, and-iff, not-iff, eqb-iff, ltb-iff, lt-dec}
-use Rattle.bounded.proofs.Bounded.{lowest-unique, lowest-le, lowest-least}
+use Rattle.bounded.proofs.Quantifiers.{lowest-unique, lowest-le, lowest-least}
 use Rattle.bounded.proofs.Mask.{mask-lt, mask-is, mask-ext, bit-and, bit-mask-all}
 use Rattle.problem.specs.Problem.{Problem, sizeSum}
 use Rattle.problem.specs.Held.{rowWord, rowsAt, heldSize, heldVariables, heldValue, rowAllows, farFrom, heldRow, held, RowTable, Bounded, Two, Filled}

@@ -9,7 +9,7 @@ use native.Mathlib.Nat.{not-suc-le-zero}
 use native.Mathlib.Omega.{arith}
 use lib.Dec.{T}
 use Rattle.bounded.proofs.Truth.{T-true, lt-dec}
-use Rattle.problem.specs.Problem.{Problem, State, noneEmpty, slideSpares, liveCount}
+use Rattle.problem.specs.Problem.{Problem, State, noneEmpty, substitutionSpares, liveCount}
 use Rattle.problem.specs.Run.{holdsBy, holds, lawful, afterTrace, stepIf, first, nextUnsupported, nextSnake, nextTriangle, nextNeighbourhood, nextSnakeSubstitutionBy, kindBound, nextOfKindBy, nextOfKind, next, runFrom, runBy, run}
 use Rattle.problem.specs.Record.{kindOf, itemOf, thirdOf, fourthOf}
 use Rattle.problem.specs.Order.{Before, FirstLawful}
@@ -152,7 +152,7 @@ module _ {P : Problem} {s : State} (F : Fits P s) where
   within (Snake i v) t = let x = snake-iff F i v .0 t in (live-item i v (x .0), F .live-lt i v (x .0), omega arith)
   within (Triangle i j) t = let x = triangle-iff F i j .0 t in (F .active-lt i (x .0), F .active-lt j (x .1 .0), omega arith)
   within (Neighbourhood i b a) t = let x = neighbourhood-iff F i b a .0 t in (live-item i b (x .0), F .live-lt i b (x .0), F .live-lt i a (x .1 .0))
-  within (SnakeSubstitution i b a) t = let x = snakeSubstitution-iff F slideSpares i b a .0 t in (live-item i b (x .0), F .live-lt i b (x .0), F .live-lt i a (x .1 .0))
+  within (SnakeSubstitution i b a) t = let x = snakeSubstitution-iff F substitutionSpares i b a .0 t in (live-item i b (x .0), F .live-lt i b (x .0), F .live-lt i a (x .1 .0))
 
   -- they are below whatever no size and no number of variables is above
   pub holds-below : (m : ℕ) → P .n ≤ m → ((i : ℕ) → P .size i ≤ m) → (x : Record) → T (holds P s x) → (itemOf x < m) × (thirdOf x < m) × (fourthOf x < m)

@@ -6,7 +6,7 @@ use mathlib.Core.List.{List, _∷_, _++_}
 use Prim.Native.Nat.{ℕ, zero, suc, _<_}
 use native.Mathlib.Omega.{arith}
 use lib.Dec.{T}
-use Rattle.problem.specs.Problem.{Problem, State, noneEmpty, unsupported, snake, triangle, neighbourhood, snakeSubstitution, slideKeeps, firstBreak}
+use Rattle.problem.specs.Problem.{Problem, State, noneEmpty, unsupported, snake, triangle, neighbourhood, snakeSubstitution, substitutionKeeps, firstBreak}
 use Rattle.problem.specs.Rulebook.{beforeFour}
 use Rattle.problem.specs.Run.{nextUnsupported, nextSnake, nextTriangle, nextNeighbourhood, nextSnakeSubstitutionBy, kindBound, nextOfKindBy, nextBy, runBy}
 use Rattle.problem.specs.Record.{kindOf}
@@ -26,15 +26,15 @@ use Rattle.problem.proofs.Run.{never, first-found, first-where, stepIf-
 
 module _ (P : Problem) {s : State} (F : Fits P s) where
   -- the cover is the slide's own, or its e covers its d, where its own breaks
-  pub slide-covered : (i b a : ℕ) → T (snakeSubstitution P s slideKeeps i b a) → (k : ℕ) × (d : ℕ) × (e : ℕ) × T (neighbourhood P s k d e)
-  slide-covered i b a h = go (firstBreak P s i b a) (break-iff F i b a (firstBreak P s i b a) .0 refl)
+  pub substitution-covered : (i b a : ℕ) → T (snakeSubstitution P s substitutionKeeps i b a) → (k : ℕ) × (d : ℕ) × (e : ℕ) × T (neighbourhood P s k d e)
+  substitution-covered i b a h = go (firstBreak P s i b a) (break-iff F i b a (firstBreak P s i b a) .0 refl)
     where
       go : (x : Break) → BreakSays P s i b a x → (k : ℕ) × (d : ℕ) × (e : ℕ) × T (neighbourhood P s k d e)
-      go Nowhere c = let x = snakeSubstitution-iff F slideKeeps i b a .0 h in (i, b, a, neighbourhood-iff F i b a .1 (x .0, (x .1 .0, (x .1 .1 .0, c))))
+      go Nowhere c = let x = snakeSubstitution-iff F substitutionKeeps i b a .0 h in (i, b, a, neighbourhood-iff F i b a .1 (x .0, (x .1 .0, (x .1 .1 .0, c))))
       go (At k d) y =
           let l = y .0 .0 in
           let c = y .1 .0 in
-          let z = snakeSubstitution-iff F slideKeeps i b a .0 h .1 .1 .1 k (l .0) (l .1 .0) d (c .0) (c .1 .0) in
+          let z = snakeSubstitution-iff F substitutionKeeps i b a .0 h .1 .1 .1 k (l .0) (l .1 .0) d (c .0) (c .1 .0) in
           (k, d, z .0, neighbourhood-iff F k d (z .0) .1 (c .0, (z .1, ((λ q. c .1 .1 (subst (λ (e : ℕ). Allowed P i a k e) q (z .2 .0))), λ l o q. z .2 .1 l o q (λ w. w .0)))))
 
 -- ---- so the search comes to a step of a lower kind
@@ -55,15 +55,15 @@ module _ (P : Problem) (s : State) where
 
 module _ (P : Problem) {s : State} (F : Fits P s) where
   -- where no cover is found no slide is
-  slide-never : nextNeighbourhood P s ≡ Nothing → (r : Record) → nextSnakeSubstitutionBy beforeFour P s ≡ Step r → ⊥
+  substitution-never : nextNeighbourhood P s ≡ Nothing → (r : Record) → nextSnakeSubstitutionBy beforeFour P s ≡ Step r → ⊥
   unfolding nextSnakeSubstitutionBy
-  slide-never n = first-found Never _ _ (λ i. first-found Never _ _ (λ b. first-found Never _ _ (λ a. stepIf-found Never (snakeSubstitution P s slideKeeps i b a) (SnakeSubstitution i b a) (λ h. none i b a h))))
+  substitution-never n = first-found Never _ _ (λ i. first-found Never _ _ (λ b. first-found Never _ _ (λ a. stepIf-found Never (snakeSubstitution P s substitutionKeeps i b a) (SnakeSubstitution i b a) (λ h. none i b a h))))
     where
       Never : Record → Type 0
       Never r = ⊥
 
-      none : (i b a : ℕ) → T (snakeSubstitution P s slideKeeps i b a) → ⊥
-      none i b a h = let x = slide-covered P F i b a h in neighbourhood-complete P s F n (x .0) (x .1) (x .2) (x .3)
+      none : (i b a : ℕ) → T (snakeSubstitution P s substitutionKeeps i b a) → ⊥
+      none i b a h = let x = substitution-covered P F i b a h in neighbourhood-complete P s F n (x .0) (x .1) (x .2) (x .3)
 
   -- the next step is found at one of the kinds before the slide
   pub next-early : (r : Record) → nextBy beforeFour P s ≡ Step r
@@ -77,7 +77,7 @@ module _ (P : Problem) {s : State} (F : Fits P s) where
       at (suc (suc zero)) l f h = omega arith
       at (suc (suc (suc zero))) l f h = omega arith
       at (suc (suc (suc (suc zero)))) l f h = omega arith
-      at (suc (suc (suc (suc (suc zero))))) l f h = absurd (slide-never (h 4 (omega arith)) r f)
+      at (suc (suc (suc (suc (suc zero))))) l f h = absurd (substitution-never (h 4 (omega arith)) r f)
       at (suc (suc (suc (suc (suc (suc k)))))) l f h = absurd (never f)
 
       by-empty : (b : Bool) → noneEmpty P s ≡ b → (noneEmpty P s ≡ true) × ((k : ℕ) × (k < 5) × (nextOfKindBy beforeFour P s k ≡ Step r) × ((j : ℕ) → j < k → nextOfKindBy beforeFour P s j ≡ Nothing))
@@ -88,8 +88,8 @@ module _ (P : Problem) {s : State} (F : Fits P s) where
 
 module _ (P : Problem) where
   -- by the rulebook of before no record of a run is a slide, whatever state that fits it starts from
-  pub run-no-slide : {s : State} → Fits P s → (t u : List Record) (i b a : ℕ) → runBy beforeFour P s ≡ t ++ (SnakeSubstitution i b a ∷ u) → ⊥
-  run-no-slide {s} F t u i b a e =
+  pub run-no-substitution : {s : State} → Fits P s → (t u : List Record) (i b a : ℕ) → runBy beforeFour P s ≡ t ++ (SnakeSubstitution i b a ∷ u) → ⊥
+  run-no-substitution {s} F t u i b a e =
       let x = next-early P (trace-fits P F t) (SnakeSubstitution i b a) (run-by-next beforeFour P s t (SnakeSubstitution i b a) u e) .1 in
       let l = kind-low P _ (x .0) (x .1) (SnakeSubstitution i b a) (x .2) in
       omega arith

@@ -5,10 +5,10 @@ use mathlib.Core.Logic.{_⊎_, inl, inr, _↔_}
 use Prim.Native.Nat.{ℕ, _≤_, _<_}
 use native.Mathlib.Omega.{arith}
 use lib.Dec.{T, ltb}
-use Rattle.bounded.specs.Bounded.{imp, allBelow}
+use Rattle.bounded.specs.Quantifiers.{imp, allBelow}
 use Rattle.bounded.proofs.Truth.{T-true, T-false, T-dec, lt-dec, and-iff, imp-fails, ltb-iff}
 use Rattle.bounded.proofs.Causes.{cause-iff}
-use Rattle.bounded.proofs.Bounded.{all-or, lowest-least, lowest-unique}
+use Rattle.bounded.proofs.Quantifiers.{all-or, lowest-least, lowest-unique}
 use Rattle.problem.specs.Problem.{Problem, State, maxVariables, maxValues, stateFits, noneEmpty, anyLive, lowestLive, snake}
 use Rattle.problem.specs.Hand.{call}
 use Rattle.problem.specs.declared.Call.{Call}

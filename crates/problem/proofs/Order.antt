@@ -8,9 +8,9 @@ use native.Mathlib.Nat.{not-suc-le-zero, lt-of-lt-of-le}
 use native.Mathlib.Omega.{arith}
 use lib.Dec.{T, ltb}
 use lib.ListN.{length}
-use Rattle.bounded.specs.Bounded.{countBelow}
+use Rattle.bounded.specs.Quantifiers.{countBelow}
 use Rattle.bounded.proofs.Truth.{T-ext, T-true, T-false, T-dec, eq-dec, and-iff, not-iff, ltb-iff}
-use Rattle.bounded.proofs.Bounded.{count-lt, count-most}
+use Rattle.bounded.proofs.Quantifiers.{count-lt, count-most}
 use Rattle.problem.specs.Problem.{Problem, State, stateFits, noneEmpty, allActive, anyLive, lowestLive, snake, eliminate}
 use Rattle.problem.specs.Hand.{call, stateAfter, callState, callsState, finished, pairLeft, arcConsistent}
 use Rattle.problem.specs.declared.Call.the-variants.{Eliminated}

@@ -7,7 +7,7 @@ use native.Mathlib.Nat.{not-suc-le-zero}
 use native.Mathlib.Omega.{arith}
 use lib.Dec.{eqb}
 use borrow.Author.Tests.{lt-ltb, le-ltb, eqb-true}
-use Rattle.bounded.specs.Bounded.{allBelow}
+use Rattle.bounded.specs.Quantifiers.{allBelow}
 use Rattle.bounded.proofs.Truth.{at-or-below, eq-dec, lt-dec}
 use Rattle.bounded.proofs.Loops.{all-each}
 use Rattle.problem.specs.Places.{placeOf}

@@ -7,7 +7,7 @@ use mathlib.Core.Logic.{_⊎_, inl, inr, _≢_, _↔_}
 use Prim.Native.Nat.{ℕ}
 use lib.Dec.{T}
 use Rattle.bounded.proofs.Truth.{T-ext, eq-dec}
-use Rattle.problem.specs.Problem.{Problem, State, unsupported, snake, triangle, neighbourhood, snakeSubstitution, slideSpares, remove, eliminate}
+use Rattle.problem.specs.Problem.{Problem, State, unsupported, snake, triangle, neighbourhood, snakeSubstitution, substitutionSpares, remove, eliminate}
 use Rattle.problem.specs.Run.{holds, holdsBy, lawful, afterEffect, after, lawfulTrace, afterTrace, run}
 use Rattle.problem.specs.Published.{HasSupport, NoSupport, DeSnakeBy, DeSnake, TriangleBy, TriangleProperty, Arrow, NeighbourhoodSubstitutable, WavyArrow, SnakeSubstitutable, TwoValues, Published, Related, VariableEliminated, ValueEliminated, EffectPublished, StepPublished}
 use Rattle.problem.specs.Record.{effectOf}
@@ -67,14 +67,14 @@ module _ {P : Problem} {s : State} (F : Fits P s) where
   )
 
   -- with i spared, as the paper has it
-  pub slide-published : (i b a : ℕ) → T (snakeSubstitution P s slideSpares i b a) ↔ Published P s (SnakeSubstitution i b a)
-  slide-published i b a = (
-    λ t. let x = snakeSubstitution-iff F slideSpares i b a .0 t in (
+  pub substitution-published : (i b a : ℕ) → T (snakeSubstitution P s substitutionSpares i b a) ↔ Published P s (SnakeSubstitution i b a)
+  substitution-published i b a = (
+    λ t. let x = snakeSubstitution-iff F substitutionSpares i b a .0 t in (
       F .live-active i b (x .0),
       (x .0, x .1 .0, x .1 .1 .0),
       λ k hk d e oe q. let y = x .1 .1 .1 k hk d e oe q in (y .0, y .1, y .2 .0, λ l hl dl dk. y .2 .1 l hl dk (λ z. dl (z .1))),
     ),
-    λ x. snakeSubstitution-iff F slideSpares i b a .1 (
+    λ x. snakeSubstitution-iff F substitutionSpares i b a .1 (
       x .1 .0,
       (x .1 .1, (x .1 .2, λ k hk d e oe q. let y = x .2 k hk d e oe q in (y .0, y .1, (y .2, λ l hl dk n. y .3 l hl (λ z. n (tt, z)) dk)))),
     ),
@@ -88,7 +88,7 @@ module _ {P : Problem} {s : State} (F : Fits P s) where
   holds-published (Snake i v) = snake-published i v
   holds-published (Triangle i j) = triangle-published i j
   holds-published (Neighbourhood i b a) = neighbourhood-published i b a
-  holds-published (SnakeSubstitution i b a) = slide-published i b a
+  holds-published (SnakeSubstitution i b a) = substitution-published i b a
 
   -- a record, of any kind, is lawful exactly where it is published and no domain is empty
   pub published-iff : (r : Record) → T (lawful P s r) ↔ (NoneEmpty P s × Published P s r)

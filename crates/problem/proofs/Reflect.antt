@@ -4,11 +4,11 @@ use mathlib.Core.Bool.{Bool, true, false, not, _&&_}
 use mathlib.Core.Logic.{_⊎_, inl, inr, _≢_, _↔_, Iff·rfl}
 use Prim.Native.Nat.{ℕ, _<_}
 use lib.Dec.{T}
-use Rattle.bounded.specs.Bounded.{imp, anyBelow, lowest, atLowest}
+use Rattle.bounded.specs.Quantifiers.{imp, anyBelow, lowest, atLowest}
 use Rattle.bounded.proofs.Truth.{T-dec, and-iff, imp-iff, imp-fails, not-iff, eqb-iff, ltb-iff}
-use Rattle.bounded.proofs.Bounded.{all-iff, any-iff, all-or, lowest-is}
-use Rattle.problem.specs.Problem.{Problem, State, full, maxVariables, maxValues, allActive, allLive, anyLive, lowestLive, allOther, allThird, stateFits, noneEmpty, unspoilt, spoils, spoiler, unsupported, snakeServes, snake, triangleServes, triangle, neighbourhood, slideServes, snakeSubstitution, remove, eliminate}
-use Rattle.problem.specs.Sentences.{Active, Live, Allowed, Fits, Spoils, Substitutes, Unsupported, SnakeServes, Snake, TriangleServes, Triangle, Neighbourhood, SlideServes, SnakeSubstitution, Supported, ArcConsistent, Finished, NoneEmpty}
+use Rattle.bounded.proofs.Quantifiers.{all-iff, any-iff, all-or, lowest-is}
+use Rattle.problem.specs.Problem.{Problem, State, full, maxVariables, maxValues, allActive, allLive, anyLive, lowestLive, allOther, allThird, stateFits, noneEmpty, unspoilt, spoils, spoiler, unsupported, snakeServes, snake, triangleServes, triangle, neighbourhood, substitutionServes, snakeSubstitution, remove, eliminate}
+use Rattle.problem.specs.Sentences.{Active, Live, Allowed, Fits, Spoils, Substitutes, Unsupported, SnakeServes, Snake, TriangleServes, Triangle, Neighbourhood, SubstitutionServes, SnakeSubstitution, Supported, ArcConsistent, Finished, NoneEmpty}
 use Rattle.problem.specs.declared.Cover.{Cover}
 use Rattle.problem.specs.declared.Cover.the-variants.{Holds}
 use Rattle.problem.specs.Hand.{supported, arcConsistent, finished}
@@ -136,13 +136,13 @@ module _ {P : Problem} {s : State} (F : Fits P s) where
   unfolding neighbourhood
   neighbourhood-iff i b a = simp (and-iff, allOther-iff F, not-iff, eqb-iff, unspoilt-iff) Iff·rfl
 
-  pub slideServes-iff : (spare : Bool) (i a k d e : ℕ) → T (slideServes P s spare i a k d e) ↔ SlideServes P s spare i a k d e
-  unfolding slideServes
-  slideServes-iff spare i a k d e = simp (and-iff, allOther-iff F, imp-iff, not-iff, eqb-iff, unspoilt-iff) Iff·rfl
+  pub substitutionServes-iff : (spare : Bool) (i a k d e : ℕ) → T (substitutionServes P s spare i a k d e) ↔ SubstitutionServes P s spare i a k d e
+  unfolding substitutionServes
+  substitutionServes-iff spare i a k d e = simp (and-iff, allOther-iff F, imp-iff, not-iff, eqb-iff, unspoilt-iff) Iff·rfl
 
   pub snakeSubstitution-iff : (spare : Bool) (i b a : ℕ) → T (snakeSubstitution P s spare i b a) ↔ SnakeSubstitution P s spare i b a
   unfolding snakeSubstitution
-  snakeSubstitution-iff spare i b a = simp (and-iff, allOther-iff F, allLive-iff F, anyLive-iff F, imp-iff, not-iff, eqb-iff, slideServes-iff) Iff·rfl
+  snakeSubstitution-iff spare i b a = simp (and-iff, allOther-iff F, allLive-iff F, anyLive-iff F, imp-iff, not-iff, eqb-iff, substitutionServes-iff) Iff·rfl
 
   pub supported-iff : (i a : ℕ) → T (supported P s i a) ↔ Supported P s i a
   unfolding supported

@@ -8,9 +8,9 @@ use native.Mathlib.Nat.{not-suc-le-zero, le-of-suc-le-suc}
 use native.Mathlib.Omega.{arith}
 use lib.Dec.{T}
 use lib.ListN.{length}
-use Rattle.bounded.specs.Bounded.{anyBelow}
+use Rattle.bounded.specs.Quantifiers.{anyBelow}
 use Rattle.bounded.proofs.Truth.{T-of, T-true, T-not}
-use Rattle.bounded.proofs.Bounded.{any-iff}
+use Rattle.bounded.proofs.Quantifiers.{any-iff}
 use Rattle.problem.specs.Problem.{Problem, State, full, allActive, anyLive, noneEmpty, unsupported, snake, triangle, neighbourhood, snakeSubstitution, liveCount, sizeSum}
 use Rattle.problem.specs.Rulebook.{Rulebook, inForce}
 use Rattle.problem.specs.Run.{holdsBy, lawfulBy, lawful, after, lawfulTraceBy, lawfulTrace, afterTrace, stepIf, first, nextUnsupported, nextSnake, nextTriangle, nextNeighbourhood, nextSnakeSubstitutionBy, kindBound, nextOfKindBy, nextOfKind, nextBy, next, runFromBy, runFrom, runBy, run, endOf}
@@ -136,13 +136,13 @@ module _ (book : Rulebook) (P : Problem) (s : State) where
   unfolding nextNeighbourhood holdsBy
   neighbourhood-found = first-found Holds _ _ (λ i. first-found Holds _ _ (λ b. first-found Holds _ _ (λ a. stepIf-found Holds (neighbourhood P s i b a) (Neighbourhood i b a) (λ t. t))))
 
-  slide-found : (r : Record) → nextSnakeSubstitutionBy book P s ≡ Step r → Holds r
+  substitution-found : (r : Record) → nextSnakeSubstitutionBy book P s ≡ Step r → Holds r
   unfolding nextSnakeSubstitutionBy holdsBy
-  slide-found = first-found Holds _ _ (λ i. first-found Holds _ _ (λ b. first-found Holds _ _ (λ a. stepIf-found Holds (snakeSubstitution P s (book .spares) i b a) (SnakeSubstitution i b a) (λ t. t))))
+  substitution-found = first-found Holds _ _ (λ i. first-found Holds _ _ (λ b. first-found Holds _ _ (λ a. stepIf-found Holds (snakeSubstitution P s (book .spares) i b a) (SnakeSubstitution i b a) (λ t. t))))
 
-  slide-complete : Fits P s → nextSnakeSubstitutionBy book P s ≡ Nothing → (i b a : ℕ) → T (snakeSubstitution P s (book .spares) i b a) → ⊥
+  substitution-complete : Fits P s → nextSnakeSubstitutionBy book P s ≡ Nothing → (i b a : ℕ) → T (snakeSubstitution P s (book .spares) i b a) → ⊥
   unfolding nextSnakeSubstitutionBy
-  slide-complete F e i b a h =
+  substitution-complete F e i b a h =
       let x = snakeSubstitution-iff F (book .spares) i b a .0 h in
       stepIf-none (snakeSubstitution P s (book .spares) i b a) (SnakeSubstitution i b a)
       (first-each _ _ (first-each _ _ (first-each _ _ e i (F .active-lt i (F .live-active i b (x .0)))) b (F .live-lt i b (x .0))) a (F .live-lt i a (x .1 .0))) h
@@ -156,7 +156,7 @@ module _ (book : Rulebook) (P : Problem) (s : State) where
   kind-by-found (suc (suc zero)) r e = snake-found r e
   kind-by-found (suc (suc (suc zero))) r e = triangle-found r e
   kind-by-found (suc (suc (suc (suc zero)))) r e = neighbourhood-found r e
-  kind-by-found (suc (suc (suc (suc (suc zero))))) r e = slide-found r e
+  kind-by-found (suc (suc (suc (suc (suc zero))))) r e = substitution-found r e
   kind-by-found (suc (suc (suc (suc (suc (suc k)))))) r e = absurd (never e)
 
   -- what `next` is, by whether some active variable is without a value
@@ -191,7 +191,7 @@ module _ (book : Rulebook) (P : Problem) (s : State) where
       by-kind (Snake i v) h = snake-complete P s F (none 2 (omega arith)) i v h
       by-kind (Triangle i j) h = triangle-complete P s F (none 3 (omega arith)) i j h
       by-kind (Neighbourhood i b a) h = neighbourhood-complete P s F (none 4 (omega arith)) i b a h
-      by-kind (SnakeSubstitution i b a) h = slide-complete F (none 5 (omega arith)) i b a h
+      by-kind (SnakeSubstitution i b a) h = substitution-complete F (none 5 (omega arith)) i b a h
 
 -- ---- by the rulebook in force
 

@@ -6,7 +6,7 @@ use Prim.Native.Nat.{ℕ, zero, suc, _+_, _≤_, _<_}
 use native.Mathlib.Nat.{not-suc-le-zero}
 use native.Mathlib.Omega.{arith}
 use lib.Dec.{T}
-use Rattle.bounded.specs.Bounded.{sumTo, oneIf}
+use Rattle.bounded.specs.Quantifiers.{sumTo, oneIf}
 use Rattle.bounded.proofs.Truth.{T-dec, T-true, T-false, ltb-iff, eq-dec, lt-dec, at-or-below}
 use Rattle.problem.specs.Problem.{Problem, State}
 use Rattle.problem.specs.PutBack.{solves, put}

@@ -5,10 +5,10 @@ use mathlib.Core.Logic.{_≢_, _↔_, _⊎_, inl, inr}
 use Prim.Native.Nat.{ℕ}
 use lib.Dec.{T, eqb}
 use Rattle.bounded.proofs.Truth.{T-true, T-false, T-dec, eq-dec, and-iff, not-iff, eqb-iff}
-use Rattle.problem.specs.Problem.{Problem, State, full, lowestLive, snakeServes, triangleServes, slideServes, remove, eliminate}
+use Rattle.problem.specs.Problem.{Problem, State, full, lowestLive, snakeServes, triangleServes, substitutionServes, remove, eliminate}
 use Rattle.problem.specs.PutBack.{solves, solvesWhole, put, repair, undo}
 use Rattle.problem.specs.declared.Record.the-variants as record·
-use Rattle.problem.proofs.Reflect.{full-fits, turn, allActive-iff, allOther-iff, lowestLive-is, snakeServes-iff, triangleServes-iff, slideServes-iff, remove-live, eliminate-active, eliminate-live}
+use Rattle.problem.proofs.Reflect.{full-fits, turn, allActive-iff, allOther-iff, lowestLive-is, snakeServes-iff, triangleServes-iff, substitutionServes-iff, remove-live, eliminate-active, eliminate-live}
 use Rattle.problem.specs.Sentences.{Solution, Solvable, Active, Live, Allowed, Fits, Substitutes, Unsupported, Snake, Triangle, TriangleServes, Neighbourhood, SnakeSubstitution}
 
 pub solves-iff : {P : Problem} {s : State} → Fits P s → (p : ℕ → ℕ) → T (solves P s p) ↔ Solution P s p
@@ -173,11 +173,11 @@ module _ {P : Problem} {s : State} (F : Fits P s) where
       go (inr e) = (p, unused i b p e A)
 
   -- kind 5, the format's rule and the paper's
-  pub slide-kept : (spare : Bool) (i b a : ℕ) (p : ℕ → ℕ) → SnakeSubstitution P s spare i b a → Solution P s p → Solvable P (remove P s i b)
-  slide-kept spare i b a p (ob, (oa, (d, f))) A = go (eq-dec (p i) b)
+  pub substitution-kept : (spare : Bool) (i b a : ℕ) (p : ℕ → ℕ) → SnakeSubstitution P s spare i b a → Solution P s p → Solvable P (remove P s i b)
+  substitution-kept spare i b a p (ob, (oa, (d, f))) A = go (eq-dec (p i) b)
     where
       pick : ℕ → ℕ
-      pick k = lowestLive P s k (λ e. slideServes P s spare i a k (p k) e)
+      pick k = lowestLive P s k (λ e. substitutionServes P s spare i a k (p k) e)
 
       go : (p i ≡ b) ⊎ (p i ≢ b) → Solvable P (remove P s i b)
       go (inr e) = (p, unused i b p e A)
@@ -186,6 +186,6 @@ module _ {P : Problem} {s : State} (F : Fits P s) where
           each : (k : ℕ) → Active s k → k ≢ i → Live s k (pick k) × Allowed P i a k (pick k) × ((l : ℕ) → Active s l → l ≢ i → l ≢ k → Substitutes P s k (pick k) k (p k) l)
           each k hk g =
               let x = f k hk g (p k) (A .live k hk) (subst (λ (c : ℕ). Allowed P i c k (p k)) e (A .ok i k (F .live-active i b ob) hk (λ h. g (sym h)))) in
-              let y = lowestLive-is F k (λ e. slideServes P s spare i a k (p k) e) (x .0, x .1, slideServes-iff F spare i a k (p k) (x .0) .1 (x .2)) in
-              let z = slideServes-iff F spare i a k (p k) (pick k) .0 (y .1) in
+              let y = lowestLive-is F k (λ e. substitutionServes P s spare i a k (p k) e) (x .0, x .1, substitutionServes-iff F spare i a k (p k) (x .0) .1 (x .2)) in
+              let z = substitutionServes-iff F spare i a k (p k) (pick k) .0 (y .1) in
               (y .0, z .0, λ l hl dl dl2. z .1 l hl dl2 (λ q. dl (q .1)))

@@ -5,12 +5,12 @@ use mathlib.Core.Bool.{Bool, true, false, not, _&&_}
 use mathlib.Core.Logic.{_⊎_, inl, inr, ⊎-elim, _≢_, _↔_, Iff·rfl}
 use Prim.Native.Nat.{ℕ, _<_}
 use lib.Dec.{T, eqb}
-use Rattle.bounded.specs.Bounded.{imp}
+use Rattle.bounded.specs.Quantifiers.{imp}
 use Rattle.bounded.proofs.Truth.{T-ext, T-dec, T-true, T-false, and-iff, imp-iff, not-iff, eqb-iff}
-use Rattle.bounded.proofs.Bounded.{all-iff}
+use Rattle.bounded.proofs.Quantifiers.{all-iff}
 use Rattle.bounded.proofs.Loops.{lowest-or, at-lowest-is, at-lowest-none}
 use Rattle.bounded.proofs.Causes.{cause-iff}
-use Rattle.problem.specs.Problem.{Problem, State, allLive, allOther, allThird, noneEmpty, unspoilt, breakAt, spoils, spoiler, snakeServes, triangleServes, neighbourhood, slideServes, breaks, firstBreak, coverAsked}
+use Rattle.problem.specs.Problem.{Problem, State, allLive, allOther, allThird, noneEmpty, unspoilt, breakAt, spoils, spoiler, snakeServes, triangleServes, neighbourhood, substitutionServes, breaks, firstBreak, coverAsked}
 use Rattle.problem.specs.Run.{holdsBy, lawfulBy, lawful, brokenCover}
 use Rattle.problem.specs.declared.Record.{Record}
 use Rattle.problem.specs.declared.Record.the-variants.{Unsupported, Snake, Triangle, Neighbourhood, SnakeSubstitution}
@@ -63,17 +63,17 @@ module _ (P : Problem) (s : State) where
   unfolding snakeServes
   snake-as-before i v j w w' = λ t. P .allowed i v j w' && allThird P s i j (λ l. cover-as-before j w' j w l t)
 
-  pub fold-as-before : (i j v u : ℕ) → triangleServes P s i j v u ≡ (P .allowed i u j v && allThird P s i j (λ l. coverBefore i u j v l))
+  pub triangle-as-before : (i j v u : ℕ) → triangleServes P s i j v u ≡ (P .allowed i u j v && allThird P s i j (λ l. coverBefore i u j v l))
   unfolding triangleServes
-  fold-as-before i j v u = λ t. P .allowed i u j v && allThird P s i j (λ l. cover-as-before i u j v l t)
+  triangle-as-before i j v u = λ t. P .allowed i u j v && allThird P s i j (λ l. cover-as-before i u j v l t)
 
   pub neighbourhood-as-before : (i b a : ℕ) → neighbourhood P s i b a ≡ (s .live i b && (s .live i a && (not (eqb a b) && allOther P s i (λ l. coverBefore i a i b l))))
   unfolding neighbourhood
   neighbourhood-as-before i b a = λ t. s .live i b && (s .live i a && (not (eqb a b) && allOther P s i (λ l. cover-as-before i a i b l t)))
 
-  pub slide-as-before : (spare : Bool) (i a k d e : ℕ) → slideServes P s spare i a k d e ≡ (P .allowed i a k e && allOther P s k (λ l. imp (not (spare && eqb l i)) (coverBefore k e k d l)))
-  unfolding slideServes
-  slide-as-before spare i a k d e = λ t. P .allowed i a k e && allOther P s k (λ l. imp (not (spare && eqb l i)) (cover-as-before k e k d l t))
+  pub substitution-as-before : (spare : Bool) (i a k d e : ℕ) → substitutionServes P s spare i a k d e ≡ (P .allowed i a k e && allOther P s k (λ l. imp (not (spare && eqb l i)) (coverBefore k e k d l)))
+  unfolding substitutionServes
+  substitution-as-before spare i a k d e = λ t. P .allowed i a k e && allOther P s k (λ l. imp (not (spare && eqb l i)) (cover-as-before k e k d l t))
 
 -- ---- where a cover breaks
 

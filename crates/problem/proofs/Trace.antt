@@ -8,7 +8,7 @@ use native.Mathlib.Omega.{arith}
 use lib.Dec.{T}
 use lib.ListN.{length}
 use Rattle.bounded.proofs.Truth.{and-iff}
-use Rattle.problem.specs.Problem.{Problem, State, full, noneEmpty, slideSpares, remove, eliminate, liveCount, sizeSum}
+use Rattle.problem.specs.Problem.{Problem, State, full, noneEmpty, substitutionSpares, remove, eliminate, liveCount, sizeSum}
 use Rattle.problem.specs.Rulebook.{Rulebook, inForce}
 use Rattle.problem.specs.Record.{effectOf}
 use Rattle.problem.specs.Run.{holdsBy, holds, lawfulBy, lawful, afterEffect, after, lawfulTraceBy, lawfulTrace, afterTrace}
@@ -19,7 +19,7 @@ use Rattle.problem.specs.declared.Record.{Record}
 use Rattle.problem.specs.declared.Record.the-variants.{Unsupported, Snake, Triangle, Neighbourhood, SnakeSubstitution}
 use Rattle.problem.proofs.Reflect.{full-fits, noneEmpty-iff, unsupported-iff, snake-iff, triangle-iff, neighbourhood-iff, snakeSubstitution-iff, remove-live, eliminate-live, remove-fits, eliminate-fits}
 use Rattle.problem.specs.Sentences.{Active, Live, Fits, NoneEmpty, Solution, Solvable}
-use Rattle.problem.proofs.Sound.{remove-undone, triangle-undone, snake-undone, unsupported-kept, eliminate-kept, neighbourhood-kept, slide-kept}
+use Rattle.problem.proofs.Sound.{remove-undone, triangle-undone, snake-undone, unsupported-kept, eliminate-kept, neighbourhood-kept, substitution-kept}
 use Rattle.problem.proofs.Count.{count-falls, full-count}
 
 -- what a step removes is there: the value is live, or the variable active
@@ -54,7 +54,7 @@ module _ (P : Problem) where
   step-kept F (Snake i v) t x = (x .0, eliminate-kept F i (x .0) (F .live-active i v (snake-iff F i v .0 t .0)) (x .1))
   step-kept F (Triangle i j) t x = (x .0, eliminate-kept F i (x .0) (triangle-iff F i j .0 t .0) (x .1))
   step-kept F (Neighbourhood i b a) t x = neighbourhood-kept F i b a (x .0) (neighbourhood-iff F i b a .0 t) (x .1)
-  step-kept F (SnakeSubstitution i b a) t x = slide-kept F slideSpares i b a (x .0) (snakeSubstitution-iff F slideSpares i b a .0 t) (x .1)
+  step-kept F (SnakeSubstitution i b a) t x = substitution-kept F substitutionSpares i b a (x .0) (snakeSubstitution-iff F substitutionSpares i b a .0 t) (x .1)
 
   remove-falls : {s : State} → Fits P s → (i b : ℕ) → Live s i b → liveCount P (remove P s i b) < liveCount P s
   remove-falls {s} F i b o =

@@ -5,7 +5,7 @@ use mathlib.Core.Logic.{_≢_}
 use Prim.Native.Nat.{ℕ, _<_}
 use lib.Dec.{T, eqb}
 use Rattle.bounded.proofs.Truth.{T-true, T-false, and-iff, not-iff, eqb-iff}
-use Rattle.bounded.proofs.Bounded.{lowest-least}
+use Rattle.bounded.proofs.Quantifiers.{lowest-least}
 use Rattle.problem.specs.Problem.{Problem, State, lowestLive, snake, snakeServes, triangle, triangleServes}
 use Rattle.problem.specs.PutBack.{repair, undo}
 use Rattle.problem.specs.declared.Record.the-variants.{Unsupported, Snake, Triangle, Neighbourhood, SnakeSubstitution}
@@ -28,9 +28,9 @@ module _ (P : Problem) (s : State) (p : ℕ → ℕ) (i b a : ℕ) where
   unfolding undo
   neighbourhood-undone = refl
 
-  pub slide-undone : undo P s (SnakeSubstitution i b a) p ≡ p
+  pub substitution-undone : undo P s (SnakeSubstitution i b a) p ≡ p
   unfolding undo
-  slide-undone = refl
+  substitution-undone = refl
 
 module _ {P : Problem} {s : State} (F : Fits P s) (p : ℕ → ℕ) where
   -- "Kind 2 gives i the setting v, then changes each other item's setting that is barred with v to the lowest w' the rule allows."

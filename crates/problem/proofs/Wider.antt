@@ -7,7 +7,7 @@ use Prim.Native.Nat.{ℕ, zero, suc, _<_}
 use native.Mathlib.Nat.{not-suc-le-zero}
 use native.Mathlib.Omega.{arith}
 use lib.Dec.{T}
-use Rattle.problem.specs.Problem.{Problem, State, snakeSubstitution, slideSpares, slideKeeps, liveCount}
+use Rattle.problem.specs.Problem.{Problem, State, snakeSubstitution, substitutionSpares, substitutionKeeps, liveCount}
 use Rattle.problem.specs.Rulebook.{beforeFour, afterFour}
 use Rattle.problem.specs.Run.{holdsBy, lawfulBy, after, lawfulTraceBy, afterTrace, kindBound, nextOfKindBy, nextBy, runFromBy, runBy}
 use Rattle.problem.specs.declared.Record.{Record}
@@ -25,10 +25,10 @@ use Rattle.problem.proofs.Narrow.{next-early}
 
 module _ {P : Problem} {s : State} (F : Fits P s) where
   -- the slide of before is a slide: it asks for a cover at i besides
-  pub slide-widens : (i b a : ℕ) → T (snakeSubstitution P s slideKeeps i b a) → T (snakeSubstitution P s slideSpares i b a)
-  slide-widens i b a h =
-      let x = snakeSubstitution-iff F slideKeeps i b a .0 h in
-      snakeSubstitution-iff F slideSpares i b a .1
+  pub substitution-widens : (i b a : ℕ) → T (snakeSubstitution P s substitutionKeeps i b a) → T (snakeSubstitution P s substitutionSpares i b a)
+  substitution-widens i b a h =
+      let x = snakeSubstitution-iff F substitutionKeeps i b a .0 h in
+      snakeSubstitution-iff F substitutionSpares i b a .1
       (x .0, (x .1 .0, (x .1 .1 .0, λ k hk dk d od q. let y = x .1 .1 .1 k hk dk d od q in (y .0, y .1, (y .2 .0, λ l hl dl n. y .2 .1 l hl dl (λ z. z .0))))))
 
   holds-widens : (r : Record) → T (holdsBy beforeFour P s r) → T (holdsBy afterFour P s r)
@@ -37,15 +37,15 @@ module _ {P : Problem} {s : State} (F : Fits P s) where
   holds-widens (Snake i v) t = t
   holds-widens (Triangle i j) t = t
   holds-widens (Neighbourhood i b a) t = t
-  holds-widens (SnakeSubstitution i b a) t = slide-widens i b a t
+  holds-widens (SnakeSubstitution i b a) t = substitution-widens i b a t
 
   pub lawful-widens : (r : Record) → T (lawfulBy beforeFour P s r) → T (lawfulBy afterFour P s r)
   lawful-widens r t = let x = lawful-by-iff beforeFour P s r .0 t in lawful-by-iff afterFour P s r .1 (x .0, holds-widens r (x .1))
 
   -- where no record was lawful, one that is lawful is a slide
-  added-slide : ((r : Record) → T (lawfulBy beforeFour P s r) → ⊥) → (r : Record) → T (lawfulBy afterFour P s r) → (i : ℕ) × (b : ℕ) × (a : ℕ) × (r ≡ SnakeSubstitution i b a)
+  added-substitution : ((r : Record) → T (lawfulBy beforeFour P s r) → ⊥) → (r : Record) → T (lawfulBy afterFour P s r) → (i : ℕ) × (b : ℕ) × (a : ℕ) × (r ≡ SnakeSubstitution i b a)
   unfolding holdsBy
-  added-slide n r t = go r (lawful-by-iff afterFour P s r .0 t .1)
+  added-substitution n r t = go r (lawful-by-iff afterFour P s r .0 t .1)
     where
       no : (r : Record) → T (holdsBy beforeFour P s r) → ⊥
       no x h = n x (lawful-by-iff beforeFour P s x .1 (lawful-by-iff afterFour P s r .0 t .0, h))
@@ -120,7 +120,7 @@ module _ (P : Problem) where
       go Nothing e = inl (run-by-stop afterFour P (suc (liveCount P s)) s e)
       go (Step r) e =
           let l = next-by-lawful afterFour P s r e in
-          let x = added-slide F n r l in
+          let x = added-substitution F n r l in
           let q = x .3 in
           inr (x .0, x .1, x .2, runFromBy afterFour (liveCount P s) P (after P s r), run-by-step afterFour P (liveCount P s) s r e ∙ ap (λ (y : Record). y ∷ runFromBy afterFour (liveCount P s) P (after P s r)) q, subst (λ (y : Record). T (lawfulBy afterFour P s y)) q l, n _)
 

@@ -6,7 +6,7 @@ use Prim.Native.Nat.{ℕ}
 use native.Mathlib.Nat.{lt-irrefl, lt-trans}
 use lib.Dec.{eqb, ltb}
 use borrow.Author.Tests.{ltb-true}
-use Rattle.bounded.specs.Bounded.{imp, allBelow, anyBelow, lowest, atLowest, sumTo, countBelow}
+use Rattle.bounded.specs.Quantifiers.{imp, allBelow, anyBelow, lowest, atLowest, sumTo, countBelow}
 use Rattle.problem.specs.declared.Cover.{Cover}
 use Rattle.problem.specs.declared.Cover.the-variants.{Spoilt, Holds}
 use Rattle.problem.specs.declared.Break.{Break}
@@ -145,15 +145,15 @@ module _ (P : Problem) (s : State) where
 
   -- kind 5: e "is allowed with a and covers d at every item other than i and k". This is `spare`: i moves to a anyway. Without it i is
   -- kept among these items, as the rule of before had it.
-  unfoldable pub slideServes : (spare : Bool) (i a k d e : ℕ) → Bool
-  slideServes spare i a k d e = P .allowed i a k e && allOther k (λ l. imp (not (spare && eqb l i)) (unspoilt (spoiler k e k d l)))
+  unfoldable pub substitutionServes : (spare : Bool) (i a k d e : ℕ) → Bool
+  substitutionServes spare i a k d e = P .allowed i a k e && allOther k (λ l. imp (not (spare && eqb l i)) (unspoilt (spoiler k e k d l)))
 
   -- kind 5, slide: "a and b are different and on at i; for each other item k and each d on at k allowed with b, some e on at k" serves
   unfoldable pub snakeSubstitution : (spare : Bool) (i b a : ℕ) → Bool
   snakeSubstitution spare i b a =
       s .live i b
       && (s .live i a
-      && (not (eqb a b) && allOther i (λ k. allLive k (λ d. imp (P .allowed i b k d) (anyLive k (λ e. slideServes spare i a k d e))))))
+      && (not (eqb a b) && allOther i (λ k. allLive k (λ d. imp (P .allowed i b k d) (anyLive k (λ e. substitutionServes spare i a k d e))))))
 
   -- ---- why a cover fails
 
@@ -187,11 +187,11 @@ module _ (P : Problem) (s : State) where
 -- ---- the slide's word: kind 5 spares i, as the paper has it (Cooper, "Strengthening neighbourhood substitution"), or keeps it among the items
 -- where e covers d, as the rule of before did
 
-abbrev pub slideSpares : Bool
-slideSpares = true
+abbrev pub substitutionSpares : Bool
+substitutionSpares = true
 
-abbrev pub slideKeeps : Bool
-slideKeeps = false
+abbrev pub substitutionKeeps : Bool
+substitutionKeeps = false
 
 -- how many settings are on, and how many the problem lists
 unfoldable pub liveCount : Problem → State → ℕ

@@ -58,12 +58,12 @@ module _ (P : Problem) (s : State) where
   abbrev pub Neighbourhood : (i b a : ℕ) → Type 0
   Neighbourhood i b a = Live s i b × (Live s i a × (a ≢ b × ((l : ℕ) → Active s l → l ≢ i → Substitutes i a i b l)))
 
-  abbrev pub SlideServes : (spare : Bool) (i a k d e : ℕ) → Type 0
-  SlideServes spare i a k d e = Allowed P i a k e × ((l : ℕ) → Active s l → l ≢ k → ((T spare × l ≡ i) → ⊥) → Substitutes k e k d l)
+  abbrev pub SubstitutionServes : (spare : Bool) (i a k d e : ℕ) → Type 0
+  SubstitutionServes spare i a k d e = Allowed P i a k e × ((l : ℕ) → Active s l → l ≢ k → ((T spare × l ≡ i) → ⊥) → Substitutes k e k d l)
 
   abbrev pub SnakeSubstitution : (spare : Bool) (i b a : ℕ) → Type 0
   SnakeSubstitution spare i b a =
-      Live s i b × (Live s i a × (a ≢ b × ((k : ℕ) → Active s k → k ≢ i → (d : ℕ) → Live s k d → Allowed P i b k d → (e : ℕ) × Live s k e × SlideServes spare i a k d e)))
+      Live s i b × (Live s i a × (a ≢ b × ((k : ℕ) → Active s k → k ≢ i → (d : ℕ) → Live s k d → Allowed P i b k d → (e : ℕ) × Live s k e × SubstitutionServes spare i a k d e)))
 
   -- every value in a domain has a support at each other active variable
   abbrev pub Supported : ℕ → ℕ → Type 0

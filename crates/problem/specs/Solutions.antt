@@ -2,7 +2,7 @@
 use mathlib.Core.Bool.{Bool, true, false}
 use Prim.Native.Nat.{ℕ, zero, suc}
 use lib.Dec.{ltb}
-use Rattle.bounded.specs.Bounded.{sumTo, oneIf}
+use Rattle.bounded.specs.Quantifiers.{sumTo, oneIf}
 use Rattle.problem.specs.Problem.{Problem, State}
 use Rattle.problem.specs.PutBack.{solves, put}
 

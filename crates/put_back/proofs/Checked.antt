@@ -24,7 +24,7 @@ use Rattle.problem.specs.Causes.{CoverAlone, BreaksAt}
 use Rattle.buffers.specs.Bytes.{byteAt}
 use Rattle.trace.specs.Trace.{recordBytes, recordsBytes, traceBytes, recordAt}
 use Rattle.put_back.specs.Causes.{NoRecord, Carried}
-use Rattle.put_back.specs.PutBack.{Checked, Lawful, Fault, unnamed, unlawfulRecord, withRecord, checkFrom, checkTrace}
+use Rattle.put_back.specs.PutBack.{Checked, Lawful, Faulty, unnamed, unlawfulRecord, withRecord, checkFrom, checkTrace}
 use Rattle.trace.specs.declared.RecordRead.{RecordRead}
 use Rattle.trace.specs.declared.RecordRead.the-variants.{Read, End, Malformed}
 use Rattle.put_back.specs.declared.PutBackRefusal.{PutBackRefusal}
@@ -107,31 +107,31 @@ module _ (P : Problem) where
   abbrev pub RecordsCause : State → (k : ℕ) → List ℕ → Checked → Type 0
   RecordsCause s k d (Lawful u) = (d ≡ recordsBytes u) × T (lawfulTrace P s u)
   -- 16: "cut short, unknown kind, or length byte wrong for the kind"
-  RecordsCause s k d (Fault refusal.Malformed) = (u : List Record) × (more : List ℕ) × (d ≡ recordsBytes u ++ more) × T (lawfulTrace P s u) × NoRecord more
+  RecordsCause s k d (Faulty refusal.Malformed) = (u : List Record) × (more : List ℕ) × (d ≡ recordsBytes u ++ more) × T (lawfulTrace P s u) × NoRecord more
   -- 17: "not lawful in the state reached, or an item in has no setting on"; with what is named of the record
-  RecordsCause s k d (Fault (refusal.Unlawful j l c)) =
+  RecordsCause s k d (Faulty (refusal.Unlawful j l c)) =
       (u : List Record) × (r : Record) × (more : List ℕ) × (d ≡ recordsBytes u ++ (recordBytes r ++ more)) × T (lawfulTrace P s u)
       × (T (lawful P (afterTrace P s u) r) → ⊥) × (unlawfulRecord (k + length u) (brokenCover P (afterTrace P s u) r) ≡ refusal.Unlawful j l c)
-  RecordsCause s k d (Fault (refusal.Sheet r)) = ⊥
-  RecordsCause s k d (Fault refusal.PlanLength) = ⊥
-  RecordsCause s k d (Fault refusal.ResultLength) = ⊥
-  RecordsCause s k d (Fault refusal.TraceFront) = ⊥
-  RecordsCause s k d (Fault refusal.Plan) = ⊥
+  RecordsCause s k d (Faulty (refusal.Sheet r)) = ⊥
+  RecordsCause s k d (Faulty refusal.PlanLength) = ⊥
+  RecordsCause s k d (Faulty refusal.ResultLength) = ⊥
+  RecordsCause s k d (Faulty refusal.TraceFront) = ⊥
+  RecordsCause s k d (Faulty refusal.Plan) = ⊥
 
   -- at the first record
   cause-end : (s : State) (k : ℕ) (d : List ℕ) → d ≡ [] → RecordsCause s k d (Lawful [])
   unfolding recordsBytes lawfulTraceBy
   cause-end s k d e = (e, tt)
 
-  cause-malformed : (s : State) (k : ℕ) (d : List ℕ) → NoRecord d → RecordsCause s k d (Fault refusal.Malformed)
+  cause-malformed : (s : State) (k : ℕ) (d : List ℕ) → NoRecord d → RecordsCause s k d (Faulty refusal.Malformed)
   unfolding recordsBytes lawfulTraceBy
   cause-malformed s k d n = ([], d, refl, tt, n)
 
-  cause-unlawful : (s : State) (k : ℕ) (d : List ℕ) (r : Record) (more : List ℕ) → d ≡ recordBytes r ++ more → (T (lawful P s r) → ⊥) → RecordsCause s k d (Fault (unlawfulRecord k (brokenCover P s r)))
+  cause-unlawful : (s : State) (k : ℕ) (d : List ℕ) (r : Record) (more : List ℕ) → d ≡ recordBytes r ++ more → (T (lawful P s r) → ⊥) → RecordsCause s k d (Faulty (unlawfulRecord k (brokenCover P s r)))
   unfolding recordsBytes lawfulTraceBy afterTrace
   cause-unlawful s k d r more e l = go (brokenCover P s r) refl
     where
-      go : (x : Break) → brokenCover P s r ≡ x → RecordsCause s k d (Fault (unlawfulRecord k x))
+      go : (x : Break) → brokenCover P s r ≡ x → RecordsCause s k d (Faulty (unlawfulRecord k x))
       go (At m c) h = ([], r, more, e, tt, l, λ i. unlawfulRecord (add-zero k i) (h i))
       go Nowhere h = ([], r, more, e, tt, l, λ i. unlawfulRecord (add-zero k i) (h i))
 
@@ -140,9 +140,9 @@ module _ (P : Problem) where
       → (c : Checked) → RecordsCause (after P s r) (k + 1) rest c → RecordsCause s k d (withRecord r c)
   unfolding recordsBytes afterTrace
   cause-more s k d r rest e l (Lawful u) x = (e ∙ ap (λ (w : List ℕ). recordBytes r ++ w) (x .0), trace-iff P s r u .1 (l, x .1))
-  cause-more s k d r rest e l (Fault refusal.Malformed) x =
+  cause-more s k d r rest e l (Faulty refusal.Malformed) x =
       (r ∷ x .0, x .1, e ∙ ap (λ (w : List ℕ). recordBytes r ++ w) (x .2) ∙ sym (append-assoc (recordBytes r) (recordsBytes (x .0)) (x .1)), trace-iff P s r (x .0) .1 (l, x .3), x .4)
-  cause-more s k d r rest e l (Fault (refusal.Unlawful j m c)) (u, y, more, h, t, n, w) = (
+  cause-more s k d r rest e l (Faulty (refusal.Unlawful j m c)) (u, y, more, h, t, n, w) = (
     r ∷ u,
     y,
     more,
@@ -151,11 +151,11 @@ module _ (P : Problem) where
     n,
     ap (λ (a : ℕ). unlawfulRecord a (brokenCover P (afterTrace P (after P s r) u) y)) (one-more k u) ∙ w,
   )
-  cause-more s k d r rest e l (Fault (refusal.Sheet y)) x = x
-  cause-more s k d r rest e l (Fault refusal.PlanLength) x = x
-  cause-more s k d r rest e l (Fault refusal.ResultLength) x = x
-  cause-more s k d r rest e l (Fault refusal.TraceFront) x = x
-  cause-more s k d r rest e l (Fault refusal.Plan) x = x
+  cause-more s k d r rest e l (Faulty (refusal.Sheet y)) x = x
+  cause-more s k d r rest e l (Faulty refusal.PlanLength) x = x
+  cause-more s k d r rest e l (Faulty refusal.ResultLength) x = x
+  cause-more s k d r rest e l (Faulty refusal.TraceFront) x = x
+  cause-more s k d r rest e l (Faulty refusal.Plan) x = x
 
   -- records in front of what is found after them
   abbrev withRecords : List Record → Checked → Checked
@@ -166,7 +166,7 @@ module _ (P : Problem) where
   all-lawful [] = refl
   all-lawful (r ∷ u) = ap (withRecord r) (all-lawful u)
 
-  fault-after : (u : List Record) (e : PutBackRefusal) → withRecords u (Fault e) ≡ Fault e
+  fault-after : (u : List Record) (e : PutBackRefusal) → withRecords u (Faulty e) ≡ Faulty e
   fault-after [] e = refl
   fault-after (r ∷ u) e = ap (withRecord r) (fault-after u e)
 
@@ -218,11 +218,11 @@ module _ (P : Problem) where
     here-end zero s k q h e = absurd (omega arith)
     here-end (suc g) s k q h e = turn-end P t g s k q (at-end t q (let a = length-drop q t in let b : length (drop q t) ≡ 0 = ap length e in omega arith))
 
-    here-malformed : (g : ℕ) (s : State) (k q : ℕ) → length t - q < g → NoRecord (drop q t) → checkFrom g P t s k q ≡ Fault refusal.Malformed
+    here-malformed : (g : ℕ) (s : State) (k q : ℕ) → length t - q < g → NoRecord (drop q t) → checkFrom g P t s k q ≡ Faulty refusal.Malformed
     here-malformed zero s k q h n = absurd (omega arith)
     here-malformed (suc g) s k q h n = turn-malformed P t g s k q (none-malformed t q n)
 
-    here-unlawful : (g : ℕ) (s : State) (k q : ℕ) (r : Record) (more : List ℕ) → length t - q < g → drop q t ≡ recordBytes r ++ more → (T (lawful P s r) → ⊥) → checkFrom g P t s k q ≡ Fault (unlawfulRecord k (brokenCover P s r))
+    here-unlawful : (g : ℕ) (s : State) (k q : ℕ) (r : Record) (more : List ℕ) → length t - q < g → drop q t ≡ recordBytes r ++ more → (T (lawful P s r) → ⊥) → checkFrom g P t s k q ≡ Faulty (unlawfulRecord k (brokenCover P s r))
     here-unlawful zero s k q r more h e l = absurd (omega arith)
     here-unlawful (suc g) s k q r more h e l = turn-unlawful P t g s k q r _ (read-here t q r more e .0) (T-false (lawful P s r) l)
 
@@ -230,17 +230,17 @@ module _ (P : Problem) where
     cause-check f s k p h (Lawful u) x =
         let y = over u f s k p [] h (x .0 ∙ sym (append-nil (recordsBytes u))) (x .1) in
         y .4 ∙ ap (withRecords u) (here-end (y .0) (afterTrace P s u) (k + length u) (y .1) (y .2) (y .3)) ∙ all-lawful u
-    cause-check f s k p h (Fault refusal.Malformed) (u, more, e, l, n) =
+    cause-check f s k p h (Faulty refusal.Malformed) (u, more, e, l, n) =
         let y = over u f s k p more h e l in
         y .4 ∙ ap (withRecords u) (here-malformed (y .0) (afterTrace P s u) (k + length u) (y .1) (y .2) (subst NoRecord (sym (y .3)) n)) ∙ fault-after u refusal.Malformed
-    cause-check f s k p h (Fault (refusal.Unlawful j m c)) (u, r, more, e, l, n, w) =
+    cause-check f s k p h (Faulty (refusal.Unlawful j m c)) (u, r, more, e, l, n, w) =
         let y = over u f s k p (recordBytes r ++ more) h e l in
-        y .4 ∙ ap (withRecords u) (here-unlawful (y .0) (afterTrace P s u) (k + length u) (y .1) r more (y .2) (y .3) n ∙ ap Fault w) ∙ fault-after u (refusal.Unlawful j m c)
-    cause-check f s k p h (Fault (refusal.Sheet r)) x = absurd x
-    cause-check f s k p h (Fault refusal.PlanLength) x = absurd x
-    cause-check f s k p h (Fault refusal.ResultLength) x = absurd x
-    cause-check f s k p h (Fault refusal.TraceFront) x = absurd x
-    cause-check f s k p h (Fault refusal.Plan) x = absurd x
+        y .4 ∙ ap (withRecords u) (here-unlawful (y .0) (afterTrace P s u) (k + length u) (y .1) r more (y .2) (y .3) n ∙ ap Faulty w) ∙ fault-after u (refusal.Unlawful j m c)
+    cause-check f s k p h (Faulty (refusal.Sheet r)) x = absurd x
+    cause-check f s k p h (Faulty refusal.PlanLength) x = absurd x
+    cause-check f s k p h (Faulty refusal.ResultLength) x = absurd x
+    cause-check f s k p h (Faulty refusal.TraceFront) x = absurd x
+    cause-check f s k p h (Faulty refusal.Plan) x = absurd x
 
     -- from a place on, with more turns than bytes are left, the check finds this for its cause and for no other
     pub records-iff : (f : ℕ) (s : State) (k p : ℕ) → length t - p < f → (c : Checked) → (checkFrom f P t s k p ≡ c) ↔ RecordsCause s k (drop p t) c
@@ -256,17 +256,17 @@ module _ (P : Problem) (t : List ℕ) where
   abbrev pub TraceCause : Checked → Type 0
   TraceCause (Lawful u) = (t ≡ traceBytes u) × T (lawfulTrace P (full P) u)
   -- 15: "no byte, or byte 0 is not 1"
-  TraceCause (Fault refusal.TraceFront) = (t ≡ []) ⊎ (byteAt t 0 ≢ 1)
+  TraceCause (Faulty refusal.TraceFront) = (t ≡ []) ⊎ (byteAt t 0 ≢ 1)
   -- 16: after the bytes of a lawful trace, bytes that begin with no record's
-  TraceCause (Fault refusal.Malformed) = (u : List Record) × (more : List ℕ) × (t ≡ traceBytes u ++ more) × T (lawfulTrace P (full P) u) × NoRecord more
+  TraceCause (Faulty refusal.Malformed) = (u : List Record) × (more : List ℕ) × (t ≡ traceBytes u ++ more) × T (lawfulTrace P (full P) u) × NoRecord more
   -- 17: after the bytes of a lawful trace of k records, those of a record that is not lawful in the state reached, and of it l and c are named
-  TraceCause (Fault (refusal.Unlawful k l c)) =
+  TraceCause (Faulty (refusal.Unlawful k l c)) =
       (u : List Record) × (r : Record) × (more : List ℕ) × (t ≡ traceBytes u ++ (recordBytes r ++ more)) × T (lawfulTrace P (full P) u)
       × (T (lawful P (afterTrace P (full P) u) r) → ⊥) × (length u ≡ k) × Carried P (afterTrace P (full P) u) r l c
-  TraceCause (Fault (refusal.Sheet r)) = ⊥
-  TraceCause (Fault refusal.PlanLength) = ⊥
-  TraceCause (Fault refusal.ResultLength) = ⊥
-  TraceCause (Fault refusal.Plan) = ⊥
+  TraceCause (Faulty (refusal.Sheet r)) = ⊥
+  TraceCause (Faulty refusal.PlanLength) = ⊥
+  TraceCause (Faulty refusal.ResultLength) = ⊥
+  TraceCause (Faulty refusal.Plan) = ⊥
 
   -- where byte 0 is 1 the records follow
   begun : (d : List ℕ) → t ≡ 1 ∷ d → checkTrace P t ≡ checkFrom (suc (length t)) P t (full P) 0 1
@@ -284,7 +284,7 @@ module _ (P : Problem) (t : List ℕ) where
         λ h. begun d e ∙ x .1 (subst (λ (w : List ℕ). RecordsCause P (full P) 0 w c) (sym q) h),
       )
 
-  wrong-front : (ltb 0 (length t) && eqb (byteAt t 0) 1) ≡ false → checkTrace P t ≡ Fault refusal.TraceFront
+  wrong-front : (ltb 0 (length t) && eqb (byteAt t 0) 1) ≡ false → checkTrace P t ≡ Faulty refusal.TraceFront
   unfolding checkTrace
   wrong-front e = rw (e, checkTrace)
 
@@ -292,15 +292,15 @@ module _ (P : Problem) (t : List ℕ) where
   of-records : (d : List ℕ) → t ≡ 1 ∷ d → (c : Checked) → RecordsCause P (full P) 0 d c → TraceCause c
   unfolding traceBytes
   of-records d e (Lawful u) x = (e ∙ ap (λ (w : List ℕ). 1 ∷ w) (x .0), x .1)
-  of-records d e (Fault refusal.Malformed) (u, more, h, l, n) = (u, more, e ∙ ap (λ (w : List ℕ). 1 ∷ w) h, l, n)
-  of-records d e (Fault (refusal.Unlawful k j c)) (u, r, more, h, l, n, w) =
+  of-records d e (Faulty refusal.Malformed) (u, more, h, l, n) = (u, more, e ∙ ap (λ (w : List ℕ). 1 ∷ w) h, l, n)
+  of-records d e (Faulty (refusal.Unlawful k j c)) (u, r, more, h, l, n, w) =
       let y = carried-iff (trace-fits P (full-fits P) u) r n (0 + length u) k j c .0 w in
       (u, r, more, e ∙ ap (λ (w : List ℕ). 1 ∷ w) h, l, n, omega (arith, y .0), y .1)
-  of-records d e (Fault (refusal.Sheet r)) x = absurd x
-  of-records d e (Fault refusal.PlanLength) x = absurd x
-  of-records d e (Fault refusal.ResultLength) x = absurd x
-  of-records d e (Fault refusal.TraceFront) x = absurd x
-  of-records d e (Fault refusal.Plan) x = absurd x
+  of-records d e (Faulty (refusal.Sheet r)) x = absurd x
+  of-records d e (Faulty refusal.PlanLength) x = absurd x
+  of-records d e (Faulty refusal.ResultLength) x = absurd x
+  of-records d e (Faulty refusal.TraceFront) x = absurd x
+  of-records d e (Faulty refusal.Plan) x = absurd x
 
   trace-cause : TraceCause (checkTrace P t)
   trace-cause = by-front (lt-dec 0 (length t)) (eq-dec (byteAt t 0) 1)
@@ -319,16 +319,16 @@ module _ (P : Problem) (t : List ℕ) where
   cause-trace : (c : Checked) → TraceCause c → checkTrace P t ≡ c
   unfolding traceBytes
   cause-trace (Lawful u) x = begun-iff (recordsBytes u) (x .0) (Lawful u) .1 (refl, x .1)
-  cause-trace (Fault refusal.TraceFront) (inl e) = wrong-front (ap (λ (w : List ℕ). ltb 0 (length w) && eqb (byteAt w 0) 1) e)
-  cause-trace (Fault refusal.TraceFront) (inr d) = wrong-front (T-false _ (λ h. d (eqb-iff (byteAt t 0) 1 .0 (and-iff (ltb 0 (length t)) (eqb (byteAt t 0) 1) .0 h .1))))
-  cause-trace (Fault refusal.Malformed) (u, more, e, l, n) = begun-iff (recordsBytes u ++ more) e (Fault refusal.Malformed) .1 (u, more, refl, l, n)
-  cause-trace (Fault (refusal.Unlawful k j c)) (u, r, more, e, l, n, h, x) =
-      begun-iff (recordsBytes u ++ (recordBytes r ++ more)) e (Fault (refusal.Unlawful k j c)) .1
+  cause-trace (Faulty refusal.TraceFront) (inl e) = wrong-front (ap (λ (w : List ℕ). ltb 0 (length w) && eqb (byteAt w 0) 1) e)
+  cause-trace (Faulty refusal.TraceFront) (inr d) = wrong-front (T-false _ (λ h. d (eqb-iff (byteAt t 0) 1 .0 (and-iff (ltb 0 (length t)) (eqb (byteAt t 0) 1) .0 h .1))))
+  cause-trace (Faulty refusal.Malformed) (u, more, e, l, n) = begun-iff (recordsBytes u ++ more) e (Faulty refusal.Malformed) .1 (u, more, refl, l, n)
+  cause-trace (Faulty (refusal.Unlawful k j c)) (u, r, more, e, l, n, h, x) =
+      begun-iff (recordsBytes u ++ (recordBytes r ++ more)) e (Faulty (refusal.Unlawful k j c)) .1
       (u, r, more, refl, l, n, carried-iff (trace-fits P (full-fits P) u) r n (0 + length u) k j c .1 (omega arith, x))
-  cause-trace (Fault (refusal.Sheet r)) x = absurd x
-  cause-trace (Fault refusal.PlanLength) x = absurd x
-  cause-trace (Fault refusal.ResultLength) x = absurd x
-  cause-trace (Fault refusal.Plan) x = absurd x
+  cause-trace (Faulty (refusal.Sheet r)) x = absurd x
+  cause-trace (Faulty refusal.PlanLength) x = absurd x
+  cause-trace (Faulty refusal.ResultLength) x = absurd x
+  cause-trace (Faulty refusal.Plan) x = absurd x
 
   -- A trace is judged as it is for its cause and for no other.
   pub checked-iff : (c : Checked) → (checkTrace P t ≡ c) ↔ TraceCause c

@@ -11,7 +11,7 @@ use Rattle.problem.specs.Problem.{Problem, full}
 use Rattle.problem.specs.Run.{afterTrace}
 use Rattle.sheet.specs.Sheet.{layout}
 use Rattle.sheet.specs.Relation.{problemOf}
-use Rattle.put_back.specs.PutBack.{PutBackResult, Checked, Lawful, Fault, checkTrace, planFits, afterCheck, putBackOver, putBackJob}
+use Rattle.put_back.specs.PutBack.{PutBackResult, Checked, Lawful, Faulty, checkTrace, planFits, afterCheck, putBackOver, putBackJob}
 use Rattle.put_back.specs.declared.PutBackRefusal.{PutBackRefusal}
 use Rattle.put_back.specs.declared.PutBackOutcome.the-variants as extended
 use Rattle.jobs.proofs.Opened.{sheet-each}
@@ -19,7 +19,7 @@ use Rattle.put_back.proofs.Opened.{put-back-plan-length-over, put-back-
 
 -- refused putting back leaves the result's buffer as it was
 check-unaltered : (P : Problem) (p b : List ℕ) (c : Checked) (r : PutBackRefusal) → (afterCheck P p b c) .answer ≡ extended.Refused r → (afterCheck P p b c) .result ≡ b
-check-unaltered P p b (Fault e) r o = refl
+check-unaltered P p b (Faulty e) r o = refl
 check-unaltered P p b (Lawful u) r o = go (planFits P (afterTrace P (full P) u) p) refl
   where
     go : (y : Bool) → planFits P (afterTrace P (full P) u) p ≡ y → (afterCheck P p b (Lawful u)) .result ≡ b

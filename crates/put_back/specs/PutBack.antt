@@ -4,7 +4,7 @@ use mathlib.Core.List.{List, [], _∷_}
 use Prim.Native.Nat.{ℕ, zero, suc, _+_}
 use lib.Dec.{ltb, eqb}
 use lib.ListN.{length}
-use Rattle.bounded.specs.Bounded.{allBelow}
+use Rattle.bounded.specs.Quantifiers.{allBelow}
 use Rattle.bounded.specs.Table.{tab}
 use Rattle.problem.specs.Problem.{Problem, State, full}
 use Rattle.problem.specs.Run.{lawful, brokenCover, after, afterTrace}
@@ -48,31 +48,31 @@ unlawfulRecord k Nowhere = Unlawful k unnamed unnamed
 -- the records of a lawful trace, or the first fault
 pub data Checked : Type 0 where
   Lawful : List Record → Checked
-  Fault : PutBackRefusal → Checked
+  Faulty : PutBackRefusal → Checked
 
 abbrev pub withRecord : Record → Checked → Checked
 withRecord r (Lawful t) = Lawful (r ∷ t)
-withRecord r (Fault e) = Fault e
+withRecord r (Faulty e) = Faulty e
 
 -- from the place p in the state s, where record k stands: a malformed record is 16, one that is not lawful in the state reached is 17 (also
 -- where an item in has no setting on). A record has at least one byte, so that as many turns as the trace has bytes are enough.
 unfoldable pub checkFrom : ℕ → Problem → List ℕ → State → (k p : ℕ) → Checked
-checkFrom zero P t s k p = Fault Malformed
+checkFrom zero P t s k p = Faulty Malformed
 checkFrom (suc f) P t s k p =
     elim (recordAt t p) [
       | record·.End ↦ Lawful []
-      | record·.Malformed ↦ Fault Malformed
+      | record·.Malformed ↦ Faulty Malformed
       | record·.Read r next ↦
           elim (lawful P s r) [
             | true ↦ withRecord r (checkFrom f P t (after P s r) (k + 1) next)
-            | false ↦ Fault (unlawfulRecord k (brokenCover P s r))
+            | false ↦ Faulty (unlawfulRecord k (brokenCover P s r))
           ]
     ]
 
 -- "no byte, or byte 0 is not 1" is 15
 unfoldable pub checkTrace : Problem → List ℕ → Checked
 checkTrace P t =
-    elim (ltb 0 (length t) && eqb (byteAt t 0) 1) [ true ↦ checkFrom (suc (length t)) P t (full P) 0 1 | false ↦ Fault TraceFront ]
+    elim (ltb 0 (length t) && eqb (byteAt t 0) 1) [ true ↦ checkFrom (suc (length t)) P t (full P) 0 1 | false ↦ Faulty TraceFront ]
 
 -- ---- the plan
 
@@ -87,7 +87,7 @@ abbrev pub putBackDone : Problem → List Record → List ℕ → PutBackResult
 putBackDone P t p = record { answer = Done; result = tab (P .n) (undoTrace P (full P) t (planOf p)) }
 
 abbrev pub afterCheck : Problem → List ℕ → List ℕ → Checked → PutBackResult
-afterCheck P p b (Fault e) = putBackRefused e b
+afterCheck P p b (Faulty e) = putBackRefused e b
 afterCheck P p b (Lawful t) = elim (planFits P (afterTrace P (full P) t) p) [ true ↦ putBackDone P t p | false ↦ putBackRefused Plan b ]
 
 -- over the problem P, in the order of the table: 18, "plan is not n bytes"; 20, "result buffer is not n bytes"; 15; then 16 and 17 record by

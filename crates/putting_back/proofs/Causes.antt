@@ -8,9 +8,9 @@ use Prim.Native.Nat.{ℕ, _≤_, _<_}
 use native.Mathlib.Omega.{arith}
 use lib.Dec.{T, eqb}
 use lib.ListN.{length}
-use Rattle.bounded.specs.Bounded.{imp, allBelow}
+use Rattle.bounded.specs.Quantifiers.{imp, allBelow}
 use Rattle.bounded.proofs.Truth.{T-true, T-false, T-dec, eq-dec, and-iff, or-iff, not-iff, imp-fails, eqb-iff}
-use Rattle.bounded.proofs.Bounded.{all-iff, all-or}
+use Rattle.bounded.proofs.Quantifiers.{all-iff, all-or}
 use Rattle.bounded.proofs.Causes.{cause-iff, number-iff}
 use Rattle.problem.specs.Problem.{Problem, State, full, allOther}
 use Rattle.problem.specs.Run.{lawful, lawfulTrace, afterTrace}
@@ -24,7 +24,7 @@ use Rattle.buffers.specs.Bytes.{byteAt}
 use Rattle.sheet.proofs.Refusals.{sheet-number}
 use Rattle.put_back.specs.Numbers.{putBackNumber}
 use Rattle.trace.specs.Trace.{recordBytes, traceBytes}
-use Rattle.put_back.specs.PutBack.{PutBackResult, putBackRefused, putBackDone, Checked, Lawful, Fault, checkTrace, planFits, afterCheck, putBackOver, putBackJob}
+use Rattle.put_back.specs.PutBack.{PutBackResult, putBackRefused, putBackDone, Checked, Lawful, Faulty, checkTrace, planFits, afterCheck, putBackOver, putBackJob}
 use Rattle.put_back.specs.declared.PutBackOutcome.{PutBackOutcome}
 use Rattle.put_back.specs.declared.PutBackOutcome.the-variants.{Done, Refused}
 use Rattle.put_back.specs.declared.PutBackRefusal.the-variants as refusal
@@ -107,9 +107,9 @@ module _ (P : Problem) (t p b : List ℕ) where
   cause-answers (Refused (refusal.Sheet r)) x = absurd x
   cause-answers (Refused refusal.PlanLength) d = ap (λ (y : PutBackResult). y .answer) (put-back-plan-length-over P t p b d)
   cause-answers (Refused refusal.ResultLength) (e, d) = ap (λ (y : PutBackResult). y .answer) (put-back-result-length-over P t p b e d)
-  cause-answers (Refused refusal.TraceFront) (Z, x) = checks Z (Fault refusal.TraceFront) x
-  cause-answers (Refused refusal.Malformed) (Z, x) = checks Z (Fault refusal.Malformed) x
-  cause-answers (Refused (refusal.Unlawful k l c)) (Z, x) = checks Z (Fault (refusal.Unlawful k l c)) x
+  cause-answers (Refused refusal.TraceFront) (Z, x) = checks Z (Faulty refusal.TraceFront) x
+  cause-answers (Refused refusal.Malformed) (Z, x) = checks Z (Faulty refusal.Malformed) x
+  cause-answers (Refused (refusal.Unlawful k l c)) (Z, x) = checks Z (Faulty (refusal.Unlawful k l c)) x
   cause-answers (Refused refusal.Plan) (Z, (u, e, l, x)) =
       checks Z (Lawful u) (e, l)
       ∙ ap (λ (y : Bool). (planned u y) .answer) (T-false (planFits P (left u) p) (plan-not P (left u) p (trace-fits P (full-fits P) u) x))
@@ -120,13 +120,13 @@ module _ (P : Problem) (t p b : List ℕ) where
     where
       by-check : Sized P t p b → (c : Checked) → TraceCause P t c → (o : PutBackOutcome) × BackCauseOver P t p b o
       by-check Z (Lawful u) x = elim (plan-or P (left u) p) [ inl y ↦ (Done, (Z, (u, x .0, x .1, y))) | inr y ↦ (Refused refusal.Plan, (Z, (u, x .0, x .1, y))) ]
-      by-check Z (Fault refusal.TraceFront) x = (Refused refusal.TraceFront, (Z, x))
-      by-check Z (Fault refusal.Malformed) x = (Refused refusal.Malformed, (Z, x))
-      by-check Z (Fault (refusal.Unlawful k l c)) x = (Refused (refusal.Unlawful k l c), (Z, x))
-      by-check Z (Fault (refusal.Sheet r)) x = absurd x
-      by-check Z (Fault refusal.PlanLength) x = absurd x
-      by-check Z (Fault refusal.ResultLength) x = absurd x
-      by-check Z (Fault refusal.Plan) x = absurd x
+      by-check Z (Faulty refusal.TraceFront) x = (Refused refusal.TraceFront, (Z, x))
+      by-check Z (Faulty refusal.Malformed) x = (Refused refusal.Malformed, (Z, x))
+      by-check Z (Faulty (refusal.Unlawful k l c)) x = (Refused (refusal.Unlawful k l c), (Z, x))
+      by-check Z (Faulty (refusal.Sheet r)) x = absurd x
+      by-check Z (Faulty refusal.PlanLength) x = absurd x
+      by-check Z (Faulty refusal.ResultLength) x = absurd x
+      by-check Z (Faulty refusal.Plan) x = absurd x
 
       by-result : length p ≡ P .n → (length b ≡ P .n) ⊎ (length b ≢ P .n) → (o : PutBackOutcome) × BackCauseOver P t p b o
       by-result e (inl f) = by-check (e, f) (checkTrace P t) (checked-iff P t (checkTrace P t) .0 refl)

@@ -7,9 +7,9 @@ use Prim.Native.Nat.{ℕ}
 use lib.Dec.{T, eqb}
 use lib.ListN.{length, take, replicate, length-replicate, getD-replicate}
 use lib.Seq.{take-at}
-use Rattle.bounded.specs.Bounded.{allBelow}
+use Rattle.bounded.specs.Quantifiers.{allBelow}
 use Rattle.bounded.proofs.Truth.{and-iff, or-iff, eqb-iff}
-use Rattle.bounded.proofs.Bounded.{all-iff}
+use Rattle.bounded.proofs.Quantifiers.{all-iff}
 use Rattle.problem.specs.Problem.{Problem, State, full}
 use Rattle.problem.specs.Run.{afterTrace, run}
 use Rattle.problem.specs.PutBack.{solves, solvesWhole, planOf}

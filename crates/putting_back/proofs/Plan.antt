@@ -6,9 +6,9 @@ use mathlib.Core.List.{List}
 use Prim.Native.Nat.{ℕ, _<_}
 use lib.Dec.{T, eqb}
 use lib.ListN.{length}
-use Rattle.bounded.specs.Bounded.{allBelow}
+use Rattle.bounded.specs.Quantifiers.{allBelow}
 use Rattle.bounded.proofs.Truth.{T-ext, T-dec, and-iff, or-iff, imp-iff, not-iff, eqb-iff}
-use Rattle.bounded.proofs.Bounded.{all-iff}
+use Rattle.bounded.proofs.Quantifiers.{all-iff}
 use Rattle.problem.specs.Problem.{Problem, State}
 use Rattle.problem.specs.PutBack.{solves, planOf}
 use Rattle.problem.specs.Sentences.{Active, Live, Allowed, Fits, Solution}

@@ -4,7 +4,7 @@ use mathlib.Core.List.{List}
 use Prim.Native.Nat.{ℕ, _≤_, _<_}
 use lib.Dec.{T, eqb}
 use lib.ListN.{length}
-use Rattle.bounded.specs.Bounded.{imp, allBelow}
+use Rattle.bounded.specs.Quantifiers.{imp, allBelow}
 use Rattle.problem.specs.Problem.{Problem, State}
 use Rattle.problem.specs.PutBack.{planOf}
 use Rattle.problem.specs.Masks.{stateOf}

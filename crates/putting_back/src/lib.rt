@@ -4,7 +4,7 @@ ghost use mathlib.Core.Path.{_≡_};
 ghost use mathlib.Core.Bool.{true, false};
 ghost use Prim.Native.Nat.{_<_, _≤_};
 ghost use lib.ListN.{length};
-ghost use Rattle.bounded.specs.Bounded.{allBelow};
+ghost use Rattle.bounded.specs.Quantifiers.{allBelow};
 ghost use Rattle.problem.specs.Problem.{full};
 ghost use Rattle.problem.specs.PutBack.{planOf};
 ghost use Rattle.problem.specs.Held.{held, RowTable};

@@ -5,7 +5,7 @@ use mathlib.Core.List.{List}
 use Prim.Native.Nat.{ℕ, _+_, _*_, _≤_, _<_}
 use lib.Dec.{eqb, ltb}
 use lib.ListN.{length, getD}
-use Rattle.bounded.specs.Bounded.{allBelow, anyBelow}
+use Rattle.bounded.specs.Quantifiers.{allBelow, anyBelow}
 use Rattle.problem.specs.Held.{Located}
 use Rattle.problem.specs.Filling.{Shows}
 use Rattle.buffers.specs.Bytes.{numberAt}

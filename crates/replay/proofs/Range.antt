@@ -7,7 +7,7 @@ use native.Mathlib.Omega.{arith}
 use lib.Dec.{ltb}
 use borrow.Author.Tests.{ltb-true}
 use Rattle.bounded.proofs.Truth.{T-of, T-not, T-false, both, and-iff, ltb-iff}
-use Rattle.problem.specs.Problem.{Problem, State, noneEmpty, unsupported, snake, triangle, neighbourhood, snakeSubstitution, slideSpares, coverAsked}
+use Rattle.problem.specs.Problem.{Problem, State, noneEmpty, unsupported, snake, triangle, neighbourhood, snakeSubstitution, substitutionSpares, coverAsked}
 use Rattle.problem.specs.Run.{holds, lawfulBy, lawful, after}
 use Rattle.problem.specs.Held.{held}
 use Rattle.problem.specs.Masks.{stateOf, masksOf}
@@ -49,8 +49,8 @@ module _ {t : List ℕ} {m : Masks} (R : Ready t m) where
   pub neighbourhood-out : (i b a : ℕ) → (ltb i 32 && (ltb b 16 && ltb a 16)) ≡ false → neighbourhood (held t) (stateOf m) i b a ≡ false
   neighbourhood-out i b a e = T-false _ (λ h. out3 i 32 b 16 a 16 e (let x = neighbourhood-iff (R .fits) i b a .0 h in let y = live-within R i b (x .0) in (y .0, (y .1, live-within R i a (x .1 .0) .1))))
 
-  pub slide-out : (i b a : ℕ) → (ltb i 32 && (ltb b 16 && ltb a 16)) ≡ false → snakeSubstitution (held t) (stateOf m) slideSpares i b a ≡ false
-  slide-out i b a e = T-false _ (λ h. out3 i 32 b 16 a 16 e (let x = snakeSubstitution-iff (R .fits) slideSpares i b a .0 h in let y = live-within R i b (x .0) in (y .0, (y .1, live-within R i a (x .1 .0) .1))))
+  pub substitution-out : (i b a : ℕ) → (ltb i 32 && (ltb b 16 && ltb a 16)) ≡ false → snakeSubstitution (held t) (stateOf m) substitutionSpares i b a ≡ false
+  substitution-out i b a e = T-false _ (λ h. out3 i 32 b 16 a 16 e (let x = snakeSubstitution-iff (R .fits) substitutionSpares i b a .0 h in let y = live-within R i b (x .0) in (y .0, (y .1, live-within R i a (x .1 .0) .1))))
 
   -- ---- what is named of a record
 

@@ -14,7 +14,7 @@ use Rattle.problem.specs.Masks.{masksOf}
 use Rattle.problem.specs.declared.Masks.{Masks}
 use Rattle.buffers.specs.Bytes.{byteAt}
 use Rattle.trace.specs.Trace.{recordAt}
-use Rattle.put_back.specs.PutBack.{Checked, Lawful as Records, Fault as Faulty, unlawfulRecord, withRecord, checkFrom, checkTrace}
+use Rattle.put_back.specs.PutBack.{Checked, Lawful as Records, Faulty, unlawfulRecord, withRecord, checkFrom, checkTrace}
 use Rattle.trace.specs.declared.RecordRead.{RecordRead}
 use Rattle.trace.specs.declared.RecordRead.the-variants as record·
 use Rattle.put_back.specs.declared.PutBackRefusal.{PutBackRefusal}

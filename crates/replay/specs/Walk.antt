@@ -12,7 +12,7 @@ use Rattle.put_back.specs.declared.PutBackRefusal.{PutBackRefusal}
 use Rattle.put_back.specs.declared.PutBackRefusal.the-variants.{Malformed}
 use Rattle.trace.specs.declared.RecordRead.{RecordRead}
 use Rattle.trace.specs.declared.RecordRead.the-variants as record·
-use Rattle.put_back.specs.PutBack.{Checked, Lawful as Records, Fault as Faulty, unlawfulRecord, checkFrom}
+use Rattle.put_back.specs.PutBack.{Checked, Lawful as Records, Faulty, unlawfulRecord, checkFrom}
 use Rattle.replay.specs.declared.TraceEnd.{TraceEnd}
 use Rattle.replay.specs.declared.Checking.{Checking}
 use Rattle.replay.specs.declared.TraceCheck.the-variants.{Lawful, Fault}

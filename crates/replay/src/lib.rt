@@ -3,7 +3,7 @@ ghost use mathlib.Core.Path.{_≡_};
 ghost use mathlib.Core.Bool.{true, false};
 ghost use Prim.Native.Nat.{_<_};
 ghost use lib.Dec.{T};
-ghost use Rattle.problem.specs.Problem.{full, unsupported as unsupportedAt, snake as snakeAt, triangle as triangleAt, neighbourhood as neighbourhoodAt, snakeSubstitution as slideAt, slideSpares, coverAsked};
+ghost use Rattle.problem.specs.Problem.{full, unsupported as unsupportedAt, snake as snakeAt, triangle as triangleAt, neighbourhood as neighbourhoodAt, snakeSubstitution as substitutionHolds, substitutionSpares, coverAsked};
 ghost use Rattle.problem.specs.Run.{holds as holdsAt, lawful as lawfulAt, brokenCover, after};
 ghost use Rattle.problem.specs.Held.{held, RowTable};
 ghost use Rattle.problem.specs.Masks.{stateOf, masksOf, sets};
@@ -84,9 +84,9 @@ fn holds_neighbourhood(t: &[u16], active: u32, on: &[u16; 32], i: usize, b: usiz
     }
 }
 
-fn holds_slide(t: &[u16], active: u32, on: &[u16; 32], i: usize, b: usize, a: usize) -> bool
+fn holds_substitution(t: &[u16], active: u32, on: &[u16; 32], i: usize, b: usize, a: usize) -> bool
     requires { ⌜ Ready (now t) (sets active (now on)) ⌝ }
-    ensures { λ r. ⌜ r ≡ slideAt (held (now (t .entry))) (stateOf (sets active (now (on .entry)))) slideSpares i b a ⌝ }
+    ensures { λ r. ⌜ r ≡ substitutionHolds (held (now (t .entry))) (stateOf (sets active (now (on .entry)))) substitutionSpares i b a ⌝ }
 {
     if (i < 32) & ((b < 16) & (a < 16)) {
         snake_substitution::snake_substitution(t, active, on, i, b, a)
@@ -105,7 +105,7 @@ fn holds(t: &[u16], active: u32, on: &[u16; 32], r: Record) -> bool
         Record::Snake(i, v) => holds_snake(t, active, on, i, v),
         Record::Triangle(i, j) => holds_triangle(t, active, on, i, j),
         Record::Neighbourhood(i, b, a) => holds_neighbourhood(t, active, on, i, b, a),
-        Record::SnakeSubstitution(i, b, a) => holds_slide(t, active, on, i, b, a),
+        Record::SnakeSubstitution(i, b, a) => holds_substitution(t, active, on, i, b, a),
     }
 }
 

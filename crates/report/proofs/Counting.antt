@@ -5,9 +5,9 @@ use mathlib.Core.Logic.{_⊎_, ⊎-elim}
 use Prim.Native.Nat.{ℕ, zero, suc, _+_, _≤_, _<_}
 use native.Mathlib.Omega.{arith}
 use lib.Dec.{T}
-use Rattle.bounded.specs.Bounded.{oneIf, sumTo, countBelow}
+use Rattle.bounded.specs.Quantifiers.{oneIf, sumTo, countBelow}
 use Rattle.bounded.proofs.Truth.{T-false, lt-dec}
-use Rattle.bounded.proofs.Bounded.{sum-ext}
+use Rattle.bounded.proofs.Quantifiers.{sum-ext}
 use Rattle.bounded.proofs.Loops.{sum-more}
 use Rattle.problem.specs.Problem.{Problem, State, liveCount}
 use Rattle.problem.specs.Held.{Bounded}

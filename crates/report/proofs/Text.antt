@@ -6,7 +6,7 @@ use native.Mathlib.Nat.{zero-add}
 use native.Mathlib.Omega.{arith}
 use lib.ListN.{length}
 use borrow.Author.Tests.{lt-ltb, le-ltb}
-use Rattle.bounded.specs.Bounded.{countBelow, sumTo}
+use Rattle.bounded.specs.Quantifiers.{countBelow, sumTo}
 use Rattle.problem.specs.Problem.{Problem, State, full, sizeSum, liveCount}
 use Rattle.problem.specs.Run.{run, afterTrace, endOf}
 use Rattle.problem.specs.Held.{Bounded}

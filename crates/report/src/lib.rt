@@ -2,7 +2,7 @@
 ghost use mathlib.Core.Path.{_≡_};
 ghost use Prim.Native.Nat.{_+_, _*_, _≤_};
 ghost use lib.ListN.{length};
-ghost use Rattle.bounded.specs.Bounded.{countBelow, sumTo};
+ghost use Rattle.bounded.specs.Quantifiers.{countBelow, sumTo};
 ghost use Rattle.bounded.specs.Mask.{bit};
 ghost use Rattle.problem.specs.Problem.{sizeSum};
 ghost use Rattle.problem.specs.Masks.{stateOf};

@@ -1,7 +1,7 @@
 -- Failures last while the values stay that they rest on, and what each kind's failure rests on. Assumes nothing.
 use mathlib.Core.Logic.{_≢_}
 use Prim.Native.Nat.{ℕ}
-use Rattle.problem.specs.Problem.{Problem, State, slideSpares}
+use Rattle.problem.specs.Problem.{Problem, State, substitutionSpares}
 use Rattle.problem.specs.Sentences.{Active, Live, Allowed, Fits, Substitutes, Snake, Triangle, Neighbourhood, SnakeSubstitution}
 use Rattle.rests.specs.Rests.{Below, Kept, Rests, Unserved}
 
@@ -54,7 +54,7 @@ module _ {P : Problem} {s : State} {set : ℕ → ℕ → Type 0} where
 
   -- d of k is allowed with b, and no value of k does in its place beside a
   pub substitution-rests : (i b a k d : ℕ) → k ≢ i → Live s k d → set k d → Allowed P i b k d → Unserved P s set (λ l. (l ≢ i) × (l ≢ k)) (λ e. Allowed P i a k e) k k d
-      → Rests P s (λ q. SnakeSubstitution P q slideSpares i b a) set
+      → Rests P s (λ q. SnakeSubstitution P q substitutionSpares i b a) set
   substitution-rests i b a k d n o m t h q F B K S =
       let on = K k d m o in
       let x = S .1 .1 .1 k (F .live-active k d on) n d on t in

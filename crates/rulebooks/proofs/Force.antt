@@ -12,7 +12,7 @@ use Rattle.buffers.specs.Bytes.{byteAt}
 use Rattle.trace.specs.Trace.{recordAt}
 use Rattle.jobs.specs.WithSheet.{withSheet}
 use Rattle.run.specs.Run.{runDone, runOver, runJob}
-use Rattle.put_back.specs.PutBack.{putBackRefused, unlawfulRecord, Lawful, Fault, withRecord, checkFrom, checkTrace, afterCheck, putBackOver, putBackJob}
+use Rattle.put_back.specs.PutBack.{putBackRefused, unlawfulRecord, Lawful, Faulty, withRecord, checkFrom, checkTrace, afterCheck, putBackOver, putBackJob}
 use Rattle.trace.specs.declared.RecordRead.the-variants as record·
 use Rattle.put_back.specs.declared.PutBackRefusal.the-variants as back
 use Rattle.rulebooks.specs.Under.{runOverUnder, runJobUnder, checkFromUnder, checkTraceUnder, putBackOverUnder, putBackJobUnder}
@@ -28,11 +28,11 @@ module _ (P : Problem) (t : List ℕ) where
   check-in-force (suc f) s k p = λ i.
       elim (recordAt t p) [
         | record·.End ↦ Lawful []
-        | record·.Malformed ↦ Fault back.Malformed
+        | record·.Malformed ↦ Faulty back.Malformed
         | record·.Read r next ↦
             elim (lawful P s r) [
               | true ↦ withRecord r (check-in-force f (after P s r) (k + 1) next i)
-              | false ↦ Fault (unlawfulRecord k (brokenCover P s r))
+              | false ↦ Faulty (unlawfulRecord k (brokenCover P s r))
             ]
       ]
 
@@ -43,7 +43,7 @@ module _ (P : Problem) (t : List ℕ) where
         | false ↦ putBackRefused back.PlanLength b
         | true ↦ elim (eqb (length b) (P .n)) [
           | false ↦ putBackRefused back.ResultLength b
-          | true ↦ afterCheck P p b (elim (ltb 0 (length t) && eqb (byteAt t 0) 1) [ true ↦ check-in-force (suc (length t)) (full P) 0 1 i | false ↦ Fault back.TraceFront ])
+          | true ↦ afterCheck P p b (elim (ltb 0 (length t) && eqb (byteAt t 0) 1) [ true ↦ check-in-force (suc (length t)) (full P) 0 1 i | false ↦ Faulty back.TraceFront ])
         ]
       ]
 

@@ -1,6 +1,6 @@
 -- The bench sheets of specs/Samples.antt, by computation. Assumes nothing.
 use mathlib.Core.Path.{refl}
-use Rattle.bounded.specs.Bounded as bounded
+use Rattle.bounded.specs.Quantifiers as bounded
 use Rattle.bounded.specs.Mask as mask
 use Rattle.bounded.specs.Table as table
 use Rattle.problem.specs.Problem as problem
@@ -18,5 +18,5 @@ use Rattle.rulebooks.specs.Under.{runOverUnder, runJobUnder, checkFromUn
 use Rattle.rulebooks.specs.Samples.{RanBeforeFour}
 
 pub before-sampled : RanBeforeFour
-unfolding record·.recordOf bounded.allBelow bounded.anyBelow bounded.lowest bounded.atLowest bounded.sumTo bounded.countBelow mask.maskOf table.tab problem.bothWays problem.full problem.stateFits problem.allActive problem.allLive problem.anyLive problem.lowestLive problem.allOther problem.allThird problem.noneEmpty problem.spoils problem.spoiler problem.unsupported problem.snakeServes problem.snake problem.triangleServes problem.triangle problem.neighbourhood problem.slideServes problem.snakeSubstitution problem.breaks problem.firstBreak problem.coverAsked problem.remove problem.eliminate problem.liveCount problem.sizeSum run·.holdsBy run·.lawfulBy run·.brokenCover run·.after run·.afterTrace run·.stepIf run·.first run·.nextUnsupported run·.nextSnake run·.nextTriangle run·.nextNeighbourhood run·.nextSnakeSubstitutionBy run·.nextOfKindBy run·.nextBy run·.runFromBy run·.runBy run·.endOf hand·.supported hand·.prune hand·.pruneTimes hand·.start hand·.call back·.solves back·.put back·.repair back·.undo back·.undoTrace packed.stateOf packed.masksOf solutions.solutionsFrom solutions.solutionCount solutions.solvable sheet.beyond sheet.allowsAll sheet.blockOf sheet.blockAt sheet.blocksFrom sheet.badSizes sheet.readSheet relation.rowsFrom relation.rowsOf relation.pairAllowed relation.sizeOf relation.listed relation.allowedOf relation.problemOf recordsBytes traceBytes recordAt withSheet runOverUnder runJobUnder checkFromUnder checkTraceUnder putBackOverUnder putBackJobUnder
+unfolding record·.recordOf bounded.allBelow bounded.anyBelow bounded.lowest bounded.atLowest bounded.sumTo bounded.countBelow mask.maskOf table.tab problem.bothWays problem.full problem.stateFits problem.allActive problem.allLive problem.anyLive problem.lowestLive problem.allOther problem.allThird problem.noneEmpty problem.spoils problem.spoiler problem.unsupported problem.snakeServes problem.snake problem.triangleServes problem.triangle problem.neighbourhood problem.substitutionServes problem.snakeSubstitution problem.breaks problem.firstBreak problem.coverAsked problem.remove problem.eliminate problem.liveCount problem.sizeSum run·.holdsBy run·.lawfulBy run·.brokenCover run·.after run·.afterTrace run·.stepIf run·.first run·.nextUnsupported run·.nextSnake run·.nextTriangle run·.nextNeighbourhood run·.nextSnakeSubstitutionBy run·.nextOfKindBy run·.nextBy run·.runFromBy run·.runBy run·.endOf hand·.supported hand·.prune hand·.pruneTimes hand·.start hand·.call back·.solves back·.put back·.repair back·.undo back·.undoTrace packed.stateOf packed.masksOf solutions.solutionsFrom solutions.solutionCount solutions.solvable sheet.beyond sheet.allowsAll sheet.blockOf sheet.blockAt sheet.blocksFrom sheet.badSizes sheet.readSheet relation.rowsFrom relation.rowsOf relation.pairAllowed relation.sizeOf relation.listed relation.allowedOf relation.problemOf recordsBytes traceBytes recordAt withSheet runOverUnder runJobUnder checkFromUnder checkTraceUnder putBackOverUnder putBackJobUnder
 before-sampled = record { sheet-b = refl; short-b = refl; sheet-k = refl; short-k = refl; sheet-l = refl; short-l = refl }

@@ -31,7 +31,7 @@ use Rattle.trace.specs.Trace.{recordBytes, recordsBytes, traceBytes, recordAt}
 use Rattle.buffers.specs.Written.{fronted}
 use Rattle.put_back.specs.Numbers.{putBackNumber}
 use Rattle.run.specs.Run.{RunResult, ranThrough, bufferShort}
-use Rattle.put_back.specs.PutBack.{PutBackResult, unlawfulRecord, Checked, Lawful, Fault, withRecord, afterCheck}
+use Rattle.put_back.specs.PutBack.{PutBackResult, unlawfulRecord, Checked, Lawful, Faulty, withRecord, afterCheck}
 use Rattle.trace.specs.declared.RecordRead.{RecordRead}
 use Rattle.trace.specs.declared.RecordRead.the-variants as record·
 use Rattle.run.specs.declared.RunOutcome.the-variants as reduced
@@ -62,7 +62,7 @@ module _ (P : Problem) where
 
 -- the run's result x against its result y before request Four, with the buffer b: where that run ended, having written its trace to the
 -- front of the buffer, x has the record of a slide that is lawful there and was not, and what follows
-pub record SlideAdded (P : Problem) (b : List ℕ) (x y : RunResult) : Type 0 where
+pub record SubstitutionAdded (P : Problem) (b : List ℕ) (x y : RunResult) : Type 0 where
   pub item : ℕ
   pub from : ℕ
   pub to : ℕ
@@ -73,11 +73,11 @@ pub record SlideAdded (P : Problem) (b : List ℕ) (x y : RunResult) : Type 0 wh
   pub not-before : T (lawfulBy beforeFour P (lastBefore P) (SnakeSubstitution item from to)) → ⊥
 
 module _ (P : Problem) (b : List ℕ) where
-  done-extends : (ranThrough P (runBy afterFour P (full P)) b ≡ ranThrough P (runBy beforeFour P (full P)) b) ⊎ SlideAdded P b (ranThrough P (runBy afterFour P (full P)) b) (ranThrough P (runBy beforeFour P (full P)) b)
+  done-extends : (ranThrough P (runBy afterFour P (full P)) b ≡ ranThrough P (runBy beforeFour P (full P)) b) ⊎ SubstitutionAdded P b (ranThrough P (runBy afterFour P (full P)) b) (ranThrough P (runBy beforeFour P (full P)) b)
   unfolding recordsBytes
   done-extends = go (trace-extends P .1)
     where
-      go : Added P (lastBefore P) (runBy afterFour P (lastBefore P)) → (ranThrough P (runBy afterFour P (full P)) b ≡ ranThrough P (runBy beforeFour P (full P)) b) ⊎ SlideAdded P b (ranThrough P (runBy afterFour P (full P)) b) (ranThrough P (runBy beforeFour P (full P)) b)
+      go : Added P (lastBefore P) (runBy afterFour P (lastBefore P)) → (ranThrough P (runBy afterFour P (full P)) b ≡ ranThrough P (runBy beforeFour P (full P)) b) ⊎ SubstitutionAdded P b (ranThrough P (runBy afterFour P (full P)) b) (ranThrough P (runBy beforeFour P (full P)) b)
       go (inl e) =
           inl (ap (λ (t : List Record). ranThrough P t b) (run-extends P (full-fits P) .0 ∙ ap (λ (u : List Record). runBy beforeFour P (full P) ++ u) e ∙ append-nil (runBy beforeFour P (full P))))
       go (inr (i, c, a, v, e, l, n)) =
@@ -92,20 +92,20 @@ module _ (P : Problem) (b : List ℕ) where
             not-before = n;
           }
 
-  over-extends : (runOverUnder afterFour P b ≡ runOverUnder beforeFour P b) ⊎ SlideAdded P b (runOverUnder afterFour P b) (runOverUnder beforeFour P b)
+  over-extends : (runOverUnder afterFour P b ≡ runOverUnder beforeFour P b) ⊎ SubstitutionAdded P b (runOverUnder afterFour P b) (runOverUnder beforeFour P b)
   unfolding runOverUnder
   over-extends = go (bufferShort P b) refl
     where
-      go : (x : Bool) → bufferShort P b ≡ x → (runOverUnder afterFour P b ≡ runOverUnder beforeFour P b) ⊎ SlideAdded P b (runOverUnder afterFour P b) (runOverUnder beforeFour P b)
+      go : (x : Bool) → bufferShort P b ≡ x → (runOverUnder afterFour P b ≡ runOverUnder beforeFour P b) ⊎ SubstitutionAdded P b (runOverUnder afterFour P b) (runOverUnder beforeFour P b)
       go true e = rw (e, runOverUnder) (inl refl)
       go false e = rw (e, runOverUnder) done-extends
 
 -- the run over a sheet answers and leaves the buffer byte for byte as before request Four, or the buffer goes on from there with an
 -- added slide
-pub run-job-extends : (s b : List ℕ) → (runJobUnder afterFour s b ≡ runJobUnder beforeFour s b) ⊎ SlideAdded (problemOf layout s) b (runJobUnder afterFour s b) (runJobUnder beforeFour s b)
+pub run-job-extends : (s b : List ℕ) → (runJobUnder afterFour s b ≡ runJobUnder beforeFour s b) ⊎ SubstitutionAdded (problemOf layout s) b (runJobUnder afterFour s b) (runJobUnder beforeFour s b)
 unfolding runJobUnder
 run-job-extends s b =
-    sheet-both s _ (λ P. runOverUnder afterFour P b) (λ P. runOverUnder beforeFour P b) (λ x y. (x ≡ y) ⊎ SlideAdded (problemOf layout s) b x y) (λ r. inl refl) (λ K. over-extends (problemOf layout s) b)
+    sheet-both s _ (λ P. runOverUnder afterFour P b) (λ P. runOverUnder beforeFour P b) (λ x y. (x ≡ y) ⊎ SubstitutionAdded (problemOf layout s) b x y) (λ r. inl refl) (λ K. over-extends (problemOf layout s) b)
 
 -- "Traces change only from the first added slide on": the bytes that the run of before wrote stand as they did
 pub run-front-stays : (s b : List ℕ) (e : End) (steps written : ℕ) → (runJobUnder beforeFour s b) .answer .outcome ≡ reduced.Done e steps written
@@ -115,7 +115,7 @@ run-front-stays s b e k m h = go (run-job-extends s b)
     P : Problem
     P = problemOf layout s
 
-    go : (runJobUnder afterFour s b ≡ runJobUnder beforeFour s b) ⊎ SlideAdded P b (runJobUnder afterFour s b) (runJobUnder beforeFour s b) → take m ((runJobUnder afterFour s b) .buffer) ≡ take m ((runJobUnder beforeFour s b) .buffer)
+    go : (runJobUnder afterFour s b ≡ runJobUnder beforeFour s b) ⊎ SubstitutionAdded P b (runJobUnder afterFour s b) (runJobUnder beforeFour s b) → take m ((runJobUnder afterFour s b) .buffer) ≡ take m ((runJobUnder beforeFour s b) .buffer)
     go (inl q) = ap (λ (x : RunResult). take m (x .buffer)) q
     go (inr x) =
         let w = traceBefore P in
@@ -129,9 +129,9 @@ run-front-stays s b e k m h = go (run-job-extends s b)
 
 -- the check of before found an unlawful record
 abbrev Refused17 : Checked → Type 0
-Refused17 c = (j : ℕ) × (l : ℕ) × (m : ℕ) × (c ≡ Fault (refusal.Unlawful j l m))
+Refused17 c = (j : ℕ) × (l : ℕ) × (m : ℕ) × (c ≡ Faulty (refusal.Unlawful j l m))
 
-unlawful-17 : (k : ℕ) (x : Break) → Refused17 (Fault (unlawfulRecord k x))
+unlawful-17 : (k : ℕ) (x : Break) → Refused17 (Faulty (unlawfulRecord k x))
 unlawful-17 k (At l c) = (k, l, c, refl)
 unlawful-17 k Nowhere = (k, 255, 255, refl)
 

@@ -12,7 +12,7 @@ use Rattle.buffers.specs.Bytes.{byteAt}
 use Rattle.trace.specs.Trace.{recordAt}
 use Rattle.jobs.specs.WithSheet.{withSheet}
 use Rattle.run.specs.Run.{RunResult, runRefused, ranThrough, bufferShort}
-use Rattle.put_back.specs.PutBack.{PutBackResult, putBackRefused, unlawfulRecord, Checked, Lawful, Fault, withRecord, afterCheck}
+use Rattle.put_back.specs.PutBack.{PutBackResult, putBackRefused, unlawfulRecord, Checked, Lawful, Faulty, withRecord, afterCheck}
 use Rattle.trace.specs.declared.RecordRead.the-variants as record·
 use Rattle.run.specs.declared.RunRefusal.the-variants as run
 use Rattle.put_back.specs.declared.PutBackRefusal.the-variants as back
@@ -28,21 +28,21 @@ runJobUnder book s b = withSheet s (λ r. runRefused (run.Sheet r) b) (λ P. run
 -- ---- putting back: `checkFrom`, `checkTrace`, `putBackOver` and `putBackJob`
 
 unfoldable pub checkFromUnder : Rulebook → ℕ → Problem → List ℕ → State → (k p : ℕ) → Checked
-checkFromUnder book zero P t s k p = Fault back.Malformed
+checkFromUnder book zero P t s k p = Faulty back.Malformed
 checkFromUnder book (suc f) P t s k p =
     elim (recordAt t p) [
       | record·.End ↦ Lawful []
-      | record·.Malformed ↦ Fault back.Malformed
+      | record·.Malformed ↦ Faulty back.Malformed
       | record·.Read r next ↦
           elim (lawfulBy book P s r) [
             | true ↦ withRecord r (checkFromUnder book f P t (after P s r) (k + 1) next)
-            | false ↦ Fault (unlawfulRecord k (brokenCover P s r))
+            | false ↦ Faulty (unlawfulRecord k (brokenCover P s r))
           ]
     ]
 
 unfoldable pub checkTraceUnder : Rulebook → Problem → List ℕ → Checked
 checkTraceUnder book P t =
-    elim (ltb 0 (length t) && eqb (byteAt t 0) 1) [ true ↦ checkFromUnder book (suc (length t)) P t (full P) 0 1 | false ↦ Fault back.TraceFront ]
+    elim (ltb 0 (length t) && eqb (byteAt t 0) 1) [ true ↦ checkFromUnder book (suc (length t)) P t (full P) 0 1 | false ↦ Faulty back.TraceFront ]
 
 unfoldable pub putBackOverUnder : Rulebook → Problem → (t p b : List ℕ) → PutBackResult
 putBackOverUnder book P t p b =

@@ -6,11 +6,11 @@ use mathlib.Core.List.{List}
 use mathlib.Core.Logic.{_⊎_, inl, inr, ⊎-elim}
 use Prim.Native.Nat.{ℕ, zero, suc, _≤_, _<_}
 use lib.Dec.{T}
-use Rattle.bounded.specs.Bounded.{lowest}
+use Rattle.bounded.specs.Quantifiers.{lowest}
 use Rattle.bounded.specs.Mask.{bit}
 use Rattle.bounded.proofs.Truth.{T-true, T-false}
 use Rattle.bounded.proofs.Members.{Sought, sought-least, sought-none}
-use Rattle.problem.specs.Problem.{Problem, State, slideSpares, unsupported, snake, triangle, neighbourhood, snakeSubstitution}
+use Rattle.problem.specs.Problem.{Problem, State, substitutionSpares, unsupported, snake, triangle, neighbourhood, snakeSubstitution}
 use Rattle.problem.specs.Run.{stepIf, first, isStep, nextUnsupported, nextSnake, nextTriangle, nextNeighbourhood, nextSnakeSubstitutionBy, nextOfKindBy, nextOfKind}
 use Rattle.problem.specs.Held.{held}
 use Rattle.problem.specs.Masks.{stateOf}
@@ -100,6 +100,6 @@ module _ {t : List ℕ} {m : Masks} (R : Ready t m) where
       wide-three (λ i b a. stepIf (neighbourhood P s i b a) (record·.Neighbourhood i b a)) (P .n) (P .size) (P .size) 32 16 16 (held-few t) (held-narrow (R .table)) (held-narrow (R .table))
       (λ i b a o. outside _ _ (λ x. let y = neighbourhood-iff (R .fits) i b a .0 x in two i b a (y .0) (y .1 .0) o))
   lowest-from (suc (suc (suc (suc (suc zero))))) =
-      wide-three (λ i b a. stepIf (snakeSubstitution P s slideSpares i b a) (record·.SnakeSubstitution i b a)) (P .n) (P .size) (P .size) 32 16 16 (held-few t) (held-narrow (R .table)) (held-narrow (R .table))
-      (λ i b a o. outside _ _ (λ x. let y = snakeSubstitution-iff (R .fits) slideSpares i b a .0 x in two i b a (y .0) (y .1 .0) o))
+      wide-three (λ i b a. stepIf (snakeSubstitution P s substitutionSpares i b a) (record·.SnakeSubstitution i b a)) (P .n) (P .size) (P .size) 32 16 16 (held-few t) (held-narrow (R .table)) (held-narrow (R .table))
+      (λ i b a o. outside _ _ (λ x. let y = snakeSubstitution-iff (R .fits) substitutionSpares i b a .0 x in two i b a (y .0) (y .1 .0) o))
   lowest-from (suc (suc (suc (suc (suc (suc k)))))) = first-off 32 _ (λ i l. first-off 16 _ (λ c k. refl))

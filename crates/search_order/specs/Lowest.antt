@@ -1,7 +1,7 @@
 -- The lowest step of a kind, field by field as any search goes: from a variable, and from a variable and the field after it. The bounds
 -- serve for every table.
 use Prim.Native.Nat.{ℕ, zero, suc}
-use Rattle.problem.specs.Problem.{Problem, State, slideSpares, unsupported, snake, triangle, neighbourhood, snakeSubstitution}
+use Rattle.problem.specs.Problem.{Problem, State, substitutionSpares, unsupported, snake, triangle, neighbourhood, snakeSubstitution}
 use Rattle.problem.specs.Run.{stepIf, first}
 use Rattle.problem.specs.declared.Record.the-variants.{Unsupported, Snake, Triangle, Neighbourhood, SnakeSubstitution}
 use Rattle.problem.specs.declared.Next.{Next}
@@ -23,7 +23,7 @@ module _ (P : Problem) (s : State) where
   stepAt (suc (suc zero)) i c = stepIf (snake P s i c) (Snake i c)
   stepAt (suc (suc (suc zero))) i c = stepIf (triangle P s i c) (Triangle i c)
   stepAt (suc (suc (suc (suc zero)))) i c = first 16 (λ a. stepIf (neighbourhood P s i c a) (Neighbourhood i c a))
-  stepAt (suc (suc (suc (suc (suc zero))))) i c = first 16 (λ a. stepIf (snakeSubstitution P s slideSpares i c a) (SnakeSubstitution i c a))
+  stepAt (suc (suc (suc (suc (suc zero))))) i c = first 16 (λ a. stepIf (snakeSubstitution P s substitutionSpares i c a) (SnakeSubstitution i c a))
   stepAt (suc (suc (suc (suc (suc (suc k)))))) i c = Nothing
 
   -- and the lowest whose first field is i

@@ -9,9 +9,9 @@ use native.Mathlib.Omega.{arith}
 use lib.ListN.{length}
 use lib.Dec.{T, eqb, ltb, leb}
 use borrow.Author.Tests.{ltb-true, ltb-false, leb-true, eqb-true, eqb-false, lt-ltb, le-ltb, le-leb, not-false}
-use Rattle.bounded.specs.Bounded.{countBelow, sumTo}
+use Rattle.bounded.specs.Quantifiers.{countBelow, sumTo}
 use Rattle.bounded.proofs.Truth.{T-true, T-of, T-not, both, neither}
-use Rattle.bounded.proofs.Bounded.{count-lt}
+use Rattle.bounded.proofs.Quantifiers.{count-lt}
 use Rattle.problem.specs.Held.{Bounded}
 use Rattle.problem.proofs.BothWays.{both-up, both-down, both-same}
 use Rattle.buffers.specs.Bytes.{byteAt}

@@ -8,7 +8,7 @@ use lib.Dec.{T, eqb}
 use lib.Bits.{bitAnd}
 use lib.ListN.{getD}
 use borrow.Author.Tests.{not-false}
-use Rattle.bounded.specs.Bounded.{imp}
+use Rattle.bounded.specs.Quantifiers.{imp}
 use Rattle.bounded.specs.Mask.{bit, maskOf}
 use Rattle.bounded.proofs.Truth.{T-ext, T-of, T-not, T-true, T-false, T-dec, split, and-iff, imp-iff, imp-fails, not-iff, eqb-iff}
 use Rattle.bounded.proofs.Mask.{bit-and, bit-none, mask-is}

@@ -4,7 +4,7 @@ use mathlib.Core.Bool.{Bool, not}
 use mathlib.Core.Logic.{_≢_}
 use Prim.Native.Nat.{ℕ}
 use lib.Dec.{T}
-use Rattle.bounded.specs.Bounded.{imp}
+use Rattle.bounded.specs.Quantifiers.{imp}
 use Rattle.problem.specs.Problem.{Problem, State, allLive, anyLive, snakeServes}
 use Rattle.problem.specs.Sentences.{Snake}
 use Rattle.rests.specs.Rests.{Rests, Of}

@@ -10,13 +10,13 @@ use lib.Dec.{T, eqb}
 use lib.ListN.{getD}
 use lib.Pow.{pow-pos}
 use borrow.Author.Tests.{ne-eqb}
-use Rattle.bounded.specs.Bounded.{anyBelow}
+use Rattle.bounded.specs.Quantifiers.{anyBelow}
 use Rattle.bounded.specs.Mask.{bit, maskOf, without}
 use Rattle.bounded.proofs.Truth.{T-of, T-dec, T-false, split, eq-dec, and-iff, or-iff}
-use Rattle.bounded.proofs.Bounded.{any-iff}
+use Rattle.bounded.proofs.Quantifiers.{any-iff}
 use Rattle.bounded.proofs.Mask.{bit-and, bit-or, bit-none, bit-mask, bit-without16, bit-without32, mask-ext, member-lt, member-some, with-keeps, with-has}
 use Rattle.bounded.proofs.Members.{without-part, without-gone}
-use Rattle.problem.specs.Problem.{Problem, State, slideSpares}
+use Rattle.problem.specs.Problem.{Problem, State, substitutionSpares}
 use Rattle.problem.specs.Held.{rowWord, held}
 use Rattle.problem.specs.Masks.{stateOf}
 use Rattle.problem.specs.declared.Masks.{Masks}
@@ -166,7 +166,7 @@ module _ {t : List ℕ} {m : Masks} (R : Ready t m) where
             (kept-iff a .0 (z .1 (set-iff b .1 (G .live b a (z .0) .0, al))))
 
         -- a goal that goes is no slide: b is allowed with d, and each value that is allowed with a breaks
-        goes : (b a : ℕ) → Live s i a → T (bit set b) → (T (bit (bitOr set reach) a) → ⊥) → Rests P s (λ q. SnakeSubstitution P q slideSpares i b a) (Of (bitOr broken (2 ^ k)))
+        goes : (b a : ℕ) → Live s i a → T (bit set b) → (T (bit (bitOr set reach) a) → ⊥) → Rests P s (λ q. SnakeSubstitution P q substitutionSpares i b a) (Of (bitOr broken (2 ^ k)))
         unfolding stateOf
         goes b a alive at off =
             substitution-rests i b a k d n on (with-has broken k) (set-iff b .0 at .1) (λ u o al. by u o al (eq-dec u d) (T-dec (bit left u)))
@@ -242,7 +242,7 @@ module _ {t : List ℕ} {m : Masks} (R : Ready t m) where
     unfolding stateOf
     first-goal b a p q d = A .goal b a .1 (p, q, d)
 
-    goal-iff : (b a : ℕ) → Goal y b a ↔ SnakeSubstitution P s slideSpares i b a
+    goal-iff : (b a : ℕ) → Goal y b a ↔ SnakeSubstitution P s substitutionSpares i b a
     unfolding stateOf
     goal-iff b a = (
       λ h. let z = A .goal b a .0 (N .part b a h) in (z .0, (z .1, (z .2, λ k act d c o al. N .served b a h k c d o al))),

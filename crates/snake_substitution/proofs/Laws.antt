@@ -8,21 +8,21 @@ use lib.Dec.{T, eqb}
 use lib.Bits.{bitAnd}
 use lib.ListN.{getD}
 use borrow.Author.Tests.{eq-eqb, ne-eqb}
-use Rattle.bounded.specs.Bounded.{imp, lowest}
+use Rattle.bounded.specs.Quantifiers.{imp, lowest}
 use Rattle.bounded.specs.Mask.{bit}
 use Rattle.bounded.proofs.Truth.{T-ext, T-of, T-not, T-true, T-false, T-dec, eq-dec, split, and-iff, imp-iff, imp-fails, not-iff}
-use Rattle.bounded.proofs.Bounded.{lowest-least}
+use Rattle.bounded.proofs.Quantifiers.{lowest-least}
 use Rattle.bounded.proofs.Members.{lowest-member}
 use Rattle.bounded.proofs.Mask.{bit-and, bit-none}
-use Rattle.problem.specs.Problem.{Problem, State, slideSpares}
+use Rattle.problem.specs.Problem.{Problem, State, substitutionSpares}
 use Rattle.problem.specs.Held.{rowWord, held}
 use Rattle.problem.specs.Masks.{stateOf}
 use Rattle.problem.specs.declared.Masks.{Masks}
-use Rattle.problem.proofs.Reflect.{allLive-iff, anyLive-iff, slideServes-iff}
-use Rattle.problem.specs.Sentences.{Live, Allowed, Fits, Substitutes, SlideServes}
+use Rattle.problem.proofs.Reflect.{allLive-iff, anyLive-iff, substitutionServes-iff}
+use Rattle.problem.specs.Sentences.{Live, Allowed, Fits, Substitutes, SubstitutionServes}
 use Rattle.held.specs.Ready.{Ready, Value, Near}
 use Rattle.cover.specs.Words.{allServedIn, others, thirds}
-use Rattle.cover.specs.Broken.{Fault, UnservedIn}
+use Rattle.cover.specs.Broken.{UnservedBy, UnservedIn}
 use Rattle.snake_substitution.specs.Parts.{substitutionAt, lowestGoal}
 use Rattle.problem.specs.declared.Record.the-variants as record·
 use Rattle.problem.specs.declared.Next.the-variants.{Step, Nothing}
@@ -31,16 +31,16 @@ use Rattle.cover.proofs.Laws.{broken-at, allServedIn-iff, thirds-iff, other-apa
 use Rattle.problem.proofs.Search.{stepIf-on, stepIf-off, first-off, first-at, outside}
 
 module _ {P : Problem} {s : State} (F : Fits P s) where
-  substitutionAt-iff : (i b a k : ℕ) → T (substitutionAt P s i b a k) ↔ ((d : ℕ) → Live s k d → Allowed P i b k d → (e : ℕ) × Live s k e × SlideServes P s slideSpares i a k d e)
+  substitutionAt-iff : (i b a k : ℕ) → T (substitutionAt P s i b a k) ↔ ((d : ℕ) → Live s k d → Allowed P i b k d → (e : ℕ) × Live s k e × SubstitutionServes P s substitutionSpares i a k d e)
   unfolding substitutionAt
-  substitutionAt-iff i b a k = simp (allLive-iff F, anyLive-iff F, imp-iff, slideServes-iff F) Iff·rfl
+  substitutionAt-iff i b a k = simp (allLive-iff F, anyLive-iff F, imp-iff, substitutionServes-iff F) Iff·rfl
 
 -- the answer of the test is 0 exactly where each value is served: where it is not, each of `good` breaks for one
 pub unserved-test : {P : Problem} {s : State} {rest good bad j r : ℕ} → Fits P s → UnservedIn P s rest good bad j r → eqb r 0 ≡ allServedIn P s rest good bad j
 unserved-test {P} {s} {rest} {good} {bad} {j} {r} F u =
     ⊎-elim (λ e. eq-eqb r 0 e ∙ sym (T-true _ (u .served e))) (λ d. ne-eqb r 0 d ∙ sym (T-false _ (λ h. no (u .fails d) h))) (eq-dec r 0)
   where
-    no : Fault P s rest good bad j r → T (allServedIn P s rest good bad j) → ⊥
+    no : UnservedBy P s rest good bad j r → T (allServedIn P s rest good bad j) → ⊥
     no f h =
         let x = allServedIn-iff F rest good bad j .0 h (f .w) (f .small) (f .asked, f .other) in
         let y = broken-at F (f .broken) (x .0) (x .2 .0) (T-not (bit-none (x .0))) in
@@ -74,7 +74,7 @@ module _ {t : List ℕ} {m : Masks} (R : Ready t m) where
       isBad : (c : ℕ) → T (bit bad c) ↔ (Live (stateOf m) k c × Allowed (held t) i b k c)
       isBad c = word-iff R i b k c
 
-      to : (d : ℕ) → Live (stateOf m) k d → Allowed (held t) i b k d → T (bit good d) ⊎ (T (bit good d) → ⊥) → ((T (bit bad d) × (T (bit good d) → ⊥)) → ((u : ℕ) × (u < 16) × (T (bit good u) × ((l : ℕ) → l < 32 → T (bit set l) → Substitutes (held t) (stateOf m) k u k d l)))) → (e : ℕ) × Live (stateOf m) k e × SlideServes (held t) (stateOf m) slideSpares i a k d e
+      to : (d : ℕ) → Live (stateOf m) k d → Allowed (held t) i b k d → T (bit good d) ⊎ (T (bit good d) → ⊥) → ((T (bit bad d) × (T (bit good d) → ⊥)) → ((u : ℕ) × (u < 16) × (T (bit good u) × ((l : ℕ) → l < 32 → T (bit set l) → Substitutes (held t) (stateOf m) k u k d l)))) → (e : ℕ) × Live (stateOf m) k e × SubstitutionServes (held t) (stateOf m) substitutionSpares i a k d e
       to d o al (inl g) f = (d, o, (isGood d .0 g .1, λ l act ne sp c oc ac. ac))
       to d o al (inr g) f =
           let x = f (isBad d .1 (o, al), g) in

@@ -6,18 +6,18 @@ use mathlib.Core.List.{List}
 use Prim.Native.Nat.{ℕ, _<_}
 use lib.Dec.{T}
 use lib.ListN.{length, getD}
-use Rattle.bounded.specs.Bounded.{imp}
+use Rattle.bounded.specs.Quantifiers.{imp}
 use Rattle.bounded.specs.Mask.{bit}
-use Rattle.problem.specs.Problem.{Problem, State, allLive, anyLive, slideServes, slideSpares}
+use Rattle.problem.specs.Problem.{Problem, State, allLive, anyLive, substitutionServes, substitutionSpares}
 use Rattle.problem.specs.Run.{stepIf, first}
 use Rattle.problem.specs.declared.Record.the-variants as record·
 use Rattle.problem.specs.declared.Next.{Next}
-use Rattle.problem.specs.Sentences.{Live, Allowed, SlideServes, SnakeSubstitution}
+use Rattle.problem.specs.Sentences.{Live, Allowed, SubstitutionServes, SnakeSubstitution}
 use Rattle.rests.specs.Rests.{Rests, Of}
 
 module _ (P : Problem) (s : State) where
   unfoldable pub substitutionAt : (i b a k : ℕ) → Bool
-  substitutionAt i b a k = allLive P s k (λ d. imp (P .allowed i b k d) (anyLive P s k (λ e. slideServes P s slideSpares i a k d e)))
+  substitutionAt i b a k = allLive P s k (λ d. imp (P .allowed i b k d) (anyLive P s k (λ e. substitutionServes P s substitutionSpares i a k d e)))
 
 -- ---- all slides of a variable: word b of `goals` has the values that its value b may still slide to
 
@@ -56,7 +56,7 @@ pub record Limited (set kept : ℕ) (before after : List ℕ) : Type 0 where
 module _ (P : Problem) (s : State) (i : ℕ) where
   -- where i has a, some value of k serves for d
   abbrev pub Served : (k d a : ℕ) → Type 0
-  Served k d a = (e : ℕ) × Live s k e × SlideServes P s slideSpares i a k d e
+  Served k d a = (e : ℕ) × Live s k e × SubstitutionServes P s substitutionSpares i a k d e
 
   -- What is left of the goals once the values `asked k d` were: a goal that is left has what each of them asks, and one that is not is no
   -- slide; that rests on the variables of a word.
@@ -64,9 +64,9 @@ module _ (P : Problem) (s : State) (i : ℕ) where
     pub long : length after ≡ 16
     pub part : (b a : ℕ) → Goal after b a → Goal before b a
     pub served : (b a : ℕ) → Goal after b a → (k d : ℕ) → asked k d → Live s k d → Allowed P i b k d → Served k d a
-    pub gone : (b a : ℕ) → Goal before b a → (Goal after b a → ⊥) → Rests P s (λ q. SnakeSubstitution P q slideSpares i b a) (Of rests)
+    pub gone : (b a : ℕ) → Goal before b a → (Goal after b a → ⊥) → Rests P s (λ q. SnakeSubstitution P q substitutionSpares i b a) (Of rests)
 
   -- the goals left are the substitutions of i; where there is none, that rests on the variables of a word
   pub record AllTried (goals : List ℕ) (rests : ℕ) : Type 0 where
-    pub holds : (b a : ℕ) → Goal goals b a ↔ SnakeSubstitution P s slideSpares i b a
-    pub fails : ((b a : ℕ) → Goal goals b a → ⊥) → Rests P s (λ q. (b : ℕ) × (a : ℕ) × SnakeSubstitution P q slideSpares i b a) (Of rests)
+    pub holds : (b a : ℕ) → Goal goals b a ↔ SnakeSubstitution P s substitutionSpares i b a
+    pub fails : ((b a : ℕ) → Goal goals b a → ⊥) → Rests P s (λ q. (b : ℕ) × (a : ℕ) × SnakeSubstitution P q substitutionSpares i b a) (Of rests)

@@ -6,9 +6,9 @@ ghost use Prim.Native.Nat.{_<_};
 ghost use lib.Bits.{bitAnd};
 ghost use lib.Dec.{T};
 ghost use lib.ListN.{length, getD};
-ghost use Rattle.bounded.specs.Bounded.{imp};
+ghost use Rattle.bounded.specs.Quantifiers.{imp};
 ghost use Rattle.bounded.specs.Mask.{bit};
-ghost use Rattle.problem.specs.Problem.{allOther, slideSpares, snakeSubstitution};
+ghost use Rattle.problem.specs.Problem.{allOther, substitutionSpares, snakeSubstitution};
 ghost use Rattle.problem.specs.Held.{held, RowTable};
 ghost use Rattle.problem.specs.Masks.{stateOf, sets};
 ghost use Rattle.problem.specs.Run.{first};
@@ -83,7 +83,7 @@ pub fn snake_substitution(
     a: usize,
 ) -> bool
     requires { ⌜ Ready (now t) (sets active (now on)) × (i < 32) × (b < 16) × (a < 16) ⌝ }
-    ensures { λ r. ⌜ r ≡ snakeSubstitution (held (now (t .entry))) (stateOf (sets active (now (on .entry)))) slideSpares i b a ⌝ }
+    ensures { λ r. ⌜ r ≡ snakeSubstitution (held (now (t .entry))) (stateOf (sets active (now (on .entry)))) substitutionSpares i b a ⌝ }
 {
     let domain = on[i];
     if has16(domain, b) & (has16(domain, a) & (a != b)) {

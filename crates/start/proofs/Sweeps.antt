@@ -10,10 +10,10 @@ use lib.Dec.{T, eqb}
 use lib.ListN.{getD}
 use lib.Seq.{ext-getD, getD-set-same}
 use borrow.Author.Tests.{eq-eqb, ne-eqb, eqb-true}
-use Rattle.bounded.specs.Bounded.{anyBelow}
+use Rattle.bounded.specs.Quantifiers.{anyBelow}
 use Rattle.bounded.specs.Mask.{bit}
 use Rattle.bounded.proofs.Truth.{clash, T-ext, T-not, T-dec, T-false, and-iff, or-iff, not-iff, eqb-iff, ltb-iff, eq-dec}
-use Rattle.bounded.proofs.Bounded.{any-iff}
+use Rattle.bounded.proofs.Quantifiers.{any-iff}
 use Rattle.bounded.proofs.Loops.{all-each, all-intro}
 use Rattle.bounded.proofs.Mask.{bit-none, bit-mask, mask-is, mask-lt, zero-bits}
 use Rattle.problem.specs.Problem.{Problem, State, full, noneEmpty, allActive, allLive, liveCount, maxVariables}

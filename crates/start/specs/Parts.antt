@@ -3,7 +3,7 @@ use mathlib.Core.Bool.{Bool, not, _&&_, _||_}
 use Prim.Native.Nat.{ℕ, zero, suc}
 use lib.Dec.{eqb}
 use lib.ListN.{getD}
-use Rattle.bounded.specs.Bounded.{allBelow}
+use Rattle.bounded.specs.Quantifiers.{allBelow}
 use Rattle.problem.specs.Problem.{Problem, State, maxVariables}
 use Rattle.problem.specs.Hand.{supported}
 use Rattle.problem.specs.declared.Masks.{Masks}

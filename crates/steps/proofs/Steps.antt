@@ -10,10 +10,10 @@ use lib.Dec.{T, eqb}
 use lib.Bits.{bitAnd, and-le-l}
 use lib.ListN.{getD}
 use borrow.Author.Tests.{eq-eqb, ne-eqb}
-use Rattle.bounded.specs.Bounded.{anyBelow, lowest}
+use Rattle.bounded.specs.Quantifiers.{anyBelow, lowest}
 use Rattle.bounded.specs.Mask.{bit, maskOf, without}
 use Rattle.bounded.proofs.Truth.{T-ext, T-of, T-false, and-iff, or-iff, eqb-iff}
-use Rattle.bounded.proofs.Bounded.{any-iff}
+use Rattle.bounded.proofs.Quantifiers.{any-iff}
 use Rattle.bounded.proofs.Mask.{bit-and, bit-none, bit-mask, bit-without16, bit-without32, mask-is}
 use Rattle.bounded.proofs.Members.{lowest-member}
 use Rattle.problem.specs.Problem.{remove, eliminate}

@@ -8,10 +8,10 @@ use native.Mathlib.Nat.{lt-of-le-of-lt}
 use lib.Bits.{bitAnd, and-le-l, bitOr}
 use lib.Dec.{T, eqb}
 use lib.ListN.{getD}
-use Rattle.bounded.specs.Bounded.{anyBelow}
+use Rattle.bounded.specs.Quantifiers.{anyBelow}
 use Rattle.bounded.specs.Mask.{bit, maskOf, without}
 use Rattle.bounded.proofs.Truth.{T-ext, T-of, T-not, T-dec, split, and-iff, not-iff, eqb-iff}
-use Rattle.bounded.proofs.Bounded.{any-iff}
+use Rattle.bounded.proofs.Quantifiers.{any-iff}
 use Rattle.bounded.proofs.Loops.{any-next}
 use Rattle.bounded.proofs.Mask.{bit-and, bit-or, bit-none, bit-mask, mask-ext, mask-is, bit-without32}
 use Rattle.bounded.proofs.Members.{Left, without-gone, without-part}

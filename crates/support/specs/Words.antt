@@ -1,7 +1,7 @@
 -- Supports as the code finds them: a union of rows, and what is left of a domain after one sweep.
 use mathlib.Core.Bool.{Bool, _&&_}
 use Prim.Native.Nat.{ℕ}
-use Rattle.bounded.specs.Bounded.{anyBelow}
+use Rattle.bounded.specs.Quantifiers.{anyBelow}
 use Rattle.bounded.specs.Mask.{bit, maskOf}
 use Rattle.problem.specs.Problem.{Problem, State, maxValues}
 use Rattle.problem.specs.Hand.{prune}

@@ -6,10 +6,10 @@ use mathlib.Core.List.{List}
 use Prim.Native.Nat.{ℕ}
 use native.Mathlib.Omega.{arith}
 use lib.Dec.{T}
-use Rattle.bounded.specs.Bounded.{lowest}
+use Rattle.bounded.specs.Quantifiers.{lowest}
 use Rattle.bounded.specs.Mask.{bit, maskOf}
 use Rattle.bounded.proofs.Truth.{and-iff}
-use Rattle.bounded.proofs.Bounded.{lowest-least, lowest-unique}
+use Rattle.bounded.proofs.Quantifiers.{lowest-least, lowest-unique}
 use Rattle.bounded.proofs.Mask.{member-some, mask-lt, bit-mask-all}
 use Rattle.bounded.proofs.Members.{lowest-member}
 use Rattle.problem.specs.Problem.{lowestLive}

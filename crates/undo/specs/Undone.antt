@@ -15,7 +15,7 @@ use Rattle.problem.specs.Masks.{stateOf}
 use Rattle.problem.specs.declared.Masks.{Masks}
 use Rattle.problem.specs.declared.Record.{Record}
 use Rattle.problem.specs.Sentences.{Solution}
-use Rattle.put_back.specs.PutBack.{Checked, Lawful as Records, Fault as Faulty}
+use Rattle.put_back.specs.PutBack.{Checked, Lawful as Records, Faulty}
 use Rattle.replay.specs.Walk.{checkedFrom}
 
 -- w at the variable j once i has v: the format's lowest w' where w is barred with v

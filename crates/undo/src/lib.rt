@@ -4,7 +4,7 @@ ghost use mathlib.Core.Bool.{true};
 ghost use mathlib.Core.Logic.{_≢_};
 ghost use Prim.Native.Nat.{_<_};
 ghost use lib.Dec.{T};
-ghost use Rattle.bounded.specs.Bounded.{lowest};
+ghost use Rattle.bounded.specs.Quantifiers.{lowest};
 ghost use Rattle.bounded.specs.Mask.{bit};
 ghost use Rattle.bounded.specs.Table.{tab};
 ghost use Rattle.problem.specs.Problem.{lowestLive, snakeServes, triangleServes};

@@ -10,7 +10,7 @@ use lib.Bits.{bitAnd, and-le-l}
 use lib.ListN.{getD}
 use Rattle.bounded.specs.Mask.{bit}
 use Rattle.bounded.proofs.Truth.{T-ext, and-iff, not-iff, eqb-iff}
-use Rattle.bounded.proofs.Bounded.{any-iff}
+use Rattle.bounded.proofs.Quantifiers.{any-iff}
 use Rattle.bounded.proofs.Mask.{zero-bits, bit-and, member-some}
 use Rattle.problem.specs.Problem.{allLive}
 use Rattle.problem.specs.Held.{rowWord, held, RowTable}

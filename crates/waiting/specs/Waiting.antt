@@ -7,7 +7,7 @@ use Prim.Native.Nat.{ℕ, zero, suc, _+_, _*_, _/_, _%_, _≤_, _<_}
 use lib.Dec.{T}
 use lib.ListN.{length, getD}
 use Rattle.bounded.specs.Mask.{bit}
-use Rattle.problem.specs.Problem.{Problem, State, slideSpares}
+use Rattle.problem.specs.Problem.{Problem, State, substitutionSpares}
 use Rattle.problem.specs.Sentences.{Snake, Triangle, Neighbourhood, SnakeSubstitution}
 use Rattle.rests.specs.Rests.{Rests}
 
@@ -59,7 +59,7 @@ Passes P zero i c q = Snake P q i c
 Passes P (suc zero) i c q = Triangle P q i c
 Passes P (suc (suc zero)) i c q = Triangle P q i (16 + c)
 Passes P (suc (suc (suc zero))) i c q = (a : ℕ) × Neighbourhood P q i c a
-Passes P (suc (suc (suc (suc g)))) i c q = (b : ℕ) × (a : ℕ) × SnakeSubstitution P q slideSpares i b a
+Passes P (suc (suc (suc (suc g)))) i c q = (b : ℕ) × (a : ℕ) × SnakeSubstitution P q substitutionSpares i b a
 
 -- c is in the set that stands at a place
 abbrev pub In : List ℕ → ℕ → ℕ → Type 0

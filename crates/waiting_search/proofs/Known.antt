@@ -5,7 +5,7 @@ use Prim.Native.Nat.{ℕ, _≤_, _<_}
 use native.Mathlib.Omega.{arith}
 use lib.Dec.{T}
 use Rattle.bounded.proofs.Truth.{T-true}
-use Rattle.problem.specs.Problem.{Problem, State, noneEmpty, slideSpares, remove, eliminate}
+use Rattle.problem.specs.Problem.{Problem, State, noneEmpty, substitutionSpares, remove, eliminate}
 use Rattle.problem.specs.Run.{holdsBy, holds, afterEffect, after, next}
 use Rattle.problem.specs.Record.{kindOf, effectOf}
 use Rattle.problem.specs.Held.{held}
@@ -73,7 +73,7 @@ module _ {P : Problem} {s : State} (F : Fits P s) (r : Record) (e : next P s ≡
             subst (AllUnsupported P (remove P s i b)) (sym (M .0)) (unsupported-below F (remove-fits P s F i b) (step-holds .0) A (cover-arc F A i b a N) (remove-below P s i b .live) B),
             gone i b (N .0) (M .1),
           )
-      by (SnakeSubstitution i b a) t C M = mended i b (snakeSubstitution-iff F slideSpares i b a .0 t .0) M
+      by (SnakeSubstitution i b a) t C M = mended i b (snakeSubstitution-iff F substitutionSpares i b a .0 t .0) M
 
 -- the fields of a record whose rule holds, in the state after its step
 module _ {t : List ℕ} {m : Masks} (R : Ready t m) where

@@ -9,10 +9,10 @@ use native.Mathlib.Omega.{arith}
 use lib.Dec.{T}
 use lib.Bits.{bitAnd, and-le-r}
 use lib.ListN.{getD}
-use Rattle.bounded.specs.Bounded.{lowest}
+use Rattle.bounded.specs.Quantifiers.{lowest}
 use Rattle.bounded.specs.Mask.{bit}
 use Rattle.bounded.proofs.Truth.{T-of, and-iff}
-use Rattle.bounded.proofs.Bounded.{lowest-least}
+use Rattle.bounded.proofs.Quantifiers.{lowest-least}
 use Rattle.bounded.proofs.Mask.{bit-and, member-some}
 use Rattle.bounded.proofs.Members.{lowest-member}
 use Rattle.problem.specs.Problem.{Problem, State, noneEmpty, unsupported}

@@ -9,7 +9,7 @@ use lib.Bits.{bitAnd, bitOr, or-lt}
 use lib.Dec.{T, eqb}
 use lib.ListN.{length, getD, set, length-set}
 use lib.Seq.{getD-set-same, getD-set-other}
-use Rattle.bounded.specs.Bounded.{lowest}
+use Rattle.bounded.specs.Quantifiers.{lowest}
 use Rattle.bounded.specs.Mask.{bit, maskOf, without}
 use Rattle.bounded.proofs.Truth.{T-of, T-not, T-dec, split, eq-dec, and-iff, or-iff, not-iff, eqb-iff}
 use Rattle.bounded.proofs.Mask.{bit-and, bit-or, bit-none, bit-not16, bit-mask, bit-without32, member-lt, member-some}

@@ -10,13 +10,13 @@ use native.Mathlib.Omega.{arith}
 use lib.Bits.{bitAnd, and-le-l}
 use lib.Dec.{T, eqb}
 use lib.ListN.{getD}
-use Rattle.bounded.specs.Bounded.{lowest}
+use Rattle.bounded.specs.Quantifiers.{lowest}
 use Rattle.bounded.specs.Mask.{bit, without}
 use Rattle.bounded.proofs.Truth.{T-of, T-ext, T-true, T-false, T-dec, and-iff, or-iff, not-iff, eqb-iff}
-use Rattle.bounded.proofs.Bounded.{lowest-least}
+use Rattle.bounded.proofs.Quantifiers.{lowest-least}
 use Rattle.bounded.proofs.Mask.{bit-and, bit-without16, bit-without32, member-some}
 use Rattle.bounded.proofs.Members.{Sought, sought-all, sought-next, left-and, left-lowest, lowest-member}
-use Rattle.problem.specs.Problem.{Problem, State, slideSpares, neighbourhood}
+use Rattle.problem.specs.Problem.{Problem, State, substitutionSpares, neighbourhood}
 use Rattle.problem.specs.Held.{held}
 use Rattle.problem.specs.Masks.{stateOf}
 use Rattle.problem.specs.Run.{stepIf, first, isStep}
@@ -137,8 +137,8 @@ module _ {t : List ℕ} {m : Masks} (R : Ready t m) where
       pub goals-first : first 16 (λ b. lowestGoal i b (getD goals b 0)) ≡ stepFrom P s 5 i
       unfolding lowestGoal stepFrom stepAt
       goals-first = first-ext 16 _ _ (λ b. first-ext 16 _ _ (λ a. ap (λ (h : Bool). stepIf h (record·.SnakeSubstitution i b a)) (T-ext (
-        λ h. snakeSubstitution-iff (R .fits) slideSpares i b a .1 (K .holds b a .0 h),
-        λ h. K .holds b a .1 (snakeSubstitution-iff (R .fits) slideSpares i b a .0 h),
+        λ h. snakeSubstitution-iff (R .fits) substitutionSpares i b a .1 (K .holds b a .0 h),
+        λ h. K .holds b a .1 (snakeSubstitution-iff (R .fits) substitutionSpares i b a .0 h),
       ))))
 
       -- where there is no step, no goal is left
@@ -146,14 +146,14 @@ module _ {t : List ℕ} {m : Masks} (R : Ready t m) where
       unfolding stepFrom stepAt
       goals-rest e =
           K .fails (λ b a h. let S = K .holds b a .0 h in
-          stepIf-none _ (record·.SnakeSubstitution i b a) (first-each 16 _ (first-each 16 _ e b (live-value R i b (S .0) .value)) a (live-value R i a (S .1 .0) .value)) (snakeSubstitution-iff (R .fits) slideSpares i b a .1 S))
+          stepIf-none _ (record·.SnakeSubstitution i b a) (first-each 16 _ (first-each 16 _ e b (live-value R i b (S .0) .value)) a (live-value R i a (S .1 .0) .value)) (snakeSubstitution-iff (R .fits) substitutionSpares i b a .1 S))
 
     -- a test that is not pending has failed, and an empty domain has no step
     pub goals-none : {p w : List ℕ} → Waits P s p w → (word : ℕ) (has : Bool) → word ≡ getD p (rowOf substitutions i) 0 → has ≡ bit word 0 → (not has || eqb (getD (m .domains) i 0) 0) ≡ true → stepFrom P s 5 i ≡ Nothing
     unfolding stateOf stepFrom stepAt
     goals-none H word has f e h =
         first-off 16 _ (λ b q. first-off 16 _ (λ a r. outside _ _ (λ x.
-        let S = snakeSubstitution-iff (R .fits) slideSpares i b a .0 x in
+        let S = snakeSubstitution-iff (R .fits) substitutionSpares i b a .0 x in
         ⊎-elim
         (λ t. waits-fails (R .fits) H substitutions i 0 (omega arith) l (omega arith) (λ u. not-iff has .0 t (subst T (sym (e ∙ ap (λ (z : ℕ). bit z 0) f)) u)) (b, a, S))
         (λ t. member-some (getD (m .domains) i 0) b (S .0) (eqb-iff (getD (m .domains) i 0) 0 .0 t))

@@ -4,7 +4,7 @@ use mathlib.Core.Bool.{false}
 use Prim.Native.Nat.{_-_, _≤_, _<_}
 use native.Mathlib.Omega.{arith}
 use denote.Ref.{now}
-use Rattle.bounded.specs.Bounded.{anyBelow}
+use Rattle.bounded.specs.Quantifiers.{anyBelow}
 use Rattle.bounded.proofs.Loops.{any-none, any-more, any-hit, any-end}
 use Rattle.problem.specs.Held.{held}
 use Rattle.problem.proofs.HeldTable.{held-few, held-narrow}

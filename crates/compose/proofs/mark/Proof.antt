@@ -2,7 +2,7 @@
 use mathlib.Core.Path.{sym, ap, _∙_}
 use native.Mathlib.Omega.{arith}
 use denote.Ref.{now}
-use Rattle.bounded.specs.Bounded.{oneIf}
+use Rattle.bounded.specs.Quantifiers.{oneIf}
 use Rattle.problem.specs.Held.{held}
 use Rattle.compose.proofs.Writing.{block-low, block-out, block-in}
 use borrow.Author.Needs.{needs}

@@ -3,7 +3,7 @@ use mathlib.Core.Path.{_≡_, sym, ap, _∙_}
 use Prim.Native.Nat.{ℕ, _+_, _-_}
 use lib.Bits.{bitAnd}
 use lib.ListN.{getD}
-use Rattle.bounded.specs.Bounded.{lowest}
+use Rattle.bounded.specs.Quantifiers.{lowest}
 use Rattle.bounded.specs.Mask.{bit}
 use Rattle.bounded.proofs.Mask.{at-lowest-zero, at-lowest-member}
 use Rattle.problem.specs.declared.Cover.the-variants.{Spoilt, Holds}

@@ -1,7 +1,7 @@
 -- `hand_call::lowest_snake`: none so far. Assumes nothing.
 use Prim.Native.Nat.{_≤_, _-_}
 use mathlib.Core.Path.{_≡_, sym, _∙_}
-use Rattle.bounded.specs.Bounded.{lowest}
+use Rattle.bounded.specs.Quantifiers.{lowest}
 use Rattle.bounded.proofs.Loops.{lowest-none, lowest-more, lowest-hit, lowest-end}
 use Rattle.problem.specs.Problem.{snake}
 use Rattle.problem.specs.Held.{held}

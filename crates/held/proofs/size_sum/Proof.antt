@@ -4,7 +4,7 @@ use Prim.Native.Nat.{ℕ, _-_, _*_, _≤_, _<_}
 use mathlib.Core.List.{List}
 use native.Mathlib.Omega.{arith}
 use lib.ListN.{getD}
-use Rattle.bounded.specs.Bounded.{sumTo}
+use Rattle.bounded.specs.Quantifiers.{sumTo}
 use Rattle.bounded.proofs.Loops.{sum-none, sum-more}
 use Rattle.problem.specs.Problem.{sizeSum}
 use Rattle.problem.specs.Held.{held, RowTable}

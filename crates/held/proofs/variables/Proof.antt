@@ -4,7 +4,7 @@ use mathlib.Core.Path.{_≡_, sym, _∙_}
 use native.Mathlib.Omega.{arith}
 use lib.Dec.{eqb}
 use borrow.Author.Tests.{eq-eqb, ne-eqb}
-use Rattle.bounded.specs.Bounded.{lowest}
+use Rattle.bounded.specs.Quantifiers.{lowest}
 use Rattle.bounded.proofs.Loops.{lowest-none, lowest-more, lowest-hit, lowest-end}
 use Rattle.problem.specs.Held.{held}
 use Rattle.problem.proofs.HeldTable.{held-entry, held-lowest}

@@ -7,7 +7,7 @@ use lib.Dec.{eqb}
 use lib.ListN.{getD}
 use borrow.Author.Needs.{needs}
 use borrow.Author.Tests.{eq-eqb, ne-eqb}
-use Rattle.bounded.specs.Bounded.{allBelow}
+use Rattle.bounded.specs.Quantifiers.{allBelow}
 use Rattle.bounded.proofs.Loops.{all-none, all-more, all-fail, all-end}
 use Rattle.read_sheet.specs.Reading.{allFull}
 use Rattle.read_sheet.proofs.allows_all.Statement.{statement}

@@ -7,7 +7,7 @@ use lib.Dec.{ltb}
 use lib.ListN.{getD}
 use denote.Ref.{now}
 use borrow.Author.Needs.{needs}
-use Rattle.bounded.specs.Bounded.{anyBelow}
+use Rattle.bounded.specs.Quantifiers.{anyBelow}
 use Rattle.bounded.proofs.Loops.{any-none, any-next}
 use Rattle.read_sheet.specs.Reading.{someBeyond}
 use Rattle.read_sheet.proofs.some_beyond.Statement.{statement}

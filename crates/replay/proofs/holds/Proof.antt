@@ -22,7 +22,7 @@ returns-4 c = rw (c .before .before .r4 .given .1) (c .holds-neighbourhood .ensu
 
 returns-5 : tie.Need-returns-5
 unfolding holdsBy
-returns-5 c = rw (c .before .before .r5 .given .1) (c .holds-slide .ensures)
+returns-5 c = rw (c .before .before .r5 .given .1) (c .holds-substitution .ensures)
 
 pub holds-spec : {M : Type 1} → statement M
 holds-spec =

@@ -2,10 +2,10 @@
 use mathlib.Core.Path.{_≡_, sym, ap, _∙_}
 use Prim.Native.Nat.{ℕ, _+_, _-_, _≤_}
 use native.Mathlib.Omega.{arith}
-use Rattle.bounded.specs.Bounded.{oneIf, countBelow}
+use Rattle.bounded.specs.Quantifiers.{oneIf, countBelow}
 use Rattle.bounded.specs.Mask.{bit}
 use borrow.Author.Needs.{needs}
-use Rattle.bounded.proofs.Bounded.{count-most}
+use Rattle.bounded.proofs.Quantifiers.{count-most}
 use Rattle.report.proofs.Counting.{count-none, count-more}
 use Rattle.report.proofs.count_bits.Statement.{statement}
 use Rattle.report.proofs.count_bits.Tie as tie

@@ -2,7 +2,7 @@
 use mathlib.Core.Path.{_≡_, sym}
 use Prim.Native.Nat.{_-_, _*_, _≤_}
 use native.Mathlib.Omega.{arith}
-use Rattle.bounded.specs.Bounded.{countBelow, sumTo}
+use Rattle.bounded.specs.Quantifiers.{countBelow, sumTo}
 use Rattle.bounded.proofs.Loops.{sum-none}
 use Rattle.problem.specs.Masks.{stateOf}
 use borrow.Author.Needs.{needs}

@@ -2,7 +2,7 @@
 use mathlib.Core.Path.{_≡_, sym, ap, _∙_}
 use Prim.Native.Nat.{ℕ, _-_, _*_, _≤_}
 use denote.Ref.{now}
-use Rattle.bounded.specs.Bounded.{sumTo}
+use Rattle.bounded.specs.Quantifiers.{sumTo}
 use Rattle.bounded.proofs.Loops.{sum-none, sum-more}
 use Rattle.problem.specs.Problem.{sizeSum}
 use Rattle.sheet.specs.Sheet.{layout, variablesOf}

@@ -6,7 +6,7 @@ use lib.Bits.{bitAnd, and-le-r}
 use lib.Dec.{T}
 use native.Mathlib.Nat.{lt-of-le-of-lt}
 use borrow.Author.Needs.{needs}
-use Rattle.bounded.specs.Bounded.{imp}
+use Rattle.bounded.specs.Quantifiers.{imp}
 use Rattle.bounded.specs.Mask.{bit, without, Highest}
 use Rattle.bounded.proofs.Truth.{T-true, and-iff}
 use Rattle.bounded.proofs.Mask.{bit-and, bit-without32}

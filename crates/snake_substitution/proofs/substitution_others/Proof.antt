@@ -8,7 +8,7 @@ use lib.Dec.{T}
 use native.Mathlib.Nat.{lt-of-le-of-lt}
 use borrow.Author.Needs.{needs}
 use borrow.Author.Tests.{not-true, not-false}
-use Rattle.bounded.specs.Bounded.{imp, lowest}
+use Rattle.bounded.specs.Quantifiers.{imp, lowest}
 use Rattle.bounded.specs.Mask.{bit}
 use Rattle.bounded.proofs.Truth.{T-true, T-false, and-iff}
 use Rattle.bounded.proofs.Mask.{bit-and, bit-without32}

@@ -5,7 +5,7 @@ use Prim.Native.Nat.{ℕ, _<_}
 use lib.Bits.{bitAnd}
 use lib.Dec.{T}
 use borrow.Author.Needs.{needs}
-use Rattle.bounded.specs.Bounded.{lowest}
+use Rattle.bounded.specs.Quantifiers.{lowest}
 use Rattle.bounded.specs.Mask.{bit, without}
 use Rattle.bounded.proofs.Mask.{bit-without32}
 use Rattle.bounded.proofs.Members.{Left, left-all, left-next, left-lowest, left-other}

@@ -6,7 +6,7 @@ use Prim.Native.Nat.{ℕ, zero, suc, _+_, _≤_, _<_}
 use native.Mathlib.Nat.{le-refl, le-of-suc-le-suc, not-suc-le-zero}
 use native.Mathlib.Omega.{arith}
 use lib.Dec.{T}
-use Rattle.bounded.specs.Bounded.{allBelow, anyBelow, lowest, sumTo, oneIf, countBelow}
+use Rattle.bounded.specs.Quantifiers.{allBelow, anyBelow, lowest, sumTo, oneIf, countBelow}
 use Rattle.bounded.proofs.Truth.{T-true, T-of, T-dec, at-or-below, eq-dec, lt-dec}
 
 -- ---- all and any
