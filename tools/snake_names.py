@@ -21,6 +21,7 @@ DEFINITION = re.compile(MARKS + r"([^\s:(){}=]+) (?:\{[^}]*\} )?: ")
 DECLARED = re.compile(r"^(?:pub )*(record|data|ruleset) ([^\s:(){}=]+)")
 MEMBER = re.compile(r"^\s+(?:pub )?((?:[^\s:(){}=,]+ )+): ")
 ALIAS = re.compile(r" as ([^\s,.{}]+)(?=[,};]|$)")
+IMPORT = re.compile(r"(?m)^(?:ghost )?use ([^\s{]+)\.\{(.*)\};?$")
 TOKEN = re.compile(r"[^\s(){}.,;@«»`\"]+")
 
 
@@ -65,13 +66,22 @@ def declared(root):
     return found
 
 
+def imported(text, own):
+    """The names that a file has from libraries."""
+    found = set()
+    for module, names in IMPORT.findall(text):
+        if not any(module.startswith(f"Rattle.{crate}.") for crate in own):
+            found.update(name.split(" as ")[0] for name in names.split(", "))
+    return found
+
+
 def turned(text, names, is_antt):
     """text with its names turned; in comments those between backquotes alone."""
 
     def new(match):
-        # a projection that is spelled as today may be of a name of src/
+        # what is spelled as today may be a name of src/: in code, or where it is a projection
         name, after_dot = match.group(), match.string[: match.start()].endswith(".")
-        return name if after_dot and not is_old(name) else names.get(name, name)
+        return name if (after_dot or not is_antt) and not is_old(name) else names.get(name, name)
 
     lines = []
     for line in text.split("\n"):
@@ -112,10 +122,12 @@ def main(argv):
         if "--force" not in argv:
             return 1
     count = 0
+    own = os.listdir(os.path.join(root, "crates"))
     for path in files(root):
         with open(path, encoding="utf-8") as file:
             text = file.read()
-        new = turned(text, names, path.endswith(".antt"))
+        theirs = imported(text, own)
+        new = turned(text, {old: new for old, new in names.items() if old not in theirs}, path.endswith(".antt"))
         if new != text:
             count += 1
             with open(path, "w", encoding="utf-8") as file:

@@ -3,6 +3,7 @@
 //
 // The input is read in pieces into 65,536 bytes, as that of bench_sheets: a longer line ends the program with a line that says so, and that
 // no file stdout has. The last line may end without a newline.
+#![tactic(auto)]
 ghost use Rattle.std.specs.Prelude.{◌≤◌, length};
 ghost use Rattle.io.specs.Counts.{IsPrefixLen};
 

@@ -2,7 +2,7 @@
 use mathlib.Core.Path.{◌≡◌, refl, sym, ap, ◌∙◌}
 use mathlib.Core.List.{List, [], ◌∷◌, ◌++◌}
 use Prim.Native.Nat.{ℕ, zero, suc, ◌+◌, ◌*◌, ◌/◌, ◌%◌, ◌^◌, ◌≤◌, ◌<◌}
-use native.Mathlib.Nat.{add_zero, div-add-mod', mod-lt, mod-eq_of_lt, div-eq_of_lt, mul-add-div_right, mul-add-mod_self_right, mul-le-mul_right, add-mul, mul_assoc, suc-mul, pow-suc, pow-succ'}
+use native.Mathlib.Nat.{add-zero, div-add-mod', mod-lt, mod-eq_of_lt, div-eq_of_lt, mul-add-div_right, mul-add-mod_self_right, mul-le-mul_right, add-mul, mul_assoc, suc-mul, pow-suc, pow-succ'}
 use native.Mathlib.Omega.{arith}
 use lib.ListN.{length, get_or, drop, length-append}
 use lib.Seq.{drop-drop, drop-append_seam, drop-cons, get_or-drop}
@@ -61,7 +61,7 @@ module _ (s : List ℕ) where
   stands_at p k r h = sym (get_or-drop p s k 0) ∙ ap (λ (l : List ℕ). get_or l k 0) h.rest
 
   pub stands_byte : (p x : ℕ) (r : List ℕ) → Stands s p (x ∷ r) → byte_at s p ≡ x
-  stands_byte p x r h = ap (byte_at s) (sym (add_zero p)) ∙ stands_at p 0 (x ∷ r) h
+  stands_byte p x r h = ap (byte_at s) (sym (add-zero p)) ∙ stands_at p 0 (x ∷ r) h
 
   -- past what stands first
   pub stands_over : (p q : ℕ) (xs r : List ℕ) → Stands s p (xs ++ r) → p + length xs ≡ q → Stands s q r
@@ -115,7 +115,7 @@ module _ (s : List ℕ) where
 
     -- a number
     pub number_again : (w p : ℕ) → p + w ≤ length s → drop p s ≡ number_bytes w (number_at s w p) ++ drop (p + w) s
-    number_again zero p h = ap (λ (k : ℕ). drop k s) (sym (add_zero p))
+    number_again zero p h = ap (λ (k : ℕ). drop k s) (sym (add-zero p))
     number_again (suc w) p h =
         let x = number_at s w (p + 1) in
         let n = number_below w (p + 1) in

@@ -2,7 +2,7 @@
 use mathlib.Core.Path.{◌≡◌, refl, sym, ap, ◌∙◌}
 use mathlib.Core.List.{List, [], ◌∷◌, ◌++◌}
 use Prim.Native.Nat.{ℕ, zero, suc, ◌+◌, ◌*◌, ◌/◌, ◌%◌, ◌^◌, ◌≤◌, ◌<◌}
-use native.Mathlib.Nat.{add_zero}
+use native.Mathlib.Nat.{add-zero}
 use native.Mathlib.Numerals.{add-one}
 use native.Mathlib.Omega.{arith}
 use lib.ListN.{length, get_or, take, drop, length-append, drop_of_length-le}
@@ -79,7 +79,7 @@ module _ (s : List ℕ) where
   unfolding words_bytes tab
   stands_words [] p t h = refl
   stands_words (x ∷ l) p t h =
-      let n = ap (number_at s 2) (add_zero p) ∙ stands_number s 2 x p (words_bytes l) (h 0 (omega arith)) t in
+      let n = ap (number_at s 2) (add-zero p) ∙ stands_number s 2 x p (words_bytes l) (h 0 (omega arith)) t in
       let ih = stands_words l (p + 2) (stands_over s p (p + 2) (number_bytes 2 x) (words_bytes l) t refl) (λ i k. h (suc i) (omega arith)) in
       λ k. n k ∷ ((λ j. tab (length l) (λ i. number_at s 2 (sym (next_word p i) j))) ∙ ih) k
 
@@ -90,4 +90,4 @@ module _ (s : List ℕ) where
   words_again bytes (suc k) p h =
       let ih = words_again bytes k (p + 2) (omega arith) in
       number_again s bytes 2 p (omega arith)
-      ∙ (λ j. number_bytes 2 (number_at s 2 (sym (add_zero p) j)) ++ (ih ∙ (λ j. words_bytes (tab k (λ i. number_at s 2 (next_word p i j))))) j)
+      ∙ (λ j. number_bytes 2 (number_at s 2 (sym (add-zero p) j)) ++ (ih ∙ (λ j. words_bytes (tab k (λ i. number_at s 2 (next_word p i j))))) j)

@@ -2,7 +2,7 @@
 use mathlib.Core.Path.{◌≡◌, refl, sym, ap, ◌∙◌}
 use mathlib.Core.List.{List, [], ◌∷◌, ◌++◌, append_assoc, append-nil}
 use Prim.Native.Nat.{ℕ, zero, suc, ◌+◌, ◌-◌, ◌/◌, ◌%◌, ◌^◌, ◌≤◌, ◌<◌}
-use native.Mathlib.Nat.{zero-add, add_zero, add_assoc}
+use native.Mathlib.Nat.{zero-add, add-zero, add_assoc}
 use native.Mathlib.Numerals.{add-one}
 use native.Mathlib.Omega.{arith}
 use lib.ListN.{length, take, drop, set, length-append, length-drop, take-append-drop, drop_of_length-le, get_or-append}
@@ -27,7 +27,7 @@ word_put b p x l h =
 module _ (b : List ℕ) (p : ℕ) where
   pub written_nil : written b p [] ≡ b
   unfolding written
-  written_nil = ap (λ (k : ℕ). take p b ++ drop k b) (add_zero p) ∙ take-append-drop p b
+  written_nil = ap (λ (k : ℕ). take p b ++ drop k b) (add-zero p) ∙ take-append-drop p b
 
   pub written_one : (v : ℕ) → p < length b → set b p v ≡ written b p (v ∷ [])
   written_one v h = sets_written b p (v ∷ []) (omega arith)

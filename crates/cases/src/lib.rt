@@ -1,5 +1,6 @@
 // The lines of a bench program: a text is read in pieces, a line is fields with a space between them, a field is a word or hexadecimal
 // digits. And what an answer is written with: words, numbers, bytes and states. A line ends with a newline, or where the input ends.
+#![tactic(auto)]
 ghost use Rattle.std.specs.Prelude.{suc, ◌<◌, ◌≤◌, min, length};
 ghost use Rattle.io.specs.Counts.{IsPrefixLen};
 

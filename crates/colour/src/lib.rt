@@ -1,4 +1,5 @@
 // The sheet of a colouring graph: the file is read, the table of its colouring problem filled, and the sheet written.
+#![tactic(auto)]
 ghost use Rattle.colour.specs.Call.{colour_call};
 ghost use Rattle.std.specs.Prelude.{◌≡◌, ◌*◌, ◌<◌, ◌≤◌, length};
 ghost use Rattle.problem.specs.Held.{table_length, Located, Filled};
@@ -12,7 +13,7 @@ use compose::Composed;
 use graph::GraphRead;
 
 // Why a colouring file is turned away: one case for each number of the format's table.
-#[derive(Drop)]
+#[derive(Clone, Copy)]
 pub enum ColourRefusal {
     File,
     Loop,
@@ -22,7 +23,7 @@ pub enum ColourRefusal {
 }
 
 // The job's answer: the bytes written, or the refusal.
-#[derive(Drop)]
+#[derive(Clone, Copy)]
 pub enum Coloured {
     Written(usize),
     Refused(ColourRefusal),

@@ -1,5 +1,6 @@
 // Writes the sheet of the DIMACS graph colouring file on standard input, or the line that says why there is none. The argument is the number
 // of channels.
+#![tactic(auto)]
 ghost use Rattle.std.specs.Prelude.{◌≡◌, cond, ◌+◌, ◌≤◌, eqb, length, take};
 ghost use Rattle.graph.specs.Graph.{file_limit};
 ghost use Rattle.colour.specs.Colour.{colour_job};

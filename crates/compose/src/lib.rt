@@ -1,5 +1,6 @@
 // The sheet of a version that is the problem of a filled table, written at the front of a lent buffer. Its length is known before a
 // byte is written.
+#![tactic(auto)]
 ghost use Rattle.std.specs.Prelude.{◌≡◌, ◌+◌, ◌*◌, ◌-◌, ◌/◌, ◌%◌, ◌^◌, ◌<◌, ◌≤◌, length};
 ghost use Rattle.bounded.specs.Table.{tab, filled};
 ghost use Rattle.problem.specs.Held.{held, RowTable};
@@ -12,7 +13,7 @@ ghost use Rattle.compose.specs.Parts.{Version, Pair, mark_of, BlockMarked, Bytes
 use buffers::put_word;
 
 // What writing a sheet answers: its length, or that the buffer is shorter than the sheet.
-#[derive(Drop)]
+#[derive(Clone, Copy)]
 pub enum Composed {
     Written(usize),
     TooShort,

@@ -1,5 +1,6 @@
 // Covering, the format's word for one value in another's place, over a lent table of rows: what spoils it at one variable, where it breaks
 // first in a set of them, which values of a set cover, and where the others break.
+#![tactic(auto)]
 ghost use Rattle.std.specs.Prelude.{◌≡◌, cond, false, ◌≢◌, ◌<◌, ◌≤◌, ◌+◌, ◌^◌};
 ghost use Rattle.std.specs.Int.Bits.{bit_and, bit_or};
 ghost use Rattle.bounded.specs.Mask.{bit};
@@ -51,7 +52,7 @@ fn spoiler(
 // ---- sets of variables
 
 // What is left of some values once each was asked to cover another, and the variables at which some of them did not.
-#[derive(Drop)]
+#[derive(Clone, Copy)]
 pub struct Candidates {
     pub left: u16,
     pub broken: u32,

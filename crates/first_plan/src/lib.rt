@@ -1,5 +1,6 @@
 // The first plan of a state, lowest variable first and lowest value first. The order fixes the answer and not the work: on its way down the
 // search keeps the values that are left, and turns back where a variable has none.
+#![tactic(auto)]
 ghost use Rattle.std.specs.Prelude.{◌≡◌, true, ◌≢◌, ◌<◌, length};
 ghost use Rattle.bounded.specs.Mask.{bit};
 ghost use Rattle.problem.specs.Problem.{remove as removed};
@@ -16,28 +17,28 @@ use problem::Masks;
 use support::partners;
 
 // Whether there is a plan, and the plan.
-#[derive(Drop)]
+#[derive(Clone, Copy)]
 pub struct Found {
     pub ok: bool,
     pub plan: [u8; 32],
 }
 
 // A state to go on with; where it is not open it has no solution.
-#[derive(Drop)]
+#[derive(Clone, Copy)]
 struct Opened {
     pub open: bool,
     pub masks: Masks,
 }
 
 // A choice made, and the variables that lost values.
-#[derive(Drop)]
+#[derive(Clone, Copy)]
 struct Choice {
     pub changed: u32,
     pub masks: Masks,
 }
 
 // The variables that lost values, and whether one has none left.
-#[derive(Drop)]
+#[derive(Clone, Copy)]
 struct Swept {
     pub dead: bool,
     pub changed: u32,

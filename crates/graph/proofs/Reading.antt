@@ -3,7 +3,7 @@ use mathlib.Core.Path.{◌≡◌, refl, sym, ap, ◌∙◌}
 use mathlib.Core.Bool.{Bool, true, false, not, cond, ◌||◌, or-false, or_assoc}
 use mathlib.Core.List.{List, [], ◌∷◌}
 use Prim.Native.Nat.{ℕ, zero, suc, ◌+◌, ◌≤◌, ◌<◌}
-use native.Mathlib.Nat.{add_zero, zero-add, add_assoc}
+use native.Mathlib.Nat.{add-zero, zero-add, add_assoc}
 use native.Mathlib.Omega.{arith}
 use lib.Dec.{eqb}
 use lib.ListN.{length}
@@ -93,7 +93,7 @@ sized_read g m = cond (sized_away g m) read.Bad (read.Read g.vertices g.edges (g
 
 sized_read_lem : (g : Tally) (m : List Line) → g.sized ≡ true → g.good ≡ true → read_from g m ≡ sized_read g m
 unfolding read_from stepped any_line count_lines
-sized_read_lem g [] s h = rw s (simp (add_zero, or-false))
+sized_read_lem g [] s h = rw s (simp (add-zero, or-false))
 sized_read_lem g (Comment ∷ m) s h = read_on g m Comment h ∙ sized_read_lem g m s h ∙ simp zero-add
 sized_read_lem g (Size v e ∷ m) s h =
     let n : eqb (1 + count_lines is_size m) 0 ≡ false = ne_eqb (1 + count_lines is_size m) 0 (λ q. omega arith) in

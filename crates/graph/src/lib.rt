@@ -1,7 +1,8 @@
 // The types of a DIMACS graph colouring file: a line of it, what reading the file finds, and how far a reader has come.
+#![tactic(auto)]
 
 // A line of a colouring file: a comment, the `p` line (Size), an `e` line (Edge), or none of these forms.
-#[derive(Drop)]
+#[derive(Clone, Copy)]
 pub enum Line {
     Comment,
     Size { vertices: usize, edges: usize },
@@ -11,7 +12,7 @@ pub enum Line {
 
 // What reading a colouring file finds: what its `p` line states, how many `e` lines there are, and whether one is a loop; or that the file
 // is turned away.
-#[derive(Drop)]
+#[derive(Clone, Copy)]
 pub enum GraphRead {
     Read {
         vertices: usize,
@@ -24,7 +25,7 @@ pub enum GraphRead {
 
 // What a reader has found in the lines passed: whether a `p` line, and what it states; how many `e` lines; whether one is a loop; and
 // whether no line turned the file away.
-#[derive(Drop)]
+#[derive(Clone, Copy)]
 pub struct Tally {
     pub sized: bool,
     pub vertices: usize,

@@ -1,4 +1,5 @@
 // Taking out by hand, as jobs: the state, what starting and a hand call answer, and the format's number for each refusal.
+#![tactic(auto)]
 ghost use Rattle.std.specs.Prelude.{◌≡◌};
 ghost use Rattle.hand.specs.Numbers.{hand_refusal_number};
 
@@ -6,25 +7,25 @@ use problem::Masks;
 use sheet::SheetRefusal;
 
 // The state of taking out by hand: the run's state in a struct of its own.
-#[derive(Drop)]
+#[derive(Clone, Copy)]
 pub struct HandState {
     pub masks: Masks,
 }
 
-#[derive(Drop)]
+#[derive(Clone, Copy)]
 pub enum StartOutcome {
     Started,
     Refused(SheetRefusal),
 }
 
-#[derive(Drop)]
+#[derive(Clone, Copy)]
 pub struct StartAnswer {
     pub outcome: StartOutcome,
     pub state: HandState,
 }
 
 // Why a hand call is refused.
-#[derive(Drop)]
+#[derive(Clone, Copy)]
 pub enum HandRefusal {
     Sheet(SheetRefusal),
     State,
@@ -33,13 +34,13 @@ pub enum HandRefusal {
     Rule,
 }
 
-#[derive(Drop)]
+#[derive(Clone, Copy)]
 pub enum CallOutcome {
     Eliminated(usize),
     Refused(HandRefusal),
 }
 
-#[derive(Drop)]
+#[derive(Clone, Copy)]
 pub struct CallAnswer {
     pub outcome: CallOutcome,
     pub state: HandState,

@@ -1,4 +1,5 @@
 // Reads a sheet from standard input and writes it in the other version, or the line that says why it is turned away.
+#![tactic(auto)]
 ghost use Rattle.std.specs.Prelude.{◌≡◌, ◌≤◌, length, take};
 ghost use Rattle.fields.specs.Print.{input_limit};
 ghost use Rattle.moved.specs.Move.{move_job};

@@ -1,4 +1,5 @@
 // A sheet moved to the other version: it is read, its table filled, and the same problem written in the other version.
+#![tactic(auto)]
 ghost use Rattle.moved.specs.Call.{move_call};
 ghost use Rattle.std.specs.Prelude.{◌≡◌};
 ghost use Rattle.problem.specs.Held.{held, RowTable};
@@ -9,14 +10,14 @@ use compose::Composed;
 use sheet::{SheetRead, SheetRefusal};
 
 // Why a move is turned away: the sheet's own refusals, then the target's.
-#[derive(Drop)]
+#[derive(Clone, Copy)]
 pub enum MoveRefusal {
     Sheet(SheetRefusal),
     Target,
 }
 
 // The job's answer: the bytes written, or the refusal.
-#[derive(Drop)]
+#[derive(Clone, Copy)]
 pub enum Moved {
     Written(usize),
     Refused(MoveRefusal),

@@ -1,4 +1,5 @@
 // Kind 4, cover: the test for a neighbourhood substitution, the values that substitute for one, and what it rests on that none does.
+#![tactic(auto)]
 ghost use Rattle.std.specs.Prelude.{◌≡◌, true, ◌<◌, get_or};
 ghost use Rattle.bounded.specs.Mask.{bit};
 ghost use Rattle.problem.specs.Problem.{neighbourhood as neighbourhood_holds, first_break as first_break_at};
@@ -33,7 +34,7 @@ pub fn neighbourhood(t: &[u16], active: u32, on: &[u16; 32], i: usize, b: usize,
 }
 
 // What trying to substitute for a value comes to: the values that do, and the variables where the others break.
-#[derive(Drop)]
+#[derive(Clone, Copy)]
 pub struct NeighbourhoodRests {
     pub left: u16,
     pub rests: u32,

@@ -1,4 +1,5 @@
 // Picking a plan, as a job: the run, the first plan of what it leaves, and that put back.
+#![tactic(auto)]
 ghost use Rattle.std.specs.Prelude.{◌≡◌, [], ◌≤◌, ◌<◌, ◌+◌, ◌*◌, length};
 ghost use Rattle.boundary.specs.State.{state_length};
 ghost use Rattle.pick.specs.Call.{done_number, crossed_number, crossed_state, PickFits, pick_call};
@@ -14,7 +15,7 @@ use run::RunOutcome;
 use sheet::{SheetRead, SheetRefusal};
 
 // Why picking is refused.
-#[derive(Drop)]
+#[derive(Clone, Copy)]
 pub enum PickRefusal {
     Sheet(SheetRefusal),
     Buffer,
@@ -22,7 +23,7 @@ pub enum PickRefusal {
 }
 
 // A plan was put back into the lent plan, or there is none; either with what the run answers.
-#[derive(Drop)]
+#[derive(Clone, Copy)]
 pub enum PickOutcome {
     Plan {
         end: End,
@@ -38,7 +39,7 @@ pub enum PickOutcome {
 }
 
 // The answer, with the run's last state beside it; a refused pick has the empty state there.
-#[derive(Drop)]
+#[derive(Clone, Copy)]
 pub struct Picked {
     pub outcome: PickOutcome,
     pub state: Masks,

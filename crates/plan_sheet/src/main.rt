@@ -1,4 +1,5 @@
 // Reads a sheet from standard input and writes what the run comes to, and a plan.
+#![tactic(auto)]
 ghost use Rattle.std.specs.Prelude.{◌≡◌, length};
 ghost use Rattle.fields.specs.Print.{input_limit};
 

@@ -63,7 +63,7 @@ module _ (P : Problem) where
   pub calls_fit : {s : State} → Fits P s → (l : List ℕ) → Fits P (calls_state P s l)
   unfolding calls_state
   calls_fit F [] = F
-  calls_fit F (i ∷ l) = calls_fit (call_fits F i) l
+  calls_fit {s = s} F (i ∷ l) = calls_fit {s = call_state P s i} (call_fits F i) l
 
   -- an accepted or refused call keeps "has a solution" both ways
   pub call_solvable : {s : State} → Fits P s → (i : ℕ) → Solvable P (call_state P s i) ↔ Solvable P s
@@ -152,7 +152,7 @@ module _ (P : Problem) where
   calls_cut : {s q : State} → Fits P s → Fits P q → Cut s q → (l : List ℕ) → Cut s (calls_state P q l)
   unfolding calls_state
   calls_cut F G A [] = A
-  calls_cut F G A (i ∷ l) = calls_cut F (call_fits G i) (call_cut F G A i) l
+  calls_cut {q = q} F G A (i ∷ l) = calls_cut {q = call_state P q i} F (call_fits G i) (call_cut F G A i) l
 
   -- of two cuts of one state, the snake rule of the larger holds in the smaller
   snake_cut : {s q r : State} → Fits P s → Fits P q → Cut s q → Cut s r → ((i : ℕ) → Active r i → Active q i) → NoneEmpty P q → (i v : ℕ) → Active r i → Snake P q i v → Snake P r i v
@@ -201,7 +201,7 @@ module _ (P : Problem) where
   unfolding calls_state
   calls_keep F G A B fin sub [] = sub
   calls_keep {s} {q} {r} F G A B fin sub (k ∷ l) =
-      calls_keep F (call_fits G k) (call_cut F G A k) B fin
+      calls_keep {q = call_state P q k} F (call_fits G k) (call_cut F G A k) B fin
       (call_either (λ (m : State). (i : ℕ) → Active r i → Active m i) G k
       (λ hk e v N i hi.
       (eliminate_active P q k i).1 (sub i hi, λ z. fin k (subst (λ (x : ℕ). Active r x) z hi) v (snake_cut F G A B sub e k v (subst (λ (x : ℕ). Active r x) z hi) N))) sub) l

@@ -121,7 +121,7 @@ module _ (P : Problem) where
   pub trace_fits : {s : State} → Fits P s → (t : List Record) → Fits P (after_trace P s t)
   unfolding after_trace
   trace_fits F [] = F
-  trace_fits F (r ∷ t) = trace_fits (after_fits P F r) t
+  trace_fits {s = s} F (r ∷ t) = trace_fits {s = after P s r} (after_fits P F r) t
 
   at_place : (s : State) (before : List Record) (r : Record) (rest : List Record) → T (lawful_trace P s (before ++ (r ∷ rest))) → T (lawful P (after_trace P s before) r)
   unfolding after_trace
@@ -135,14 +135,14 @@ module _ (P : Problem) where
   pub trace_undone : {s : State} → Fits P s → (t : List Record) → T (lawful_trace P s t) → (p : ℕ → ℕ) → Solution P (after_trace P s t) p → Solution P s (undo_trace P s t p)
   unfolding undo_trace after_trace
   trace_undone F [] h p A = A
-  trace_undone {s} F (r ∷ t) h p A =
+  trace_undone {s = s} F (r ∷ t) h p A =
       let x = (trace_iff s r t).0 h in
-      step_undone P F r ((lawful_iff s r).0 x.0).1 (undo_trace P (after P s r) t p) (trace_undone (after_fits P F r) t x.1 p A)
+      step_undone P F r ((lawful_iff s r).0 x.0).1 (undo_trace P (after P s r) t p) (trace_undone {s = after P s r} (after_fits P F r) t x.1 p A)
 
   pub trace_kept : {s : State} → Fits P s → (t : List Record) → T (lawful_trace P s t) → Solvable P s → Solvable P (after_trace P s t)
   unfolding after_trace
   trace_kept F [] h x = x
-  trace_kept {s} F (r ∷ t) h x = let y = (trace_iff s r t).0 h in trace_kept (after_fits P F r) t y.1 (step_kept P F r ((lawful_iff s r).0 y.0).1 x)
+  trace_kept {s = s} F (r ∷ t) h x = let y = (trace_iff s r t).0 h in trace_kept {s = after P s r} (after_fits P F r) t y.1 (step_kept P F r ((lawful_iff s r).0 y.0).1 x)
 
   -- what is left has a solution exactly when the state before the trace has one
   pub trace_solvable : {s : State} → Fits P s → (t : List Record) → T (lawful_trace P s t) → Solvable P (after_trace P s t) ↔ Solvable P s
@@ -151,9 +151,9 @@ module _ (P : Problem) where
   pub trace_falls : {s : State} → Fits P s → (t : List Record) → T (lawful_trace P s t) → length t + live_count P (after_trace P s t) ≤ live_count P s
   unfolding after_trace
   trace_falls F [] h = omega arith
-  trace_falls {s} F (r ∷ t) h =
+  trace_falls {s = s} F (r ∷ t) h =
       let x = (trace_iff s r t).0 h in
-      omega (arith, trace_falls (after_fits P F r) t x.1, step_falls F r x.0)
+      omega (arith, trace_falls {s = after P s r} (after_fits P F r) t x.1, step_falls F r x.0)
 
   -- a lawful trace of the whole problem has at most as many records as the problem lists values
   pub trace_short : (t : List Record) → T (lawful_trace P (full P) t) → length t ≤ size_sum P

@@ -61,7 +61,7 @@ module _ {P : Problem} {s : State} (F : Fits P s) where
 pub trace_stays : {P : Problem} {s : State} → Fits P s → (t : List Record) → T (lawful_trace_by before_four P s t) → T (lawful_trace_by after_four P s t)
 unfolding lawful_trace_by
 trace_stays F [] h = tt
-trace_stays {P} {s} F (r ∷ t) h = let x = (trace_by_iff before_four P s r t).0 h in (trace_by_iff after_four P s r t).1 (lawful_widens F r x.0, trace_stays (after_fits P F r) t x.1)
+trace_stays {P} {s} F (r ∷ t) h = let x = (trace_by_iff before_four P s r t).0 h in (trace_by_iff after_four P s r t).1 (lawful_widens F r x.0, trace_stays {s = after P s r} (after_fits P F r) t x.1)
 
 -- ---- the run goes as it went
 

@@ -1,5 +1,6 @@
 // The types that the definitions of specs/ share with the code, the state that holds nothing, and what an answer says where only yes or no
 // is asked.
+#![tactic(auto)]
 ghost use Rattle.std.specs.Prelude.{◌≡◌};
 ghost use Rattle.problem.specs.Problem.{unspoilt as unspoilt_of, unbroken as unbroken_of};
 ghost use Rattle.problem.specs.Masks.{empty_masks};
@@ -7,14 +8,14 @@ ghost use Rattle.problem.specs.Record.{record_of, effect_of, parts_of};
 ghost use Rattle.problem.specs.Run.{is_step};
 
 // A state as masks: the variables that are active, and the values in the domain of each.
-#[derive(Drop)]
+#[derive(Clone, Copy)]
 pub struct Masks {
     pub active: u32,
     pub domains: [u16; 32],
 }
 
 // One step, with the fields that its record has after the kind.
-#[derive(Drop)]
+#[derive(Clone, Copy)]
 pub enum Record {
     Unsupported(usize, usize, usize),
     Snake(usize, usize),
@@ -24,7 +25,7 @@ pub enum Record {
 }
 
 // A record taken apart: its kind, how many fields it has after that, and these, with 0 for a fourth that is not there.
-#[derive(Drop)]
+#[derive(Clone, Copy)]
 pub struct Parts {
     pub kind: u8,
     pub count: usize,
@@ -34,28 +35,28 @@ pub struct Parts {
 }
 
 // The record that a number of kind has with given fields, or that no kind has the number.
-#[derive(Drop)]
+#[derive(Clone, Copy)]
 pub enum Numbered {
     Kind(Record),
     NoKind,
 }
 
 // What a step does: it removes a value of a variable, or eliminates a variable.
-#[derive(Drop)]
+#[derive(Clone, Copy)]
 pub enum Effect {
     Removes(usize, usize),
     Eliminates(usize),
 }
 
 // What a search for the next step finds.
-#[derive(Drop)]
+#[derive(Clone, Copy)]
 pub enum Next {
     Step(Record),
     Nothing,
 }
 
 // How a run ends.
-#[derive(Drop)]
+#[derive(Clone, Copy)]
 pub enum End {
     Impossible,
     Solved,
@@ -63,21 +64,21 @@ pub enum End {
 }
 
 // What the cover test answers: the lowest value that spoils the cover, or that none does.
-#[derive(Drop)]
+#[derive(Clone, Copy)]
 pub enum Cover {
     Spoilt(usize),
     Holds,
 }
 
 // Where a cover breaks first: at the lowest variable that has a value that spoils it, and the lowest such value there; or nowhere.
-#[derive(Drop)]
+#[derive(Clone, Copy)]
 pub enum Break {
     At { variable: usize, value: usize },
     Nowhere,
 }
 
 // What a hand call comes to: the value that the variable was eliminated with, or the reason why it was not.
-#[derive(Drop)]
+#[derive(Clone, Copy)]
 pub enum Call {
     Eliminated(usize),
     Misfit,

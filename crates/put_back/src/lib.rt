@@ -1,4 +1,5 @@
 // Putting back, as a job: what it answers, the format's number for each refusal, and the number that a call from C answers.
+#![tactic(auto)]
 ghost use Rattle.std.specs.Prelude.{◌≡◌, ◌+◌, ◌*◌};
 ghost use Rattle.put_back.specs.Numbers.{put_back_refusal_number};
 ghost use Rattle.put_back.specs.PutBack.{unlawful_record};
@@ -9,7 +10,7 @@ use sheet::SheetRefusal;
 
 // Why putting back is refused. An unlawful record comes with its number, from 0, and with the variable and the value where its cover
 // breaks, 255 for both where none is named.
-#[derive(Drop)]
+#[derive(Clone, Copy)]
 pub enum PutBackRefusal {
     Sheet(SheetRefusal),
     PlanLength,
@@ -24,7 +25,7 @@ pub enum PutBackRefusal {
     Plan,
 }
 
-#[derive(Drop)]
+#[derive(Clone, Copy)]
 pub enum PutBackOutcome {
     Done,
     Refused(PutBackRefusal),

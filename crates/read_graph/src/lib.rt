@@ -1,4 +1,5 @@
 // Reading a colouring file in one pass: digits, lines, and what the lines come to.
+#![tactic(auto)]
 ghost use Rattle.std.specs.Prelude.{◌≡◌, [], ◌+◌, ◌<◌, ◌≤◌, length, get_or, drop};
 ghost use Rattle.graph.specs.Graph.{is_digit, is_outside, file_limit, begins as begins_with};
 ghost use Rattle.graph.specs.Scan.{line_in, turned_away, stepped, read_from};
@@ -8,14 +9,14 @@ ghost use Rattle.read_graph.specs.Parts.{Place, DigitsAt, FieldAt, form_of, Pair
 use graph::{GraphRead, Line, Tally};
 
 // The number of some digits, and the place after them.
-#[derive(Drop)]
+#[derive(Clone, Copy)]
 pub struct Digits {
     pub value: usize,
     pub next: usize,
 }
 
 // A number, and the place after it and the byte that ends it; or none.
-#[derive(Drop)]
+#[derive(Clone, Copy)]
 pub enum Field {
     Number(usize, usize),
     NoNumber,
@@ -23,7 +24,7 @@ pub enum Field {
 
 // A line, and the place after it and its newline, one past the end where a last line has none. A bad line ends the reading, so that its
 // place does not matter.
-#[derive(Drop)]
+#[derive(Clone, Copy)]
 pub struct LineRead {
     pub line: Line,
     pub next: usize,

@@ -1,5 +1,6 @@
 // Reading a sheet: whether its bytes keep the layout, or which refusal is the first. Where a table for the rule tests is lent, it is filled
 // on the way, in one pass over the blocks.
+#![tactic(auto)]
 ghost use Rattle.std.specs.Prelude.{◌≡◌, true, ℕ, ◌+◌, ◌-◌, ◌*◌, ◌^◌, ◌<◌, ◌≤◌, length};
 ghost use Rattle.problem.specs.Held.{table_length, Filled};
 ghost use Rattle.buffers.specs.Bytes.{byte_at, number_at};
@@ -74,7 +75,7 @@ fn rows_tell(x: &[u16; 16], z: usize, k: usize, least: usize, at: usize) -> Bloc
 // ---- blocks
 
 // Whether i < j < n, and the pair comes after the block before.
-fn in_order_lem(s: &[u8], least: usize, i: usize, j: usize) -> bool
+fn in_order(s: &[u8], least: usize, i: usize, j: usize) -> bool
     requires { Front s.now }
     ensures { result ≡ in_order layout s.now least i j }
 {

@@ -1,4 +1,5 @@
 // A trace gone through from the first state: whether each record is lawful in the state reached, and where they lead.
+#![tactic(auto)]
 ghost use Rattle.std.specs.Prelude.{◌≡◌, true, false, ◌<◌, T};
 ghost use Rattle.problem.specs.Problem.{full, unsupported as unsupported_at, snake as snake_at, triangle as triangle_at, neighbourhood as neighbourhood_at, snake_substitution as substitution_holds, substitution_spares, cover_asked};
 ghost use Rattle.problem.specs.Run.{holds as holds_at, lawful as lawful_at, broken_cover, after};
@@ -18,14 +19,14 @@ use trace::{RecordRead, moved, peek, placed};
 // ---- the answer
 
 // What checking a trace finds.
-#[derive(Drop)]
+#[derive(Clone, Copy)]
 pub enum TraceCheck {
     Lawful,
     Fault(PutBackRefusal),
 }
 
 // The check's answer. An enum holds no array, so the state that the records lead to stands beside it.
-#[derive(Drop)]
+#[derive(Clone, Copy)]
 pub struct TraceEnd {
     pub check: TraceCheck,
     pub state: Masks,
@@ -191,7 +192,7 @@ fn unlawful(t: &[u16], active: u32, on: &[u16; 32], r: Record, count: usize) -> 
 }
 
 // A check on its way: its answer so far, whether it goes on, and how many records it has gone over.
-#[derive(Drop)]
+#[derive(Clone, Copy)]
 pub struct Checking {
     pub end: TraceEnd,
     pub on: bool,

@@ -1,5 +1,6 @@
 // The run, as a job: what it answers, and the format's number for each refusal. The definitions of specs/ say which answer each input gets; a
 // crate of an engine proves its code equal to them.
+#![tactic(auto)]
 ghost use Rattle.std.specs.Prelude.{◌≡◌, ◌+◌, ◌*◌, length};
 ghost use Rattle.boundary.specs.State.{state_length};
 ghost use Rattle.run.specs.Numbers.{run_refusal_number, end_number};
@@ -9,13 +10,13 @@ use problem::{End, Masks};
 use sheet::SheetRefusal;
 
 // Why a run is refused.
-#[derive(Drop)]
+#[derive(Clone, Copy)]
 pub enum RunRefusal {
     Sheet(SheetRefusal),
     Buffer,
 }
 
-#[derive(Drop)]
+#[derive(Clone, Copy)]
 pub enum RunOutcome {
     Done {
         end: End,
@@ -26,7 +27,7 @@ pub enum RunOutcome {
 }
 
 // The run's answer. An enum holds no array, so the last state stands beside it; a refused run has the empty state there.
-#[derive(Drop)]
+#[derive(Clone, Copy)]
 pub struct RunAnswer {
     pub outcome: RunOutcome,
     pub state: Masks,

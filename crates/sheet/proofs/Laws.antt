@@ -3,7 +3,7 @@ use mathlib.Core.Path.{◌≡◌, refl, ap, ◌∙◌}
 use mathlib.Core.Bool.{Bool, true, false, not, ◌||◌, ◌&&◌}
 use mathlib.Core.List.{List}
 use Prim.Native.Nat.{ℕ, zero, suc, ◌+◌, ◌-◌, ◌*◌, ◌^◌, ◌≤◌, ◌<◌}
-use native.Mathlib.Nat.{add_zero, suc-mul, mul-le-mul, mul-le-mul_right}
+use native.Mathlib.Nat.{add-zero, suc-mul, mul-le-mul, mul-le-mul_right}
 use native.Mathlib.Omega.{arith}
 use lib.ListN.{length}
 use lib.Dec.{eqb, ltb, leb}
@@ -68,7 +68,7 @@ module _ (L : Layout) (s : List ℕ) where
       let g = neither (eqb (byte_at s p) 0) (ltb 16 (byte_at s p)) f.0 in
       let n : byte_at s p ≡ 0 → ⊥ = eqb-false (byte_at s p) 0 g.0 in
       let m = ltb-false 16 (byte_at s p) g.1 in
-      rw (add_zero p) (omega arith, m)
+      rw (add-zero p) (omega arith, m)
   good_sizes (suc k) p e (suc i) h =
       let f = neither (eqb (byte_at s p) 0 || ltb 16 (byte_at s p)) (bad_sizes L s k (p + 1)) e in
       let q : p + suc i ≡ p + 1 + i = omega arith in

@@ -1,4 +1,5 @@
 // The sheet's layout: its types, the numbers of its refusals, and its rows read at a place.
+#![tactic(auto)]
 ghost use Rattle.std.specs.Prelude.{◌≡◌, ◌+◌, ◌*◌, ◌<◌, ◌≤◌, length};
 ghost use Rattle.buffers.specs.Bytes.{number_at, Is};
 ghost use Rattle.sheet.specs.Sheet.{layout, sheet_number, variables_of, row_width, Front};
@@ -8,7 +9,7 @@ ghost use Rattle.sheet.specs.declared.Rows.TheVariants.{At};
 use buffers::{byte, word};
 
 // Why a sheet is turned away: one case for each row of the format's table.
-#[derive(Drop)]
+#[derive(Clone, Copy)]
 pub enum SheetRefusal {
     TooShort,
     Version,
@@ -24,21 +25,21 @@ pub enum SheetRefusal {
 }
 
 // What reading a sheet finds.
-#[derive(Drop)]
+#[derive(Clone, Copy)]
 pub enum SheetRead {
     Accepted { variables: usize, blocks: usize },
     Refused(SheetRefusal),
 }
 
 // What reading a block finds: the least place in the order for the next pair and where the next block starts, or the fault.
-#[derive(Drop)]
+#[derive(Clone, Copy)]
 pub enum Block {
     Next { least: usize, at: usize },
     Fault(SheetRefusal),
 }
 
 // Where the rows of a pair start, if it has a block.
-#[derive(Drop)]
+#[derive(Clone, Copy)]
 pub enum Rows {
     At(usize),
     Unconstrained,

@@ -2,7 +2,7 @@
 use mathlib.Core.Path.{◌≡◌, refl, sym, ap, ◌∙◌}
 use mathlib.Core.List.{List, [], ◌∷◌, ◌++◌, append_assoc, append-nil}
 use Prim.Native.Nat.{ℕ, suc, ◌+◌, ◌≤◌, ◌<◌}
-use native.Mathlib.Nat.{add_zero}
+use native.Mathlib.Nat.{add-zero}
 use native.Mathlib.Omega.{arith}
 use lib.ListN.{length, get_or, length-append}
 use lib.Seq.{get_or-append-add}
@@ -41,7 +41,7 @@ module _ (pre w : List ℕ) where
   after n = get_or-append-add pre w n 0
 
   first : byte_at (pre ++ w) (length pre) ≡ get_or w 0 0
-  first = ap (λ (k : ℕ). byte_at (pre ++ w) k) (sym (add_zero (length pre))) ∙ after 0
+  first = ap (λ (k : ℕ). byte_at (pre ++ w) k) (sym (add-zero (length pre))) ∙ after 0
 
   made : numbered_at (pre ++ w) (length pre) ≡ record_of (get_or w 1 0) (get_or w 2 0) (get_or w 3 0) (get_or w 4 0)
   made i = record_of (after 1 i) (after 2 i) (after 3 i) (after 4 i)

@@ -1,4 +1,5 @@
 // A trace's records: the reader that moves through them, what stands at a place, and one written at a place of a lent buffer.
+#![tactic(auto)]
 ghost use Rattle.std.specs.Prelude.{◌≡◌, ◌+◌, ◌<◌, ◌≤◌, length};
 ghost use Rattle.trace.specs.Trace.{record_bytes, numbered_at, record_at, Small};
 ghost use Rattle.buffers.specs.Written.{written};
@@ -8,7 +9,7 @@ use buffers::byte_at;
 use problem::{Numbered, Record, parts_of, record_of};
 
 // What stands at a place of a trace.
-#[derive(Drop)]
+#[derive(Clone, Copy)]
 pub enum RecordRead {
     Read { record: Record, next: usize },
     End,
@@ -73,7 +74,7 @@ fn place_after(s: &[u8], at: usize) -> usize
 
 // ---- the format's reader: it holds the lent bytes and its place, and is thin over `record_at` and `place_after`
 
-#[derive(Drop)]
+#[derive(Clone, Copy)]
 pub struct Reader<'a> {
     src: &'a [u8],
     at: usize,

@@ -1,4 +1,5 @@
 // Kind 3, fold: the triangle rule's test, what its failure rests on, and the choice that undoing makes.
+#![tactic(auto)]
 ghost use Rattle.std.specs.Prelude.{◌≡◌, true, ◌&&◌, ◌≢◌, ◌<◌};
 ghost use Rattle.bounded.specs.Mask.{bit, mask_of};
 ghost use Rattle.problem.specs.Problem.{triangle as triangle_holds, triangle_serves};
@@ -21,7 +22,7 @@ pub fn triangle_servers(t: &[u16], active: u32, on: &[u16; 32], i: usize, j: usi
 }
 
 // What trying a triangle comes to: the value of j for which nothing serves, or 16; and the variables that break every candidate for it.
-#[derive(Drop)]
+#[derive(Clone, Copy)]
 pub struct TriangleRests {
     pub by: usize,
     pub rests: u32,

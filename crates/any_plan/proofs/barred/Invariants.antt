@@ -1,0 +1,15 @@
+use mathlib.Core.Path.{◌≡◌, sym}
+use Prim.Native.Nat.{◌-◌, ◌≤◌}
+use native.Mathlib.Omega.{arith}
+use borrow.Author.Rules.{rules}
+use Rattle.bounded.specs.Quantifiers.{any_below}
+use Rattle.bounded.proofs.Loops.{any_none}
+use Rattle.any_plan.specs.Steps.{barred_at}
+use Rattle.any_plan.proofs.Laws.{any_step, any_last}
+use Rattle.any_plan.proofs.barred.Given as goal
+
+abbrev pub invariant-loop-j : goal.invariant-loop-j
+invariant-loop-j l = (l.j ≤ 32) × (l.some ≡ any_below l.j (barred_at l.lines l.on l.p))
+
+abbrev pub decreases-loop-j : goal.decreases-loop-j
+decreases-loop-j l = 32 - l.j

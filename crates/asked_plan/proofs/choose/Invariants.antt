@@ -1,0 +1,16 @@
+use mathlib.Core.Path.{◌≡◌, refl, ◌∙◌}
+use Prim.Native.Nat.{◌-◌, ◌≤◌}
+use native.Mathlib.Omega.{arith}
+use borrow.Author.Rules.{rules}
+use Rattle.problem.specs.Masks.{masks_of}
+use Rattle.held.proofs.Laws.{live_value}
+use Rattle.lines.specs.Lines.{line_start}
+use Rattle.any_plan.proofs.Laws.{MetTo, met_none, met_more}
+use Rattle.asked_plan.proofs.Choices.{chosen_all, choose_rest}
+use Rattle.asked_plan.proofs.choose.Given as goal
+
+abbrev pub invariant-loop-j : goal.invariant-loop-j
+invariant-loop-j l = (l.j ≤ 32) × (l.p ≡ line_start l.i l.v) × MetTo l.lines l.initial.on l.p l.j l.on
+
+abbrev pub decreases-loop-j : goal.decreases-loop-j
+decreases-loop-j l = 32 - l.j

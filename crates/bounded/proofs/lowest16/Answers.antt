@@ -1,0 +1,11 @@
+-- `bounded::lowest16`: the zeros below the lowest member. Assumes nothing.
+use lib.Count.{trailing_le}
+use Rattle.bounded.proofs.Mask.{zeros_lowest}
+use borrow.Author.Rules.{rules}
+use Rattle.bounded.proofs.lowest16.Goals as goal
+
+pub overflow_cast-result : goal.overflow_cast-result
+overflow_cast-result c = let h = trailing_le 16 c.args.x in search rules
+
+pub returns : goal.returns
+returns c = zeros_lowest 16 c.args.x

@@ -1,0 +1,14 @@
+use mathlib.Core.Path.{◌≡◌}
+use Prim.Native.Nat.{◌+◌, ◌-◌, ◌≤◌}
+use native.Mathlib.Omega.{arith}
+use borrow.Author.Rules.{rules}
+use Rattle.table.specs.Parts.{Wrote}
+use Rattle.table.proofs.Stores.{wrote_none, wrote_more}
+use Rattle.colour.specs.Parts.{entry_size}
+use Rattle.colour.proofs.fill_sizes.Given as goal
+
+abbrev pub invariant-loop-i : goal.invariant-loop-i
+invariant-loop-i l = (l.i ≤ 32) × Wrote l.i l.initial.t l.t 0 (entry_size l.n l.k)
+
+abbrev pub decreases-loop-i : goal.decreases-loop-i
+decreases-loop-i l = 32 - l.i

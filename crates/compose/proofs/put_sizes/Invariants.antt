@@ -1,0 +1,18 @@
+use mathlib.Core.Path.{◌≡◌, refl, sym, ap, ◌∙◌}
+use mathlib.Core.List.{List}
+use Prim.Native.Nat.{ℕ, ◌+◌, ◌-◌, ◌≤◌, ◌<◌}
+use native.Mathlib.Omega.{arith}
+use lib.ListN.{length, set, length-set}
+use Rattle.bounded.specs.Table.{tab}
+use Rattle.problem.specs.Held.{held}
+use Rattle.problem.proofs.HeldTable.{held_few, held_narrow}
+use Rattle.buffers.specs.Written.{written}
+use Rattle.buffers.proofs.Written.{tab_none, tab_next}
+use borrow.Author.Rules.{rules}
+use Rattle.compose.proofs.put_sizes.Given as goal
+
+abbrev pub invariant-loop-i : goal.invariant-loop-i
+invariant-loop-i l = (l.i ≤ l.n) × ((length l.out ≡ length l.initial.out) × (l.out ≡ written l.initial.out 8 (tab l.i (held l.t).size)))
+
+abbrev pub decreases-loop-i : goal.decreases-loop-i
+decreases-loop-i l = l.n - l.i

@@ -1,0 +1,20 @@
+use mathlib.Core.Path.{◌≡◌, sym, ap, ◌∙◌}
+use mathlib.Core.Bool.{cond}
+use mathlib.Core.Logic.{◌≢◌}
+use Prim.Native.Nat.{ℕ, ◌+◌, ◌-◌, ◌^◌, ◌≤◌}
+use native.Mathlib.Omega.{arith}
+use lib.Bits.{bit_and}
+use lib.Dec.{eqb}
+use lib.ListN.{get_or}
+use borrow.Author.Rules.{rules}
+use Rattle.bounded.specs.Mask.{mask_of}
+use Rattle.bounded.proofs.Mask.{mask_none, mask_or}
+use Rattle.problem.specs.Held.{rows_at}
+use Rattle.cover.proofs.Servers.{allowed_met}
+use Rattle.cover.proofs.allowed_with.Given as goal
+
+abbrev pub invariant-loop-u : goal.invariant-loop-u
+invariant-loop-u l = (l.u ≤ 16) × (l.word ≡ mask_of l.u (λ (l.u : ℕ). eqb (bit_and l.x (get_or l.t (rows_at l.i l.l + l.u) 0)) l.x))
+
+abbrev pub decreases-loop-u : goal.decreases-loop-u
+decreases-loop-u l = 16 - l.u

@@ -1,0 +1,13 @@
+-- `cover::first_break`: what breaks the cover is a neighbour. Assumes nothing.
+use mathlib.Core.Path.{◌∙◌}
+use Rattle.cover.proofs.Laws.{part_out, near_break}
+use Rattle.cover.proofs.first_break.Goals as goal
+
+pub neighbours-requires : goal.neighbours-requires
+neighbours-requires c = let p = c.requires in (p.0.table, p.1.variable)
+
+pub break_in-requires : goal.break_in-requires
+break_in-requires c = let p = c.requires in let a = c.args in (p.0, p.1, p.2, part_out a.rest _ a.i p.3, part_out a.rest _ a.j p.4)
+
+pub returns : goal.returns
+returns c = let p = c.requires in c.break_in.ensures ∙ near_break p.0 _ _ _ _ _ _ p.1 c.neighbours.ensures p.3

@@ -1,0 +1,17 @@
+-- `cover::serving`: at a variable that is no neighbour each value covers. Assumes nothing.
+use mathlib.Core.Path.{◌∙◌}
+use Rattle.cover.proofs.Laws.{part_out}
+use Rattle.cover.proofs.Servers.{near_servers, part_broken}
+use Rattle.cover.proofs.serving.Goals as goal
+
+pub neighbours-requires : goal.neighbours-requires
+neighbours-requires c = let p = c.requires in (p.0.table, p.5)
+
+pub serving_in-requires : goal.serving_in-requires
+serving_in-requires c = let p = c.requires in let a = c.args in (p.0, p.1, p.2, part_out a.rest _ a.i p.3, part_out a.rest _ a.j p.4, p.5)
+
+pub returns : goal.returns
+returns c =
+    let p = c.requires in
+    let found = c.serving_in.ensures in
+    (found.0 ∙ near_servers p.0 _ _ _ _ _ _ p.1 c.neighbours.ensures p.3, part_broken c.args.rest _ found.1)

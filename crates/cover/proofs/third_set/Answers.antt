@@ -1,0 +1,6 @@
+-- `cover::third_set`. Assumes nothing.
+use borrow.Author.Rules.{rules}
+use Rattle.cover.proofs.third_set.Goals as goal
+
+pub returns : goal.returns
+returns c = rw (c.without32-2.ensures, c.without32.ensures)

@@ -1,0 +1,20 @@
+-- `fields::put_three_end`: three fields and the line's end, one after the other.
+use borrow.Author.Rules.{rules}
+use native.Mathlib.Omega.{arith}
+use Prim.Native.Nat.{◌+◌, ◌≤◌}
+use lib.ListN.{length}
+use Rattle.fields.proofs.Laws.{after}
+use Rattle.fields.proofs.put_three_end.Goals as goal
+
+pub returns : goal.returns
+returns c =
+    let a = c.args in
+    let room : a.at + 19 ≤ length a.out.now = c.requires.1.1.1 in
+    let f = c.put_field-p in
+    let g = c.put_field-q in
+    let h = c.put_field-s in
+    let e = c.put_byte in
+    let room_f : f.result ≤ length a.out.now = omega (arith, room) in
+    let room_g : g.result ≤ length f.new.0 = omega (arith, room) in
+    let room_h : h.result ≤ length g.new.0 = omega (arith, room) in
+    (after _ _ _ _ _ _ _ _ f.ensures.0 (after _ _ _ _ _ _ _ _ g.ensures.0 (after _ _ _ _ _ _ _ _ h.ensures.0 e.ensures room_h) room_g) room_f, omega (arith, room))

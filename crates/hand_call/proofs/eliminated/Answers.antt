@@ -1,0 +1,6 @@
+-- `hand_call::eliminated`. Assumes nothing.
+use borrow.Author.Rules.{rules}
+use Rattle.hand_call.proofs.eliminated.Goals as goal
+
+pub returns : goal.returns
+returns c = cc

@@ -1,0 +1,30 @@
+-- `hand_call::hand_call_bytes`: the length of the buffer, then what the job answers; its number fits. Assumes nothing.
+use mathlib.Core.Path.{sym, ap, ◌∙◌}
+use native.Mathlib.Omega.{arith}
+use Rattle.hand.specs.Call.{HandCall}
+use Rattle.hand.proofs.Call.{call_small, hand_bad, hand_reads, hand_says}
+use borrow.Author.Rules.{rules}
+use Rattle.hand_call.proofs.hand_call_bytes.Goals as goal
+
+pub returns-then-state-ne-HAND_STATE_LENGTH : goal.returns-then-state-ne-HAND_STATE_LENGTH
+returns-then-state-ne-HAND_STATE_LENGTH c =
+    let a = c.args in
+    let e = sym (hand_bad a.sheet.now a.state.now a.item (λ l. omega arith)) in
+    (c.bad_hand_state.ensures ∙ ap (λ (y : HandCall). y.answer) e, ap (λ (y : HandCall). y.state) e)
+
+pub overflow_mul-result : goal.overflow_mul-result
+overflow_mul-result c = let l = call_small _ _ _ _ c.hand_call-called.ensures _ c.in-Eliminated.is in omega arith
+
+pub returns-in-Refused : goal.returns-in-Refused
+returns-in-Refused c =
+    let a = c.args in
+    let x = hand_reads a.sheet.now a.state.now a.item _ _ c.read_state-masks.ensures c.hand_call-called.ensures in
+    let e = hand_says a.sheet.now a.state.now a.item (omega arith) _ x _ c.in-Refused.is in
+    (c.hand_number.ensures ∙ ap (λ (y : HandCall). y.answer) e, ap (λ (y : HandCall). y.state) e)
+
+pub returns-in-Eliminated : goal.returns-in-Eliminated
+returns-in-Eliminated c =
+    let a = c.args in
+    let x = hand_reads a.sheet.now a.state.now a.item _ _ c.read_state-masks.ensures c.hand_call-called.ensures in
+    let e = hand_says a.sheet.now a.state.now a.item (omega arith) _ x _ c.in-Eliminated.is in
+    (ap (λ (y : HandCall). y.answer) e, c.put_state.ensures ∙ ap (λ (y : HandCall). y.state) e)

@@ -1,0 +1,10 @@
+-- `plan_report::put_found_line`: by whether there is a plan. Assumes nothing.
+use native.Mathlib.Omega.{arith}
+use borrow.Author.Rules.{rules}
+use Rattle.plan_report.proofs.put_found_line.Goals as goal
+
+pub returns-then-found : goal.returns-then-found
+returns-then-found c = let p = c.put_plan_line.ensures in (rw c.if-found.true p.0, omega arith)
+
+pub returns : goal.returns
+returns c = let p = c.put_bytes.ensures in (rw c.if-found.false p, omega arith)

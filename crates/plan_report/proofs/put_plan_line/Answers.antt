@@ -1,0 +1,17 @@
+-- `plan_report::put_plan_line`: the word, the settings and the line's end, one after the other. Assumes nothing.
+use Prim.Native.Nat.{◌≤◌}
+use native.Mathlib.Omega.{arith}
+use lib.ListN.{length}
+use Rattle.fields.proofs.Laws.{after}
+use borrow.Author.Rules.{rules}
+use Rattle.plan_report.proofs.put_plan_line.Goals as goal
+
+pub returns : goal.returns
+returns c =
+    let a = c.args in
+    let w = c.put_bytes-p in
+    let f = c.put_settings-q in
+    let e = c.put_byte in
+    let room_w : w.result ≤ length a.out.now = omega arith in
+    let room_f : f.result ≤ length w.new.0 = omega arith in
+    (after _ _ _ _ _ _ _ _ w.ensures (after _ _ _ _ _ _ _ _ f.ensures.0 e.ensures room_f) room_w, omega arith)

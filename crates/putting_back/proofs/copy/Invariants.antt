@@ -1,0 +1,16 @@
+use mathlib.Core.Path.{◌≡◌, refl, sym, ◌∙◌}
+use Prim.Native.Nat.{◌-◌, ◌≤◌}
+use lib.ListN.{length, length-set}
+use Rattle.bounded.specs.Table.{filled}
+use Rattle.bounded.proofs.Table.{filled_none, filled_more, filled_end}
+use Rattle.problem.specs.PutBack.{plan_of}
+use Rattle.undo.proofs.Undo.{tab_back}
+use borrow.Author.Rules.{rules}
+use native.Mathlib.Omega.{arith}
+use Rattle.putting_back.proofs.copy.Given as goal
+
+abbrev pub invariant-loop-i : goal.invariant-loop-i
+invariant-loop-i l = (l.i ≤ length l.plan) × (length l.out ≡ length l.initial.out) × (l.out ≡ filled l.i (plan_of l.plan) l.initial.out)
+
+abbrev pub decreases-loop-i : goal.decreases-loop-i
+decreases-loop-i l = length l.plan - l.i

@@ -1,0 +1,19 @@
+-- `read_graph::line_end`: the bytes passed are the line's. Assumes nothing.
+use Prim.Native.Nat.{◌-◌}
+use lib.ListN.{length}
+use Rattle.read_graph.specs.Parts.{Passing}
+use Rattle.read_graph.proofs.Laws.{line_turn, line_hit, line_last}
+use borrow.Author.Rules.{rules}
+use Rattle.read_graph.proofs.line_end.Goals as goal
+
+pub loop-k-init : goal.loop-k-init
+loop-k-init c = c.pass_eights-k.ensures
+
+pub returns-then-f-k-eq10 : goal.returns-then-f-k-eq10
+returns-then-f-k-eq10 c = line_hit _ _ _ c.loop-k.invariant c.loop-k-test.true c.if-f-k-eq10.true
+
+pub loop-k-preserved : goal.loop-k-preserved
+loop-k-preserved c = line_turn _ _ _ c.loop-k.invariant c.loop-k-test.true c.if-f-k-eq10.false
+
+pub returns : goal.returns
+returns c = line_last _ _ _ c.loop-k.invariant c.loop-k-test.false

@@ -1,0 +1,17 @@
+use mathlib.Core.Path.{◌≡◌, refl, sym, ap, ◌∙◌}
+use Prim.Native.Nat.{ℕ, ◌+◌, ◌≤◌, ◌<◌}
+use native.Mathlib.Omega.{arith}
+use lib.ListN.{length}
+use borrow.Author.Rules.{rules}
+use Rattle.buffers.specs.Bytes.{byte_at}
+use Rattle.sheet.specs.Sheet.{layout, variables_of, blocks_of, blocks_from}
+use Rattle.sheet.proofs.Laws.{in_order_lem, Whole, whole, blocks_fault, blocks_next}
+use Rattle.read_sheet.proofs.Stores.{clear_local}
+use Rattle.read_sheet.proofs.Pass.{Pass, pass_first, pass_more, pass_end, refused_block}
+use Rattle.read_sheet.proofs.blocks.Given as goal
+
+abbrev pub invariant-loop-left : goal.invariant-loop-left
+invariant-loop-left l = (blocks_from layout l.s (blocks_of l.s) 0 (8 + variables_of l.s) ≡ blocks_from layout l.s l.left l.least l.at) × (l.at ≤ length l.s) × Pass l.s l.t l.left l.least l.at
+
+abbrev pub decreases-loop-left : goal.decreases-loop-left
+decreases-loop-left l = l.left

@@ -1,0 +1,15 @@
+use mathlib.Core.Path.{◌≡◌, refl, sym, ap, ◌∙◌}
+use Prim.Native.Nat.{ℕ, ◌+◌, ◌≤◌}
+use native.Mathlib.Omega.{arith}
+use lib.ListN.{length}
+use borrow.Author.Rules.{rules}
+use Rattle.sheet.specs.Sheet.{layout, variables_of, blocks_of, blocks_from}
+use Rattle.sheet.proofs.Laws.{whole, blocks_fault, blocks_next}
+use Rattle.read_sheet.proofs.Stores.{clear_local}
+use Rattle.read_sheet.proofs.check.Given as goal
+
+abbrev pub invariant-loop-left : goal.invariant-loop-left
+invariant-loop-left l = (blocks_from layout l.s (blocks_of l.s) 0 (8 + variables_of l.s) ≡ blocks_from layout l.s l.left l.least l.at) × (l.at ≤ length l.s)
+
+abbrev pub decreases-loop-left : goal.decreases-loop-left
+decreases-loop-left l = l.left

@@ -1,0 +1,17 @@
+use mathlib.Core.Path.{◌≡◌, sym, ap, ◌∙◌}
+use mathlib.Core.Bool.{Bool, ◌||◌}
+use Prim.Native.Nat.{ℕ, ◌-◌, ◌≤◌}
+use native.Mathlib.Omega.{arith}
+use lib.Dec.{ltb}
+use lib.ListN.{get_or}
+use borrow.Author.Rules.{rules}
+use Rattle.bounded.specs.Quantifiers.{any_below}
+use Rattle.bounded.proofs.Loops.{any_none, any_next}
+use Rattle.read_sheet.specs.Reading.{some_beyond}
+use Rattle.read_sheet.proofs.some_beyond.Given as goal
+
+abbrev pub invariant-loop-a : goal.invariant-loop-a
+invariant-loop-a l = (l.a ≤ 16) × (l.found ≡ any_below l.a (λ (k : ℕ). ltb l.full (get_or l.x k 0)))
+
+abbrev pub decreases-loop-a : goal.decreases-loop-a
+decreases-loop-a l = 16 - l.a

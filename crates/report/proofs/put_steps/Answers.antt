@@ -1,0 +1,60 @@
+-- `report::put_steps`: the step lines, written one by one. Assumes nothing.
+use mathlib.Core.Path.{sym, ◌∙◌}
+use Prim.Native.Nat.{◌-◌}
+use native.Mathlib.Numerals.{unary_clauses}
+use native.Mathlib.Omega.{arith}
+use Rattle.report.proofs.Records.{read_small}
+use Rattle.fields.specs.Print.{step_lines}
+use Rattle.fields.proofs.Putting.{Putting, putting_start, kept_length, piece_room, putting_next, all_put}
+use Rattle.report.specs.Records.{records_in}
+use Rattle.report.proofs.Steps.{lines_left, one_line, all_lines, end_lines, malformed_lines}
+use borrow.Author.Rules.{rules}
+use Rattle.report.proofs.put_steps.Goals as goal
+
+pub loop-k-init : goal.loop-k-init
+loop-k-init c = simp unary_clauses (putting_start _ _ _ _ _ c.requires.1)
+
+pub put_step_line-end-requires : goal.put_step_line-end-requires
+put_step_line-end-requires c =
+    let w = c.loop-k in
+    let known = c.shared_slice_known-1 in
+    let e = sym c.record_at.ensures ∙ c.in-Read.is in
+    (omega arith, (piece_room _ _ _ _ _ _ _ _ _ w.invariant (omega arith), read_small _ (λ k. omega (arith, known.given k)) _ _ _ e))
+
+pub loop-k-preserved : goal.loop-k-preserved
+loop-k-preserved c =
+    let w = c.loop-k in
+    let e = sym c.record_at.ensures ∙ c.in-Read.is in
+    let p = c.put_step_line-end.ensures in
+    putting_next _ _ _ _ _ _ _ _ _ w.invariant (omega arith) _ _ (one_line _ _ _ _ (omega arith) _ _ e) _ _ p.0 p.1
+
+pub shape_of-out-in-End : goal.shape_of-out-in-End
+shape_of-out-in-End c = kept_length _ _ _ _ _ _ _ _ _ c.loop-k.invariant
+
+pub returns-in-End : goal.returns-in-End
+returns-in-End c =
+    let w = c.loop-k in
+    (all_put _ _ _ _ _ _ _ _ _ w.invariant (end_lines _ _ _ _ (sym c.record_at.ensures ∙ c.in-End.is)), omega arith)
+
+pub shape_of-out-in-Malformed : goal.shape_of-out-in-Malformed
+shape_of-out-in-Malformed c = kept_length _ _ _ _ _ _ _ _ _ c.loop-k.invariant
+
+pub returns-in-Malformed : goal.returns-in-Malformed
+returns-in-Malformed c =
+    let w = c.loop-k in
+    (all_put _ _ _ _ _ _ _ _ _ w.invariant (malformed_lines _ _ _ _ (sym c.record_at.ensures ∙ c.in-Malformed.is)), omega arith)
+
+pub shape_of-out : goal.shape_of-out
+shape_of-out c = kept_length _ _ _ _ _ _ _ _ _ c.loop-k.invariant
+
+pub returns : goal.returns
+returns c = let w = c.loop-k in (all_put _ _ _ _ _ _ _ _ _ w.invariant (all_lines _ _ _ _ (omega arith)), omega arith)
+
+pub overflow_add-k : goal.overflow_add-k
+overflow_add-k c = omega arith
+
+pub overflow_add-k-in-Read : goal.overflow_add-k-in-Read
+overflow_add-k-in-Read c = omega arith
+
+pub loop-k-smaller : goal.loop-k-smaller
+loop-k-smaller c = omega arith

@@ -1,0 +1,25 @@
+-- `snake_substitution::asks`: the words so far are gathered. Assumes nothing.
+use mathlib.Core.Bool.{cond}
+use Prim.Native.Nat.{◌≤◌, ◌-◌}
+use native.Mathlib.Omega.{arith}
+use lib.ListN.{get_or}
+use borrow.Author.Rules.{rules}
+use borrow.Author.Tests.{not-false, eqb-true}
+use Rattle.bounded.specs.Mask.{bit}
+use Rattle.snake_substitution.proofs.Words.{Gathered, gathered_none, gathered_more, closed_gathered}
+use Rattle.snake_substitution.proofs.asks.Goals as goal
+
+pub loop-b-init : goal.loop-b-init
+loop-b-init c = (omega arith, gathered_none _)
+
+pub overflow_add-b : goal.overflow_add-b
+overflow_add-b c = omega arith
+
+pub loop-b-smaller : goal.loop-b-smaller
+loop-b-smaller c = omega arith
+
+pub loop-b-preserved : goal.loop-b-preserved
+loop-b-preserved c = let w = c.loop-b in (omega arith, gathered_more _ c.where16-all.ensures w.invariant.1)
+
+pub returns : goal.returns
+returns c = let w = c.loop-b in closed_gathered _ _ w.b w.all (search rules) (omega arith) w.invariant.1 (eqb-true _ _ (not-false _ e))

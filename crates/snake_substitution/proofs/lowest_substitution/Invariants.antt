@@ -1,0 +1,16 @@
+use Prim.Native.Nat.{◌≤◌, ◌-◌}
+use mathlib.Core.Path.{◌≡◌, sym, ◌∙◌}
+use native.Mathlib.Omega.{arith}
+use lib.ListN.{get_or}
+use borrow.Author.Rules.{rules}
+use Rattle.problem.specs.Run.{first}
+use Rattle.problem.specs.declared.Next.TheVariants.{Nothing}
+use Rattle.snake_substitution.specs.Parts.{lowest_goal}
+use Rattle.problem.proofs.Search.{nothing_is, first_none, first_more, first_hit, first_end}
+use Rattle.snake_substitution.proofs.lowest_substitution.Given as goal
+
+abbrev pub invariant-loop-b : goal.invariant-loop-b
+invariant-loop-b l = (l.b ≤ 16) × (first l.b (λ l.b. lowest_goal l.i l.b (get_or l.goals l.b 0)) ≡ Nothing)
+
+abbrev pub decreases-loop-b : goal.decreases-loop-b
+decreases-loop-b l = 16 - l.b

@@ -1,0 +1,14 @@
+use mathlib.Core.Path.{refl}
+use Prim.Native.Nat.{◌≤◌, ◌-◌}
+use native.Mathlib.Omega.{arith}
+use lib.ListN.{get_or}
+use borrow.Author.Rules.{rules}
+use borrow.Author.Tests.{not-false, eqb-true}
+use Rattle.snake_substitution.proofs.Words.{Gathered, gathered_none, gathered_more, none_gathered}
+use Rattle.snake_substitution.proofs.some_goal.Given as goal
+
+abbrev pub invariant-loop-b : goal.invariant-loop-b
+invariant-loop-b l = (l.b ≤ 16) × Gathered (λ l.b. get_or l.goals l.b 0) l.b l.all
+
+abbrev pub decreases-loop-b : goal.decreases-loop-b
+decreases-loop-b l = 16 - l.b

@@ -1,0 +1,11 @@
+-- `start::domain_left`. Assumes nothing.
+use mathlib.Core.Path.{sym, ◌∙◌}
+use Rattle.start.proofs.Sweeps.{emptied_left}
+use borrow.Author.Rules.{rules}
+use Rattle.start.proofs.domain_left.Goals as goal
+
+pub supported-requires : goal.supported-requires
+supported-requires c = let p = c.requires in (p.0, p.2, sym p.1 ∙ c.if-lasts.true)
+
+pub returns-else-lasts : goal.returns-else-lasts
+returns-else-lasts c = let p = c.requires in emptied_left _ _ p.0.fits (sym p.1 ∙ c.if-lasts.false) _

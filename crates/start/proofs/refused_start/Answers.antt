@@ -1,0 +1,12 @@
+-- `start::refused_start`. Assumes nothing.
+use mathlib.Core.Path.{ap}
+use Rattle.problem.specs.declared.Masks.{Masks}
+use Rattle.hand.specs.declared.StartAnswer.{StartAnswer}
+use Rattle.hand.specs.declared.StartOutcome.TheVariants.{Refused}
+use borrow.Author.Rules.{rules}
+use Rattle.start.proofs.refused_start.Goals as goal
+
+pub returns : goal.returns
+returns c =
+    let a : Masks → StartAnswer = λ m. record { outcome = Refused c.args.r; state = record { masks = m } } in
+    ap a c.empty_masks-masks.ensures

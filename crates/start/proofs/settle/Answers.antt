@@ -1,0 +1,32 @@
+-- `start::settle`: the state in hand has all of the start on, and a sweep that changes no domain has come to it. Assumes nothing.
+use mathlib.Core.Path.{◌≡◌, sym, ◌∙◌, subst}
+use borrow.Author.Tests.{not-true, not-false}
+use borrow.Author.Rules.{rules}
+use Rattle.problem.specs.Problem.{live_count, max_variables}
+use Rattle.problem.specs.Held.{held}
+use Rattle.problem.specs.Masks.{state_of, masks_of}
+use Rattle.start.specs.Parts.{prune_below}
+use Rattle.start.proofs.Sweeps.{Above, above_full, above_next, above_end, above_less}
+use Rattle.start.proofs.settle.Goals as goal
+use Rattle.start.proofs.settle.Goals.{After-full_masks-kept}
+
+first : (c : After-full_masks-kept) → Above c.args.t.now c.full_masks-kept.result
+first c = subst (Above _) (sym c.full_masks-kept.ensures) (above_full c.requires)
+
+pub sweep-next-requires : goal.sweep-next-requires
+sweep-next-requires c = (first (goal.at.sweep-next-requires c).After-full_masks-kept).ready
+
+pub loop-kept-init : goal.loop-kept-init
+loop-kept-init c = (first (goal.at.loop-kept-init c).After-full_masks-kept, c.sweep-next.ensures)
+
+pub sweep-next-requires-in-loop-kept : goal.sweep-next-requires-in-loop-kept
+sweep-next-requires-in-loop-kept c = let w = c.loop-kept in (above_next w.invariant.0 _ w.invariant.1).ready
+
+pub loop-kept-smaller : goal.loop-kept-smaller
+loop-kept-smaller c = let w = c.loop-kept in above_less w.invariant.0 _ w.invariant.1 (sym c.same_domains.ensures ∙ not-true _ c.loop-kept-test.true)
+
+pub loop-kept-preserved : goal.loop-kept-preserved
+loop-kept-preserved c = let w = c.loop-kept in (above_next w.invariant.0 _ w.invariant.1, c.sweep-next-in-loop-kept.ensures)
+
+pub returns : goal.returns
+returns c = let w = c.loop-kept in above_end w.invariant.0 _ w.invariant.1 (sym c.same_domains.ensures ∙ not-false _ c.loop-kept-test.false)

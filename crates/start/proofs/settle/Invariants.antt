@@ -1,0 +1,15 @@
+use mathlib.Core.Path.{◌≡◌, sym, ◌∙◌, subst}
+use borrow.Author.Tests.{not-true, not-false}
+use borrow.Author.Rules.{rules}
+use Rattle.problem.specs.Problem.{live_count, max_variables}
+use Rattle.problem.specs.Held.{held}
+use Rattle.problem.specs.Masks.{state_of, masks_of}
+use Rattle.start.specs.Parts.{prune_below}
+use Rattle.start.proofs.Sweeps.{Above, above_full, above_next, above_end, above_less}
+use Rattle.start.proofs.settle.Given as goal
+
+abbrev pub invariant-loop-kept : goal.invariant-loop-kept
+invariant-loop-kept l = Above l.t l.kept × (l.next ≡ masks_of (prune_below max_variables (held l.t) (state_of l.kept)))
+
+abbrev pub decreases-loop-kept : goal.decreases-loop-kept
+decreases-loop-kept l = live_count (held l.t) (state_of l.kept)

@@ -1,0 +1,12 @@
+-- `start::start_over`. Assumes nothing.
+use mathlib.Core.Path.{ap}
+use Rattle.problem.specs.declared.Masks.{Masks}
+use Rattle.hand.specs.declared.StartAnswer.{StartAnswer}
+use Rattle.hand.specs.declared.StartOutcome.TheVariants.{Started}
+use borrow.Author.Rules.{rules}
+use Rattle.start.proofs.start_over.Goals as goal
+
+pub returns : goal.returns
+returns c =
+    let a : Masks → StartAnswer = λ m. record { outcome = Started; state = record { masks = m } } in
+    ap a c.settle-masks.ensures

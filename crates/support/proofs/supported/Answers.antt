@@ -1,0 +1,68 @@
+-- `support::supported`: the values so far have a support at each variable passed. Assumes nothing.
+use mathlib.Core.Path.{◌≡◌, sym, subst}
+use mathlib.Core.Logic.{◌≢◌}
+use Prim.Native.Nat.{ℕ, ◌<◌}
+use lib.Bits.{bit_and}
+use lib.Dec.{T}
+use borrow.Author.Rules.{rules}
+use Rattle.bounded.specs.Quantifiers.{lowest}
+use Rattle.bounded.specs.Mask.{bit, without}
+use Rattle.bounded.proofs.Mask.{bit_without32}
+use Rattle.bounded.proofs.Members.{Left, left_all, left_next, left_lowest, left_other}
+use Rattle.problem.specs.Masks.{state_of, sets}
+use Rattle.held.proofs.Laws.{domain_values}
+use Rattle.support.proofs.Laws.{Kept, kept_active, kept_first, kept_next, kept_end}
+use Rattle.support.proofs.supported.Goals as goal
+use Rattle.support.proofs.supported.Goals.{After-lowest32-k}
+
+-- the variable of a turn
+turn : {x k rest : ℕ} (active near i : ℕ) → i < 32 → rest ≢ 0 → k ≡ lowest 32 (bit rest) → x ≡ without 32 (bit_and active near) i → Left 32 x rest → (k < 32) × T (bit active k) × (k ≢ i) × (without 32 rest k < rest)
+turn {x} {k} {rest} active near i p d e w L =
+    let l = left_lowest 32 bit_without32 L d e in
+    (l.0, kept_active k active near i (subst (λ (y : ℕ). Left 32 y rest) w L) l.1, left_other 32 bit_without32 (bit_and active near) i L w p l.0 l.1, l.2)
+
+-- at the call of `partners`
+module _ (c : After-lowest32-k) where
+  at_turn : let a = c.args in
+      (c.lowest32-k.result < 32) × T (bit a.active c.lowest32-k.result) × (c.lowest32-k.result ≢ a.i) × (without 32 c.loop-rest.rest c.lowest32-k.result < c.loop-rest.rest)
+  at_turn =
+      let a = c.args in
+      turn a.active c.neighbours.result a.i c.requires.1
+      c.loop-rest-test.true c.lowest32-k.ensures c.without32-rest.ensures c.loop-rest.invariant.0
+
+pub loop-rest-init : goal.loop-rest-init
+loop-rest-init c =
+    let p = c.requires in
+    (left_all 32 _ (search rules), rw c.without32-rest.ensures (kept_first p.0 _ p.1 p.2 _ c.neighbours.ensures))
+
+pub offset_bounds-on-k : goal.offset_bounds-on-k
+offset_bounds-on-k c = let l = (at_turn c).0 in search rules
+
+pub bounds-on-k : goal.bounds-on-k
+bounds-on-k c = let l = (at_turn c).0 in search rules
+
+pub partners-x-requires : goal.partners-x-requires
+partners-x-requires c =
+    let p = c.requires in
+    let l = at_turn c in
+    (p.0.table, c.loop-rest.invariant.1.values, domain_values p.0 _ l.0, l.0, p.1, λ e. l.2 (sym e))
+
+pub without32-rest-requires-in-loop-rest : goal.without32-rest-requires-in-loop-rest
+without32-rest-requires-in-loop-rest c = (at_turn c).0
+
+pub loop-rest-smaller : goal.loop-rest-smaller
+loop-rest-smaller c = rw c.without32-rest-in-loop-rest.ensures (at_turn c).3
+
+pub loop-rest-preserved : goal.loop-rest-preserved
+unfolding state_of
+loop-rest-preserved c =
+    let p = c.requires in
+    let w = c.loop-rest in
+    let l = at_turn c in
+    (rw c.without32-rest-in-loop-rest.ensures (left_next _ w.invariant.0), rw (c.without32-rest-in-loop-rest.ensures, c.partners-x.ensures) (kept_next p.0 _ w.rest w.x _ l.0 l.1 l.2 w.invariant.1))
+
+pub neighbours-requires : goal.neighbours-requires
+neighbours-requires c = let p = c.requires in (p.0.table, p.1)
+
+pub returns : goal.returns
+returns c = kept_end c.requires.0 _ c.loop-rest.rest c.loop-rest.x c.loop-rest-test.false c.loop-rest.invariant.1

@@ -1,0 +1,15 @@
+use mathlib.Core.Path.{◌≡◌}
+use Prim.Native.Nat.{ℕ, ◌≤◌, ◌-◌}
+use native.Mathlib.Omega.{arith}
+use lib.ListN.{get_or}
+use borrow.Author.Rules.{rules}
+use Rattle.bounded.specs.Mask.{bit, mask_of}
+use Rattle.bounded.proofs.Mask.{mask_none, mask_or}
+use Rattle.table.specs.Parts.{transposed_row}
+use Rattle.table.proofs.column.Given as goal
+
+abbrev pub invariant-loop-a : goal.invariant-loop-a
+invariant-loop-a l = (l.a ≤ 16) × (l.word ≡ mask_of l.a (λ (k : ℕ). bit (get_or l.rows k 0) l.b))
+
+abbrev pub decreases-loop-a : goal.decreases-loop-a
+decreases-loop-a l = 16 - l.a

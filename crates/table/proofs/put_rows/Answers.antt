@@ -1,0 +1,33 @@
+-- `table::put_rows`: the entries so far are stored. Assumes nothing.
+use mathlib.Core.Path.{◌≡◌, refl}
+use Prim.Native.Nat.{ℕ, ◌+◌, ◌-◌, ◌≤◌, ◌<◌}
+use native.Mathlib.Omega.{arith}
+use lib.ListN.{length, get_or}
+use borrow.Author.Rules.{rules}
+use Rattle.table.specs.Parts.{Wrote}
+use Rattle.table.proofs.Stores.{wrote_none, wrote_more}
+use Rattle.table.proofs.put_rows.Goals as goal
+
+-- the place is within the table
+inside : (c : tie.Start invariant_loop decreases_loop) (n a : ℕ) → n ≡ length c.args.t.now → a < 16 → c.args.at + a < n
+inside c n a e l = let p = c.requires in omega arith
+
+pub bounds-t-at : goal.bounds-t-at
+bounds-t-at c =
+    let l = c.loop-a in
+    inside c _ _ l.invariant.1.long c.loop-a-test.true
+
+pub loop-a-init : goal.loop-a-init
+loop-a-init c = (omega arith, wrote_none _ _ _)
+
+pub loop-a-smaller : goal.loop-a-smaller
+loop-a-smaller c = omega arith
+
+pub loop-a-preserved : goal.loop-a-preserved
+loop-a-preserved c = let l = c.loop-a in (omega arith, wrote_more _ _ _ _ _ _ (inside c _ _ refl c.loop-a-test.true) refl l.invariant.1)
+
+pub shape_of-t : goal.shape_of-t
+shape_of-t c = c.loop-a.invariant.1.long
+
+pub returns : goal.returns
+returns c = let l = c.loop-a in let e : l.a ≡ 16 = omega arith in rw e at l.invariant.1

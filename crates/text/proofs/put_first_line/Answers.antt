@@ -1,0 +1,19 @@
+-- `text::put_first_line`: the word, the two fields and the line's end, one after the other.
+use native.Mathlib.Omega.{arith}
+use Prim.Native.Nat.{◌≤◌}
+use lib.ListN.{length}
+use Rattle.fields.proofs.Laws.{after}
+use borrow.Author.Rules.{rules}
+use Rattle.text.proofs.put_first_line.Goals as goal
+
+pub returns : goal.returns
+returns c =
+    let a = c.args in
+    let w = c.put_bytes-p in
+    let f = c.put_field-q in
+    let g = c.put_field-s in
+    let e = c.put_byte in
+    let room_w : w.result ≤ length a.out.now = omega arith in
+    let room_f : f.result ≤ length w.new.0 = omega arith in
+    let room_g : g.result ≤ length f.new.0 = omega arith in
+    ((after _ _ _ _ _ _ _ _ w.ensures (after _ _ _ _ _ _ _ _ f.ensures.0 (after _ _ _ _ _ _ _ _ g.ensures.0 e.ensures room_g) room_f) room_w), omega arith)

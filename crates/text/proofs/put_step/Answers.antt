@@ -1,0 +1,15 @@
+-- `text::put_step`: the word, and the fields after it.
+use borrow.Author.Rules.{rules}
+use native.Mathlib.Omega.{arith}
+use Prim.Native.Nat.{◌≤◌}
+use lib.ListN.{length}
+use Rattle.fields.proofs.Laws.{after}
+use Rattle.text.proofs.put_step.Goals as goal
+
+pub returns : goal.returns
+returns c =
+    let a = c.args in
+    let w = c.put_step_word-p in
+    let f = c.put_step_fields in
+    let room_w : w.result ≤ length a.out.now = omega arith in
+    (after _ _ _ _ _ _ _ _ w.ensures.0 f.ensures.0 room_w, omega arith)

@@ -1,0 +1,13 @@
+-- `unsupported::unsupported_at`: no common member of two words. Assumes nothing.
+use Rattle.held.proofs.Laws.{domain_values}
+use Rattle.unsupported.proofs.Laws.{unsupported_word}
+use borrow.Author.Rules.{rules}
+use Rattle.unsupported.proofs.unsupported_at.Goals as goal
+
+pub row_among-requires : goal.row_among-requires
+row_among-requires c = let p = c.requires in (p.0.table, domain_values p.0 _ p.2, p.1, p.2, p.3)
+
+pub returns : goal.returns
+returns c =
+    let p = c.requires in
+    rw c.row_among.ensures (unsupported_word p.0 _ _ _ p.2)

@@ -1,0 +1,18 @@
+-- `waiting::wake`: the rows passed are woken. Assumes nothing.
+use Prim.Native.Nat.{◌≤◌, ◌-◌}
+use native.Mathlib.Omega.{arith}
+use borrow.Author.Rules.{rules}
+use Rattle.waiting.specs.Waiting.{rows}
+use Rattle.waiting.proofs.Words.{Waking, waking_none, waking_more, waking_end}
+use Rattle.waiting.proofs.wake.Goals as goal
+
+pub loop-row-init : goal.loop-row-init
+loop-row-init c = (omega arith, waking_none _ _ _ c.requires.1 c.requires.2)
+
+pub loop-row-preserved : goal.loop-row-preserved
+loop-row-preserved c =
+    let w = c.loop-row in
+    (omega arith, waking_more w.invariant.1 (omega arith) c.requires.0)
+
+pub returns : goal.returns
+returns c = let w = c.loop-row in waking_end w.invariant.1 (omega arith)

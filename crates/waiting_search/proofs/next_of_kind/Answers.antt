@@ -1,0 +1,39 @@
+-- `waiting_search::next_of_kind`: a loop over the variables. Assumes nothing.
+use mathlib.Core.Path.{◌≡◌, sym, ◌∙◌}
+use Prim.Native.Nat.{◌≤◌, ◌-◌}
+use native.Mathlib.Omega.{arith}
+use borrow.Author.Rules.{rules}
+use Rattle.problem.specs.Run.{first}
+use Rattle.problem.specs.Held.{held}
+use Rattle.problem.specs.Masks.{state_of, sets}
+use Rattle.problem.specs.declared.Next.TheVariants.{Nothing}
+use Rattle.problem.proofs.Search.{nothing_is, first_none, first_more, first_hit, first_end}
+use Rattle.waiting.specs.Waiting.{Waits}
+use Rattle.search_order.specs.Lowest.{step_from}
+use Rattle.search_order.proofs.Lowest.{lowest_from}
+use Rattle.waiting_search.proofs.next_of_kind.Goals as goal
+
+pub loop-i-init : goal.loop-i-init
+loop-i-init c = (search rules, first_none _, c.requires.2)
+
+pub step_from-found-requires : goal.step_from-found-requires
+step_from-found-requires c = let p = c.requires in (p.0, p.1, c.loop-i.invariant.2, p.3, omega arith)
+
+pub returns-then-is_step : goal.returns-then-is_step
+returns-then-is_step c =
+    let found = c.step_from-found.ensures in
+    (sym (sym (lowest_from c.requires.0 _) ∙ first_hit _ 32 _ _ (omega arith) c.loop-i.invariant.1 (sym found.0) (sym c.is_step.ensures ∙ c.if-is_step.true)), found.1)
+
+pub loop-i-preserved : goal.loop-i-preserved
+loop-i-preserved c =
+    let found = c.step_from-found.ensures in
+    (omega arith, first_more _ _ c.loop-i.invariant.1 (sym found.0 ∙ nothing_is _ (sym c.is_step.ensures ∙ c.if-is_step.false)), found.1)
+
+pub returns : goal.returns
+returns c = let w = c.loop-i.invariant in (sym (sym (lowest_from c.requires.0 _) ∙ first_end _ 32 _ (omega arith) w.1), w.2)
+
+pub overflow_add-i : goal.overflow_add-i
+overflow_add-i c = omega arith
+
+pub loop-i-smaller : goal.loop-i-smaller
+loop-i-smaller c = omega arith

@@ -1,0 +1,19 @@
+use mathlib.Core.Path.{◌≡◌, sym, ◌∙◌}
+use Prim.Native.Nat.{◌≤◌, ◌-◌}
+use native.Mathlib.Omega.{arith}
+use borrow.Author.Rules.{rules}
+use Rattle.problem.specs.Run.{first}
+use Rattle.problem.specs.Held.{held}
+use Rattle.problem.specs.Masks.{state_of, sets}
+use Rattle.problem.specs.declared.Next.TheVariants.{Nothing}
+use Rattle.problem.proofs.Search.{nothing_is, first_none, first_more, first_hit, first_end}
+use Rattle.waiting.specs.Waiting.{Waits}
+use Rattle.search_order.specs.Lowest.{step_from}
+use Rattle.search_order.proofs.Lowest.{lowest_from}
+use Rattle.waiting_search.proofs.next_of_kind.Given as goal
+
+abbrev pub invariant-loop-i : goal.invariant-loop-i
+invariant-loop-i l =     (l.i ≤ 32) × (first l.i (step_from (held l.t) (state_of (sets l.active l.on)) l.kind) ≡ Nothing) × Waits (held l.t) (state_of (sets l.active l.on)) l.pending l.waiting
+
+abbrev pub decreases-loop-i : goal.decreases-loop-i
+decreases-loop-i l = 32 - l.i

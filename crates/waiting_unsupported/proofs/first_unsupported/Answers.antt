@@ -1,0 +1,25 @@
+-- `waiting_unsupported::first_unsupported`: a loop that fills the words. Assumes nothing.
+use Prim.Native.Nat.{◌≤◌, ◌-◌}
+use native.Mathlib.Omega.{arith}
+use borrow.Author.Rules.{rules}
+use Rattle.problem.specs.Held.{held}
+use Rattle.problem.specs.Masks.{state_of, sets}
+use Rattle.waiting_unsupported.proofs.Words.{Filling, filling_none, filling_more, filling_end}
+use Rattle.waiting_unsupported.proofs.first_unsupported.Goals as goal
+
+pub loop-i-preserved : goal.loop-i-preserved
+loop-i-preserved c =
+    let w = c.loop-i in
+    (omega arith, filling_more w.i _ (omega arith) c.unsupported_of.ensures w.invariant.1)
+
+pub loop-i-init : goal.loop-i-init
+loop-i-init c = (search rules, filling_none c.requires.2)
+
+pub offset_bounds-words-i : goal.offset_bounds-words-i
+offset_bounds-words-i c = let long = c.loop-i.invariant.1.long in search rules
+
+pub bounds-words-i : goal.bounds-words-i
+bounds-words-i c = let long = c.loop-i.invariant.1.long in search rules
+
+pub returns : goal.returns
+returns c = filling_end c.requires.0 (omega arith) c.loop-i.invariant.1

@@ -1,0 +1,60 @@
+-- `waiting_unsupported::unsupported_value`: a loop over the last field, for a value that is in its domain. Assumes nothing.
+use Prim.Native.Nat.{◌≤◌, ◌-◌}
+use mathlib.Core.Path.{◌≡◌, refl, sym, ◌∙◌}
+use native.Mathlib.Omega.{arith}
+use borrow.Author.Rules.{rules}
+use borrow.Author.Tests.{not-true}
+use Rattle.problem.specs.Problem.{unsupported}
+use Rattle.problem.specs.Run.{step_if, first}
+use Rattle.problem.specs.Held.{held}
+use Rattle.problem.specs.Masks.{state_of, sets}
+use Rattle.problem.specs.declared.Next.TheVariants.{Nothing}
+use Rattle.problem.specs.declared.Record.TheVariants.{Unsupported}
+use Rattle.search_order.specs.Lowest.{step_at}
+use Rattle.problem.proofs.Search.{step_if_on, step_if_off, first_none, first_more, first_hit, first_end}
+use Rattle.waiting_unsupported.proofs.Search.{value_off}
+use Rattle.waiting_unsupported.proofs.unsupported_value.Goals as goal
+
+pub offset_bounds-on-i : goal.offset_bounds-on-i
+unfolding step_at
+offset_bounds-on-i c = search rules
+
+pub bounds-on-i : goal.bounds-on-i
+unfolding step_at
+bounds-on-i c = search rules
+
+pub has16-requires : goal.has16-requires
+unfolding step_at
+has16-requires c = search rules
+
+pub returns-then-not-has16 : goal.returns-then-not-has16
+unfolding step_at
+returns-then-not-has16 c = sym (value_off c.requires.0 _ _ (sym c.has16.ensures ∙ not-true _ c.if-not-has16.true))
+
+pub loop-k-init : goal.loop-k-init
+unfolding step_at
+loop-k-init c = (search rules, first_none _)
+
+pub unsupported-requires : goal.unsupported-requires
+unfolding step_at
+unsupported-requires c = search rules
+
+pub returns-then-unsupported : goal.returns-then-unsupported
+unfolding step_at
+returns-then-unsupported c = sym (first_hit _ 32 _ _ (omega arith) c.loop-k.invariant.1 (step_if_on _ _ (sym c.unsupported.ensures ∙ c.if-unsupported.true)) refl)
+
+pub overflow_add-k : goal.overflow_add-k
+unfolding step_at
+overflow_add-k c = omega arith
+
+pub loop-k-smaller : goal.loop-k-smaller
+unfolding step_at
+loop-k-smaller c = omega arith
+
+pub loop-k-preserved : goal.loop-k-preserved
+unfolding step_at
+loop-k-preserved c = (omega arith, first_more _ _ c.loop-k.invariant.1 (step_if_off _ _ (sym c.unsupported.ensures ∙ c.if-unsupported.false)))
+
+pub returns : goal.returns
+unfolding step_at
+returns c = sym (first_end _ 32 _ (omega arith) c.loop-k.invariant.1)

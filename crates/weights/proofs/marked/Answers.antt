@@ -1,0 +1,12 @@
+-- `weights::marked`. Assumes nothing.
+use Rattle.std.proofs.Common.{◌-◌, ◌≤◌, arith, rules}
+use Rattle.weights.proofs.marked.Goals as goal
+
+pub loop-j-init : goal.loop-j-init
+loop-j-init c = omega arith
+
+pub loop-j-smaller : goal.loop-j-smaller
+loop-j-smaller c = omega arith
+
+pub loop-j-preserved : goal.loop-j-preserved
+loop-j-preserved c = omega arith
