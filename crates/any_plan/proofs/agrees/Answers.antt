@@ -9,11 +9,11 @@ use Rattle.any_plan.proofs.agrees.Goals as goal
 pub returns-then-not-agrees_at : goal.returns-then-not-agrees_at
 returns-then-not-agrees_at c =
     let p = c.requires in
-    let x = c.agrees_at.ensures.no (not-true _ c.if-not-agrees_at.true) in
+    let x = c.agrees_at.ensures.no (c.if-not-agrees_at.true) in
     disagreed p.0.sets p.1 _ x.0 x.1.0 x.1.1 x.1.2
 
 pub loop-k-preserved : goal.loop-k-preserved
-loop-k-preserved c = (omega (arith, c.loop-k-test.true), agree_more c.loop-k.invariant.1 (c.agrees_at.ensures.yes (not-false _ c.if-not-agrees_at.false)))
+loop-k-preserved c = (omega (arith, c.loop-k-test.true), agree_more c.loop-k.invariant.1 (c.agrees_at.ensures.yes (c.if-not-agrees_at.false)))
 
 pub returns : goal.returns
 returns c = agreed c.requires.0.sets (agree_end c.loop-k-test.false c.loop-k.invariant.1)

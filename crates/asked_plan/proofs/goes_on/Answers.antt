@@ -24,7 +24,7 @@ ask-requires c =
 pub returns-then-not-ask : goal.returns-then-not-ask
 returns-then-not-ask c =
     let p = c.requires in
-    none_goes_on p.0 _ _ p.1 p.2 p.4 c.ask.ensures (not-true _ c.if-not-ask.true)
+    none_goes_on p.0 _ _ p.1 p.2 p.4 c.ask.ensures (c.if-not-ask.true)
 
 pub overflow_cast-known : goal.overflow_cast-known
 overflow_cast-known c = let l = live_value c.requires.0 _ _ c.requires.1 in search rules
@@ -41,4 +41,4 @@ bounds-known-i-2 c = let l = live_value c.requires.0 _ _ c.requires.1 in search 
 pub returns : goal.returns
 returns c =
     let p = c.requires in
-    rw (one_shifted 16 _ (live_value p.0 _ _ p.1).value) (found_goes_on p.0 _ _ p.1 p.2 c.ask.ensures (not-false _ c.if-not-ask.false))
+    rw (one_shifted 16 _ (live_value p.0 _ _ p.1).value) (found_goes_on p.0 _ _ p.1 p.2 c.ask.ensures (c.if-not-ask.false))

@@ -18,7 +18,7 @@ pub loop-u-preserved : goal.loop-u-preserved
 loop-u-preserved c =
     let a = c.args in
     let w = c.loop-u in
-    let e = c.lane-word.ensures ∙ ap (λ (k : ℕ). cond (eqb (bit_and a.x (get_or a.t.now (k + w.u) 0)) a.x) (2 ^ w.u) 0) c.rows_at-at.ensures.0 in
+    let e = c.lane-word.ensures ∙ ap (λ (k : ℕ). cond (eqb (bit_and a.x (get_or a.t.now (k + w.u) 0)) a.x) (2 ^ w.u) 0) c.rows_at-at.ensures.is in
     (omega arith, mask_or (λ u. eqb (bit_and a.x (get_or a.t.now (rows_at a.i a.l + u) 0)) a.x) w.word w.u _ w.invariant.1 e)
 
 pub returns : goal.returns

@@ -14,7 +14,7 @@ use Rattle.cover.proofs.Servers.{allowed_met}
 use Rattle.cover.proofs.allowed_with.Given as goal
 
 abbrev pub invariant-loop-u : goal.invariant-loop-u
-invariant-loop-u l = (l.u ≤ 16) × (l.word ≡ mask_of l.u (λ (l.u : ℕ). eqb (bit_and l.x (get_or l.t (rows_at l.i l.l + l.u) 0)) l.x))
+invariant-loop-u l = (l.u ≤ 16) × (l.word ≡ mask_of l.u (λ (k : ℕ). eqb (bit_and l.x (get_or l.t (rows_at l.i l.l + k) 0)) l.x))
 
 abbrev pub decreases-loop-u : goal.decreases-loop-u
 decreases-loop-u l = 16 - l.u

@@ -45,7 +45,7 @@ returns-then-not-unspoilt c =
     let least = c.lowest32-l.ensures in
     let m = member w.invariant c.loop-left-test.true least in
     c.break_at.ensures ∙ ap (break_at _) e
-    ∙ sym (at_lowest_is _ _ _ 32 _ m.0 (T_of (ap asked (sym e) ∙ ap not (sym c.unspoilt.ensures) ∙ c.if-not-unspoilt.true)) (sought_least w.invariant least))
+    ∙ sym (at_lowest_is _ _ _ 32 _ m.0 (T_of (ap asked (sym e) ∙ ap not (sym c.unspoilt.ensures) ∙ ap not c.if-not-unspoilt.true)) (sought_least w.invariant least))
 
 pub without32-left-requires : goal.without32-left-requires
 without32-left-requires c = (member c.loop-left.invariant c.loop-left-test.true c.lowest32-l.ensures).0
@@ -60,7 +60,7 @@ loop-left-preserved c =
     let w = c.loop-left in
     let m = member w.invariant c.loop-left-test.true c.lowest32-l.ensures in
     rw c.without32-left.ensures
-    (sought_next 32 bit_without32 w.invariant m.0 (ap asked (sym (found (goal.at.loop-left-preserved c).After-spoiler-found)) ∙ ap not (sym c.unspoilt.ensures) ∙ c.if-not-unspoilt.false))
+    (sought_next 32 bit_without32 w.invariant m.0 (ap asked (sym (found (goal.at.loop-left-preserved c).After-spoiler-found)) ∙ ap not (sym c.unspoilt.ensures) ∙ ap not c.if-not-unspoilt.false))
 
 pub returns : goal.returns
 unfolding first_break_in

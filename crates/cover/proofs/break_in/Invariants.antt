@@ -22,7 +22,7 @@ abbrev pub asked : Cover → Bool
 asked x = not (unspoilt x)
 
 abbrev pub invariant-loop-left : goal.invariant-loop-left
-invariant-loop-left l = Sought 32 (λ l. asked (spoiler_in (held l.t) (state_of (sets l.active l.on)) l.rest l.i l.a l.j l.b l)) l.initial.left l.left
+invariant-loop-left w = Sought 32 (λ l. asked (spoiler_in (held w.t) (state_of (sets w.active w.on)) w.rest w.i w.a w.j w.b l)) w.initial.left w.left
 
 abbrev pub decreases-loop-left : goal.decreases-loop-left
 decreases-loop-left l = l.left

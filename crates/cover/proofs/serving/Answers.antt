@@ -14,4 +14,4 @@ pub returns : goal.returns
 returns c =
     let p = c.requires in
     let found = c.serving_in.ensures in
-    (found.0 ∙ near_servers p.0 _ _ _ _ _ _ p.1 c.neighbours.ensures p.3, part_broken c.args.rest _ found.1)
+    record { is = found.is ∙ near_servers p.0 _ _ _ _ _ _ p.1 c.neighbours.ensures p.3; shown = part_broken c.args.rest _ found.shown }

@@ -62,7 +62,7 @@ loop-left-preserved c =
 pub returns : goal.returns
 returns c =
     let v = c.loop-left in
-    (serving_end c.requires.0 _ _ _ _ _ v.left v.some v.broken c.loop-left-test.false v.invariant.1, v.invariant.1.shown)
+    record { is = serving_end c.requires.0 _ _ _ _ _ v.left v.some v.broken c.loop-left-test.false v.invariant.1; shown = v.invariant.1.shown }
 
 pub loop-left-init : goal.loop-left-init
 loop-left-init c = let p = c.requires in (left_all 32 _ (search rules), serving_first p.0 _ _ _ _ _ (search rules) p.1)

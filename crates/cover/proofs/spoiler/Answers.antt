@@ -19,14 +19,14 @@ word : (c : After-shared_slice_known-3-1) → let a = c.args in
 word c =
     let a = c.args in
     let p = c.requires in
-    spoilers_raw p.0 a.i a.a a.j a.b a.l _ _ c.rows_or-other.ensures.0 c.rows_at-own.ensures.0
+    spoilers_raw p.0 a.i a.a a.j a.b a.l _ _ c.rows_or-other.ensures.is c.rows_at-own.ensures.is
     (c.shared_slice_known-3-1.given (c.rows_at-own.result + a.a)).fits p.1 p.2 p.3 p.4 p.5
 
 pub rows_at-own-requires : goal.rows_at-own-requires
 rows_at-own-requires c = let p = c.requires in (p.0.table.located, p.1.variable, p.3, λ e. p.4 (sym e))
 
 pub rows_or-other-requires : goal.rows_or-other-requires
-rows_or-other-requires c = let p = c.requires in (p.0.table, c.rows_at-own.ensures.0, c.rows_at-own.ensures.1, p.2.variable, p.3, p.5)
+rows_or-other-requires c = let p = c.requires in (p.0.table, c.rows_at-own.ensures.is, c.rows_at-own.ensures.within, p.2.variable, p.3, p.5)
 
 pub returns-then-spoilers-eq0 : goal.returns-then-spoilers-eq0
 returns-then-spoilers-eq0 c =

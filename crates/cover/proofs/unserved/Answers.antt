@@ -36,7 +36,7 @@ returns-then-found-eq0 c =
     let p = c.requires in
     let found = c.serving_in-found in
     let w = at_turn (goal.at.returns-then-found-eq0 c).After-highest16-w in
-    rw c.with32.ensures (unserved_here _ _ _ _ _ _ _ _ _ w.0 p.4 w.1 c.if-found-eq0.true (part_broken c.args.rest _ found.ensures.1))
+    rw c.with32.ensures (unserved_here _ _ _ _ _ _ _ _ _ w.0 p.4 w.1 c.if-found-eq0.true (part_broken c.args.rest _ found.ensures.shown))
 
 pub without16-left-requires : goal.without16-left-requires
 without16-left-requires c = (at_turn (goal.at.without16-left-requires c).After-highest16-w).0
@@ -51,7 +51,7 @@ loop-left-preserved c =
     let near = near_servers p.0 _ _ _ _ _ _ p.1 c.neighbours.ensures p.3 in
     rw c.without16-left.ensures
     (sought_next 16 bit_without16 c.loop-left.invariant (at_turn (goal.at.loop-left-preserved c).After-highest16-w).0
-    (served_here _ _ _ _ _ _ p.0.fits _ (λ z. c.if-found-eq0.false (found.ensures.0 ∙ near ∙ z))))
+    (served_here _ _ _ _ _ _ p.0.fits _ (λ z. c.if-found-eq0.false (found.ensures.is ∙ near ∙ z))))
 
 pub returns : goal.returns
 returns c = unserved_end _ _ _ _ _ _ _ c.loop-left-test.false c.loop-left.invariant

@@ -11,20 +11,20 @@ pub returns-then-not-named : goal.returns-then-not-named
 returns-then-not-named c =
     let a = c.args in
     let p = c.requires in
-    let off = sym p.1 ∙ not-true _ c.if-not-named.true in
+    let off = sym p.1 ∙ c.if-not-named.true in
     c.refused_call.ensures ∙ sym (ap (call_answer (held a.t.now) a.st a.i) (ready_item p.0 a.i off))
 
 pub returns-then-not-filled : goal.returns-then-not-filled
 returns-then-not-filled c =
     let a = c.args in
     let p = c.requires in
-    let on = sym p.1 ∙ not-false _ c.if-not-named.false in
-    let e = sym p.2 ∙ not-true _ c.if-not-filled.true in
+    let on = sym p.1 ∙ c.if-not-named.false in
+    let e = sym p.2 ∙ c.if-not-filled.true in
     c.refused_call-then-not-filled.ensures ∙ sym (ap (call_answer (held a.t.now) a.st a.i) (ready_emptied p.0 a.i on e))
 
 pub call_snake-requires : goal.call_snake-requires
 call_snake-requires c =
     let a = c.args in
     let p = c.requires in
-    let on = sym p.1 ∙ not-false _ c.if-not-named.false in
-    (p.0, active_below p.0 a.i on, on, sym p.2 ∙ not-false _ c.if-not-filled.false)
+    let on = sym p.1 ∙ c.if-not-named.false in
+    (p.0, active_below p.0 a.i on, on, sym p.2 ∙ c.if-not-filled.false)

@@ -27,7 +27,7 @@ proper c =
 -- past the test of 11
 ready : (c : Else-not-fits) → Ready c.args.t.now c.args.st.masks
 ready c =
-    let e = sym c.fits2.ensures ∙ not-false _ c.if-not-fits.false in
+    let e = sym c.fits2.ensures ∙ c.if-not-fits.false in
     record { table = c.requires; proper = proper c; fits = (fits_iff (held c.args.t.now) c.args.st.masks (proper c)).0 (T_of e) }
 
 pub fits-requires : goal.fits-requires
@@ -37,7 +37,7 @@ pub returns-then-not-fits : goal.returns-then-not-fits
 returns-then-not-fits c =
     let a = c.args in
     let P = held a.t.now in
-    let e = sym c.fits2.ensures ∙ not-true _ c.if-not-fits.true in
+    let e = sym c.fits2.ensures ∙ c.if-not-fits.true in
     c.refused_call.ensures ∙ sym (ap (call_answer P a.st a.i) (call_misfit P (state_of a.st.masks) a.i e))
 
 pub none_empty-requires : goal.none_empty-requires

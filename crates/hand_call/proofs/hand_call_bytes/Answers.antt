@@ -10,7 +10,7 @@ pub returns-then-state-ne-HAND_STATE_LENGTH : goal.returns-then-state-ne-HAND_ST
 returns-then-state-ne-HAND_STATE_LENGTH c =
     let a = c.args in
     let e = sym (hand_bad a.sheet.now a.state.now a.item (λ l. omega arith)) in
-    (c.bad_hand_state.ensures ∙ ap (λ (y : HandCall). y.answer) e, ap (λ (y : HandCall). y.state) e)
+    record { answer = c.bad_hand_state.ensures ∙ ap (λ (y : HandCall). y.answer) e; state = ap (λ (y : HandCall). y.state) e }
 
 pub overflow_mul-result : goal.overflow_mul-result
 overflow_mul-result c = let l = call_small _ _ _ _ c.hand_call-called.ensures _ c.in-Eliminated.is in omega arith
@@ -20,11 +20,11 @@ returns-in-Refused c =
     let a = c.args in
     let x = hand_reads a.sheet.now a.state.now a.item _ _ c.read_state-masks.ensures c.hand_call-called.ensures in
     let e = hand_says a.sheet.now a.state.now a.item (omega arith) _ x _ c.in-Refused.is in
-    (c.hand_number.ensures ∙ ap (λ (y : HandCall). y.answer) e, ap (λ (y : HandCall). y.state) e)
+    record { answer = c.hand_number.ensures ∙ ap (λ (y : HandCall). y.answer) e; state = ap (λ (y : HandCall). y.state) e }
 
 pub returns-in-Eliminated : goal.returns-in-Eliminated
 returns-in-Eliminated c =
     let a = c.args in
     let x = hand_reads a.sheet.now a.state.now a.item _ _ c.read_state-masks.ensures c.hand_call-called.ensures in
     let e = hand_says a.sheet.now a.state.now a.item (omega arith) _ x _ c.in-Eliminated.is in
-    (ap (λ (y : HandCall). y.answer) e, c.put_state.ensures ∙ ap (λ (y : HandCall). y.state) e)
+    record { answer = ap (λ (y : HandCall). y.answer) e; state = c.put_state.ensures ∙ ap (λ (y : HandCall). y.state) e }

@@ -17,7 +17,7 @@ use Rattle.held.proofs.Full.{full_active}
 use Rattle.held.proofs.full_masks.Given as goal
 
 abbrev pub invariant-loop-i : goal.invariant-loop-i
-invariant-loop-i l = (l.i ≤ 32) × (l.m.active ≡ l.initial.m.active) × (l.m.domains ≡ filled l.i (λ l.i. mask_of 16 ((full (held l.t)).live l.i)) l.initial.m.domains)
+invariant-loop-i l = (l.i ≤ 32) × (l.m.active ≡ l.initial.m.active) × (l.m.domains ≡ filled l.i (λ k. mask_of 16 ((full (held l.t)).live k)) l.initial.m.domains)
 
 abbrev pub decreases-loop-i : goal.decreases-loop-i
 decreases-loop-i l = 32 - l.i

@@ -41,4 +41,4 @@ pub returns : goal.returns
 returns c =
     let a = c.args in
     let small = c.shared_slice_known-1.given in
-    near_of a.t.now a.i c.joined.result c.joined.ensures.0 c.joined.ensures.1 (small (far_start + 32 + a.i)).fits
+    near_of a.t.now a.i c.joined.result c.joined.ensures.is c.joined.ensures.apart (small (far_start + 32 + a.i)).fits

@@ -24,7 +24,7 @@ some_value-requires c = search rules
 
 pub returns-then-not-some_value : goal.returns-then-not-some_value
 unfolding none_empty
-returns-then-not-some_value c = sym (sym (active_loop c.requires _) ∙ all_fail _ 32 _ (omega arith) (sym c.some_value.ensures ∙ not-true _ c.if-not-some_value.true))
+returns-then-not-some_value c = sym (sym (active_loop c.requires _) ∙ all_fail _ 32 _ (omega arith) (sym c.some_value.ensures ∙ c.if-not-some_value.true))
 
 pub overflow_add-l : goal.overflow_add-l
 unfolding none_empty
@@ -36,7 +36,7 @@ loop-l-smaller c = omega arith
 
 pub loop-l-preserved : goal.loop-l-preserved
 unfolding none_empty
-loop-l-preserved c = (omega arith, all_more _ _ c.loop-l.invariant.1 (sym c.some_value.ensures ∙ not-false _ c.if-not-some_value.false))
+loop-l-preserved c = (omega arith, all_more _ _ c.loop-l.invariant.1 (sym c.some_value.ensures ∙ c.if-not-some_value.false))
 
 pub returns : goal.returns
 unfolding none_empty

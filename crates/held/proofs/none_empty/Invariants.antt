@@ -14,7 +14,7 @@ use Rattle.held.proofs.Laws.{active_loop}
 use Rattle.held.proofs.none_empty.Given as goal
 
 abbrev pub invariant-loop-l : goal.invariant-loop-l
-invariant-loop-l l = (l.l ≤ 32) × (all_below l.l (λ l. imp (bit l.active l) (any_live (held l.t) (state_of (sets l.active l.on)) l (λ c. true))) ≡ true)
+invariant-loop-l w = (w.l ≤ 32) × (all_below w.l (λ l. imp (bit w.active l) (any_live (held w.t) (state_of (sets w.active w.on)) l (λ c. true))) ≡ true)
 
 abbrev pub decreases-loop-l : goal.decreases-loop-l
 decreases-loop-l l = 32 - l.l

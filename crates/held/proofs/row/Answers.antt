@@ -19,7 +19,7 @@ narrow c = omega (arith, c.size.ensures, held_narrow c.requires.0 c.args.j)
 
 -- the set that the row is met with
 all : (c : After-below16) → c.below16.result ≡ mask_of 16 (λ a. ltb a ((held c.args.t.now).size c.args.j))
-all c = c.below16.ensures ∙ below_mask 16 _ (narrow c) ∙ ap (λ (z : ℕ). mask_of 16 (λ a. ltb a z)) c.size.ensures
+all c = c.below16.ensures ∙ below_mask 16 _ (omega (arith, c.size.ensures, held_narrow c.requires.0 c.args.j)) ∙ ap (λ (z : ℕ). mask_of 16 (λ a. ltb a z)) c.size.ensures
 
 pub row_among-requires : goal.row_among-requires
 row_among-requires c = let p = c.requires in (p.0, subst (Values _ _) (sym (all (goal.at.row_among-requires c).After-below16)) (all_values p.0 _), p.1, p.2, p.3)

@@ -11,5 +11,5 @@ pub returns : goal.returns
 returns c =
     let a = c.args in
     let p = c.requires in
-    ap (λ (x : ℕ). bit_and a.set (get_or a.t.now (x + a.a) 0)) c.rows_at.ensures.0
+    ap (λ (x : ℕ). bit_and a.set (get_or a.t.now (x + a.a) 0)) c.rows_at.ensures.is
     ∙ row_met p.0 a.i a.a a.j p.2.listed (λ e. p.4 (sym e)) a.set p.1.small p.1.within

@@ -37,9 +37,9 @@ overflow_add-result-else-i-j-2 c = let e = entry c.requires in search rules
 pub returns-then-i-j : goal.returns-then-i-j
 returns-then-i-j c =
     let e = entry c.requires in
-    (rw (lt-ltb _ _ c.if-i-j.true) (omega (arith, e.0)), omega (arith, e.0, e.1))
+    record { is = rw (lt-ltb _ _ c.if-i-j.true) (omega (arith, e.0)); within = omega (arith, e.0, e.1) }
 
 pub returns-else-i-j : goal.returns-else-i-j
 returns-else-i-j c =
     let e = entry c.requires in
-    (rw (le-ltb _ _ c.if-i-j.false) (omega (arith, e.0)), omega (arith, e.0, e.1))
+    record { is = rw (le-ltb _ _ c.if-i-j.false) (omega (arith, e.0)); within = omega (arith, e.0, e.1) }

@@ -48,4 +48,4 @@ returns c =
     let l = c.loop-i in
     let e : l.i ≡ (held c.args.t.now).n = omega (arith, c.variables-n.ensures) in
     let s = l.invariant.0 ∙ ap (λ (k : ℕ). sum_to k (held c.args.t.now).size) e in
-    (s, omega (arith, s, held_most c.requires))
+    record { is = s; within = omega (arith, s, held_most c.requires) }

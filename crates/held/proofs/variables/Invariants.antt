@@ -11,7 +11,7 @@ use borrow.Author.Rules.{rules}
 use Rattle.held.proofs.variables.Given as goal
 
 abbrev pub invariant-loop-i : goal.invariant-loop-i
-invariant-loop-i l = (l.i ≤ 32) × (lowest l.i (λ l.i. eqb ((held l.t).size l.i) 0) ≡ l.i)
+invariant-loop-i l = (l.i ≤ 32) × (lowest l.i (λ k. eqb ((held l.t).size k) 0) ≡ l.i)
 
 abbrev pub decreases-loop-i : goal.decreases-loop-i
 decreases-loop-i l = 32 - l.i

@@ -11,7 +11,7 @@ pub loop-a-preserved : goal.loop-a-preserved
 loop-a-preserved c =
     let p = c.requires in
     let w = c.loop-a in
-    (omega arith, pair_more _ _ _ _ _ _ _ p.2 p.3 c.loop-a-test.true (rw c.rows_at-from.ensures.0) w.invariant.1)
+    (omega arith, pair_more _ _ _ _ _ _ _ p.2 p.3 c.loop-a-test.true (rw c.rows_at-from.ensures.is) w.invariant.1)
 
 pub returns : goal.returns
 returns c = let w = c.loop-a in let e : w.a ≡ 16 = omega arith in rw e at w.invariant.1

@@ -24,19 +24,19 @@ module _ (c : After-lowest32-j) where
       (l.0, left_other 32 bit_without32 x a.i w.invariant.0 c.without32-rest.ensures c.requires.1 l.0 l.1, l.2)
 
 pub offset_bounds-on-j : goal.offset_bounds-on-j
-offset_bounds-on-j c = let l = (at_turn c).0 in search rules
+offset_bounds-on-j c = let l = (at_turn (goal.at.offset_bounds-on-j c).After-lowest32-j).0 in search rules
 
 pub bounds-on-j : goal.bounds-on-j
-bounds-on-j c = let l = (at_turn c).0 in search rules
+bounds-on-j c = let l = (at_turn (goal.at.bounds-on-j c).After-lowest32-j).0 in search rules
 
 pub apart_pair-requires : goal.apart_pair-requires
 apart_pair-requires c =
     let p = c.requires in
-    let l = at_turn c in
+    let l = at_turn (goal.at.apart_pair-requires c).After-lowest32-j in
     (p.0.table, domain_values p.0 _ p.1, domain_values p.0 _ l.0, p.1, l.0, l.1)
 
 pub loop-rest-smaller : goal.loop-rest-smaller
-loop-rest-smaller c = rw c.without32-rest-in-loop-rest.ensures (at_turn c).2
+loop-rest-smaller c = rw c.without32-rest-in-loop-rest.ensures (at_turn (goal.at.loop-rest-smaller c).After-lowest32-j).2
 
 pub loop-rest-preserved : goal.loop-rest-preserved
 loop-rest-preserved c =
@@ -51,10 +51,10 @@ pub loop-rest-init : goal.loop-rest-init
 loop-rest-init c = (left_all 32 _ (search rules), sift_none _ _ _ _ (search rules))
 
 pub without32-rest-requires-in-loop-rest : goal.without32-rest-requires-in-loop-rest
-without32-rest-requires-in-loop-rest c = (at_turn c).0
+without32-rest-requires-in-loop-rest c = (at_turn (goal.at.without32-rest-requires-in-loop-rest c).After-lowest32-j).0
 
 pub without_unless-far-requires : goal.without_unless-far-requires
-without_unless-far-requires c = (at_turn c).0
+without_unless-far-requires c = (at_turn (goal.at.without_unless-far-requires c).After-lowest32-j).0
 
 pub returns : goal.returns
 returns c = sift_end c.loop-rest-test.false c.loop-rest.invariant.1

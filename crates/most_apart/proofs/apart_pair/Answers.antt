@@ -12,7 +12,7 @@ pub loop-a-preserved : goal.loop-a-preserved
 loop-a-preserved c =
     let w = c.loop-a in
     let l = c.loop-a-test.true in
-    (omega arith, diagonal_more c.rows_at-at.ensures.0 (one_shifted 16 w.a l) w.invariant.1)
+    (omega arith, diagonal_more c.rows_at-at.ensures.is (one_shifted 16 w.a l) w.invariant.1)
 
 pub returns : goal.returns
 returns c =

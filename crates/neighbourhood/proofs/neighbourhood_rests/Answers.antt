@@ -15,7 +15,7 @@ pub returns : goal.returns
 returns c =
     let p = c.requires in
     let e = rw (c.without16.ensures, c.without32.ensures) at c.serving-found.ensures in
-    candidates_tried p.0 _ _ p.1.variable p.1.value (T_of p.2) e.0 e.1
+    candidates_tried p.0 _ _ p.1.variable p.1.value (T_of p.2) e.is e.shown
 
 pub without32-requires : goal.without32-requires
 without32-requires c = let i = c.requires.1.variable in search rules

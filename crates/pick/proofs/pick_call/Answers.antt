@@ -15,7 +15,7 @@ returns-then-state-ne-STATE_LENGTH c =
 pub picked_number-requires : goal.picked_number-requires
 picked_number-requires c =
     let a = c.args in
-    rw c.pick-done.ensures.0 (pick_fits a.sheet.now a.trace.now a.plan.now a.state.now)
+    rw c.pick-done.ensures.answer (pick_fits a.sheet.now a.trace.now a.plan.now a.state.now)
 
 pub returns : goal.returns
 returns c =

@@ -18,4 +18,4 @@ serving-requires c =
 pub returns : goal.returns
 returns c =
     let p = c.requires in
-    c.serving.ensures.0 ∙ rw (c.third_set.ensures, c.row_among-good.ensures) (servers_word p.0 _ _ _ p.1.variable p.2.variable _)
+    c.serving.ensures.is ∙ rw (c.third_set.ensures, c.row_among-good.ensures) (servers_word p.0 _ _ _ p.1.variable p.2.variable _)

@@ -22,4 +22,4 @@ pub loop-b-preserved : goal.loop-b-preserved
 loop-b-preserved c = let w = c.loop-b in (omega arith, gathered_more _ c.where16-all.ensures w.invariant.1)
 
 pub returns : goal.returns
-returns c = let w = c.loop-b in closed_gathered _ _ w.b w.all (search rules) (omega arith) w.invariant.1 (eqb-true _ _ (not-false _ e))
+returns c e = let w = c.loop-b in closed_gathered _ _ w.b w.all (search rules) (omega arith) w.invariant.1 (eqb-true _ _ (not-false _ e))

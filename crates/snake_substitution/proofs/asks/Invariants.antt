@@ -9,7 +9,7 @@ use Rattle.snake_substitution.proofs.Words.{Gathered, gathered_none, gathered_mo
 use Rattle.snake_substitution.proofs.asks.Given as goal
 
 abbrev pub invariant-loop-b : goal.invariant-loop-b
-invariant-loop-b l = (l.b ≤ 16) × Gathered (λ l.b. cond (bit l.set l.b) (get_or l.goals l.b 0) 0) l.b l.all
+invariant-loop-b l = (l.b ≤ 16) × Gathered (λ k. cond (bit l.set k) (get_or l.goals k 0) 0) l.b l.all
 
 abbrev pub decreases-loop-b : goal.decreases-loop-b
 decreases-loop-b l = 16 - l.b

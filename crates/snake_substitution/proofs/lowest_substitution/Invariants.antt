@@ -10,7 +10,7 @@ use Rattle.problem.proofs.Search.{nothing_is, first_none, first_more, first_hit,
 use Rattle.snake_substitution.proofs.lowest_substitution.Given as goal
 
 abbrev pub invariant-loop-b : goal.invariant-loop-b
-invariant-loop-b l = (l.b ≤ 16) × (first l.b (λ l.b. lowest_goal l.i l.b (get_or l.goals l.b 0)) ≡ Nothing)
+invariant-loop-b l = (l.b ≤ 16) × (first l.b (λ k. lowest_goal l.i k (get_or l.goals k 0)) ≡ Nothing)
 
 abbrev pub decreases-loop-b : goal.decreases-loop-b
 decreases-loop-b l = 16 - l.b

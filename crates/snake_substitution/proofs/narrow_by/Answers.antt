@@ -18,7 +18,7 @@ row_among-set-requires c =
 pub returns-then-not-asks : goal.returns-then-not-asks
 returns-then-not-asks c =
     let p = c.requires in
-    narrowed_idle p.0 _ _ _ _ p.3 p.2 p.4 p.5 p.6 c.row_among-set.ensures p.1 (c.asks.ensures (not-true _ c.if-not-asks.true))
+    narrowed_idle p.0 _ _ _ _ p.3 p.2 p.4 p.5 p.6 c.row_among-set.ensures p.1 (c.asks.ensures (c.if-not-asks.true))
 
 pub without16-requires : goal.without16-requires
 without16-requires c = let p = c.requires in (bit_value p.0 _ _ (T_true _ p.6)).value
@@ -33,7 +33,7 @@ serving-found-requires c =
 pub reached-requires : goal.reached-requires
 reached-requires c =
     let p = c.requires in
-    (p.0.table, domain_values p.0 _ p.2, servers_values p.0 _ _ _ _ (rw c.without16.ensures (others_among p.0 _ _)) c.serving-found.ensures.0, p.4, p.2, λ e. p.5 (sym e))
+    (p.0.table, domain_values p.0 _ p.2, servers_values p.0 _ _ _ _ (rw c.without16.ensures (others_among p.0 _ _)) c.serving-found.ensures.is, p.4, p.2, λ e. p.5 (sym e))
 
 pub returns : goal.returns
 returns c =
@@ -41,4 +41,4 @@ returns c =
     let found = c.serving-found.ensures in
     rw c.with32.ensures
     (narrowed_limits p.0 _ _ _ _ p.3 p.2 p.4 p.5 p.6 c.row_among-set.ensures p.1
-    c.without16.ensures found.0 found.1 c.reached.ensures c.keep.ensures)
+    c.without16.ensures found.is found.shown c.reached.ensures c.keep.ensures)

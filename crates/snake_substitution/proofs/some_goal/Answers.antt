@@ -21,4 +21,4 @@ pub loop-b-preserved : goal.loop-b-preserved
 loop-b-preserved c = let w = c.loop-b in (omega arith, gathered_more _ refl w.invariant.1)
 
 pub returns : goal.returns
-returns c = let w = c.loop-b in none_gathered w.b w.all c.requires (omega arith) w.invariant.1 (eqb-true _ _ (not-false _ e))
+returns c e = let w = c.loop-b in none_gathered w.b w.all c.requires (omega arith) w.invariant.1 (eqb-true _ _ (not-false _ e))

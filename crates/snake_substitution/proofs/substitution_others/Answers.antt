@@ -40,7 +40,7 @@ substitution_at-requires c =
 pub returns-then-not-substitution_at : goal.returns-then-not-substitution_at
 returns-then-not-substitution_at c =
     let p = c.requires in
-    sym (sym (other_by p.0 _ _ c.without32-rest.ensures p.1.variable _) ∙ all_fail _ 32 _ (at_turn (goal.at.returns-then-not-substitution_at c).After-lowest32-k).0 (sym c.substitution_at.ensures ∙ not-true _ c.if-not-substitution_at.true))
+    sym (sym (other_by p.0 _ _ c.without32-rest.ensures p.1.variable _) ∙ all_fail _ 32 _ (at_turn (goal.at.returns-then-not-substitution_at c).After-lowest32-k).0 (sym c.substitution_at.ensures ∙ c.if-not-substitution_at.true))
 
 pub without32-left-requires : goal.without32-left-requires
 without32-left-requires c = (at_turn (goal.at.without32-left-requires c).After-lowest32-k).0
@@ -53,7 +53,7 @@ loop-left-smaller c =
 pub loop-left-preserved : goal.loop-left-preserved
 loop-left-preserved c =
     rw c.without32-left.ensures
-    (sought_next 32 bit_without32 c.loop-left.invariant (at_turn (goal.at.loop-left-preserved c).After-lowest32-k).0 (ap not (sym c.substitution_at.ensures) ∙ c.if-not-substitution_at.false))
+    (sought_next 32 bit_without32 c.loop-left.invariant (at_turn (goal.at.loop-left-preserved c).After-lowest32-k).0 (ap not (sym c.substitution_at.ensures) ∙ ap not c.if-not-substitution_at.false))
 
 pub returns : goal.returns
 returns c =

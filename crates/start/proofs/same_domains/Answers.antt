@@ -17,10 +17,10 @@ loop-i-init c = (search rules, all_none _)
 
 pub returns-then-not-same : goal.returns-then-not-same
 unfolding same_domains
-returns-then-not-same c = sym (all_fail _ 32 c.loop-i.i (omega arith) (not-true _ c.if-not-same.true))
+returns-then-not-same c = sym (all_fail _ 32 c.loop-i.i (omega arith) (c.if-not-same.true))
 
 pub loop-i-preserved : goal.loop-i-preserved
-loop-i-preserved c = (omega arith, all_more _ c.loop-i.i c.loop-i.invariant.1 (not-false _ c.if-not-same.false))
+loop-i-preserved c = (omega arith, all_more _ c.loop-i.i c.loop-i.invariant.1 (c.if-not-same.false))
 
 pub returns : goal.returns
 unfolding same_domains

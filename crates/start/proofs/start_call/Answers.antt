@@ -10,16 +10,16 @@ pub returns-then-state-ne-HAND_STATE_LENGTH : goal.returns-then-state-ne-HAND_ST
 returns-then-state-ne-HAND_STATE_LENGTH c =
     let a = c.args in
     let e = sym (start_bad a.sheet.now a.state.now (λ l. omega arith)) in
-    (c.bad_hand_state.ensures ∙ ap (λ (y : HandCall). y.answer) e, ap (λ (y : HandCall). y.state) e)
+    record { answer = c.bad_hand_state.ensures ∙ ap (λ (y : HandCall). y.answer) e; state = ap (λ (y : HandCall). y.state) e }
 
 pub returns-in-Refused : goal.returns-in-Refused
 returns-in-Refused c =
     let a = c.args in
     let e = start_says a.sheet.now a.state.now (omega arith) _ c.start-first.ensures _ c.in-Refused.is in
-    (c.sheet_number.ensures ∙ ap (λ (y : HandCall). y.answer) e, ap (λ (y : HandCall). y.state) e)
+    record { answer = c.sheet_number.ensures ∙ ap (λ (y : HandCall). y.answer) e; state = ap (λ (y : HandCall). y.state) e }
 
 pub returns-in-Started : goal.returns-in-Started
 returns-in-Started c =
     let a = c.args in
     let e = start_says a.sheet.now a.state.now (omega arith) _ c.start-first.ensures _ c.in-Started.is in
-    (ap (λ (y : HandCall). y.answer) e, c.put_state.ensures ∙ ap (λ (y : HandCall). y.state) e)
+    record { answer = ap (λ (y : HandCall). y.answer) e; state = c.put_state.ensures ∙ ap (λ (y : HandCall). y.state) e }

@@ -17,7 +17,7 @@ taken : (c : After-where16-x) → let a = c.args in let k = c.loop-a.a in
 taken c =
     let a = c.args in
     let k = c.loop-a.a in
-    c.where16-x.ensures ∙ ap (λ (x : ℕ). cond (bit a.domain k) (get_or a.t.now (x + k) 0) 0) c.rows_at-at.ensures.0
+    c.where16-x.ensures ∙ ap (λ (x : ℕ). cond (bit a.domain k) (get_or a.t.now (x + k) 0) 0) c.rows_at-at.ensures.is
 
 pub loop-a-preserved : goal.loop-a-preserved
 loop-a-preserved c =

@@ -36,29 +36,29 @@ loop-rest-init c =
     (left_all 32 _ (search rules), rw c.without32-rest.ensures (kept_first p.0 _ p.1 p.2 _ c.neighbours.ensures))
 
 pub offset_bounds-on-k : goal.offset_bounds-on-k
-offset_bounds-on-k c = let l = (at_turn c).0 in search rules
+offset_bounds-on-k c = let l = (at_turn (goal.at.offset_bounds-on-k c).After-lowest32-k).0 in search rules
 
 pub bounds-on-k : goal.bounds-on-k
-bounds-on-k c = let l = (at_turn c).0 in search rules
+bounds-on-k c = let l = (at_turn (goal.at.bounds-on-k c).After-lowest32-k).0 in search rules
 
 pub partners-x-requires : goal.partners-x-requires
 partners-x-requires c =
     let p = c.requires in
-    let l = at_turn c in
+    let l = at_turn (goal.at.partners-x-requires c).After-lowest32-k in
     (p.0.table, c.loop-rest.invariant.1.values, domain_values p.0 _ l.0, l.0, p.1, λ e. l.2 (sym e))
 
 pub without32-rest-requires-in-loop-rest : goal.without32-rest-requires-in-loop-rest
-without32-rest-requires-in-loop-rest c = (at_turn c).0
+without32-rest-requires-in-loop-rest c = (at_turn (goal.at.without32-rest-requires-in-loop-rest c).After-lowest32-k).0
 
 pub loop-rest-smaller : goal.loop-rest-smaller
-loop-rest-smaller c = rw c.without32-rest-in-loop-rest.ensures (at_turn c).3
+loop-rest-smaller c = rw c.without32-rest-in-loop-rest.ensures (at_turn (goal.at.loop-rest-smaller c).After-lowest32-k).3
 
 pub loop-rest-preserved : goal.loop-rest-preserved
 unfolding state_of
 loop-rest-preserved c =
     let p = c.requires in
     let w = c.loop-rest in
-    let l = at_turn c in
+    let l = at_turn (goal.at.loop-rest-preserved c).After-lowest32-k in
     (rw c.without32-rest-in-loop-rest.ensures (left_next _ w.invariant.0), rw (c.without32-rest-in-loop-rest.ensures, c.partners-x.ensures) (kept_next p.0 _ w.rest w.x _ l.0 l.1 l.2 w.invariant.1))
 
 pub neighbours-requires : goal.neighbours-requires

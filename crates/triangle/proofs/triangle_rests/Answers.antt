@@ -43,7 +43,7 @@ pub returns-then-found-eq0 : goal.returns-then-found-eq0
 returns-then-found-eq0 c =
     let p = c.requires in
     let v = at_turn (goal.at.returns-then-found-eq0 c).After-highest16-v in
-    let found = c.serving-found.ensures.1 in
+    let found = c.serving-found.ensures.shown in
     tried_fails p.0 _ _ p.1 p.2 v.0 v.1 (rw (c.row_among-good.ensures, c.third_set-rest.ensures) at found) c.if-found-eq0.true
 
 pub without16-left-requires : goal.without16-left-requires
@@ -55,7 +55,7 @@ loop-left-smaller c = rw c.without16-left.ensures (at_turn (goal.at.loop-left-sm
 pub loop-left-preserved : goal.loop-left-preserved
 loop-left-preserved c =
     let p = c.requires in
-    let found = c.serving-found.ensures.0 in
+    let found = c.serving-found.ensures.is in
     rw c.without16-left.ensures
     (tried_next p.0 _ _ p.1 p.2 c.loop-left.invariant (at_turn (goal.at.loop-left-preserved c).After-highest16-v).0
     (rw (c.row_among-good.ensures, c.third_set-rest.ensures) at found) c.if-found-eq0.false)

@@ -24,4 +24,4 @@ serving-requires c =
 pub returns : goal.returns
 returns c =
     let p = c.requires in
-    rw (c.serving.ensures.0, c.third_set.ensures, c.row_among-good.ensures) (servers_mask p.0 _ _ p.2 p.1.variable _)
+    rw (c.serving.ensures.is, c.third_set.ensures, c.row_among-good.ensures) (servers_mask p.0 _ _ p.2 p.1.variable _)

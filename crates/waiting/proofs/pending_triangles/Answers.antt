@@ -7,4 +7,4 @@ pub returns : goal.returns
 returns c =
     let low = c.pending_of in
     let high = c.pending_of-2 in
-    triangles_joined _ _ low.result high.result _ low.ensures high.ensures c.joined.ensures.0 c.joined.ensures.1
+    triangles_joined _ _ low.result high.result _ low.ensures high.ensures c.joined.ensures.is c.joined.ensures.apart

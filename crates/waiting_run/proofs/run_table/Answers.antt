@@ -33,31 +33,31 @@ next_step-requires c = let i = c.loop-r.invariant in (i.0.ready, i.1, i.2)
 pub write_record-at-requires : goal.write_record-at-requires
 write_record-at-requires c =
     let w = c.loop-r in
-    let e = sym c.next_step.ensures.0 ∙ c.in-Step.is in
+    let e = sym c.next_step.ensures.is ∙ c.in-Step.is in
     (record_room _ _ _ _ _ _ w.invariant.0 _ e, record_small _ _ _ _ _ _ w.invariant.0 _ e)
 
 pub advance-state-requires : goal.advance-state-requires
 advance-state-requires c =
     let w = c.loop-r in
-    let e = sym c.next_step.ensures.0 ∙ c.in-Step.is in
-    (w.invariant.0.ready, w.invariant.1, c.next_step.ensures.1, e)
+    let e = sym c.next_step.ensures.is ∙ c.in-Step.is in
+    (w.invariant.0.ready, w.invariant.1, c.next_step.ensures.waits, e)
 
 pub overflow_add-steps : goal.overflow_add-steps
 overflow_add-steps c =
     let w = c.loop-r in
-    let e = sym c.next_step.ensures.0 ∙ c.in-Step.is in
+    let e = sym c.next_step.ensures.is ∙ c.in-Step.is in
     omega (arith, step_counts _ _ _ _ _ _ w.invariant.0 _ e, kept_length _ _ _ _ _ _ w.invariant.0, ap length c.write_version.ensures, length-set c.args.b.now 0 1)
 
 pub loop-r-smaller : goal.loop-r-smaller
 loop-r-smaller c =
     let w = c.loop-r in
-    let e = sym c.next_step.ensures.0 ∙ c.in-Step.is in
-    rw (c.advance-state.ensures.0, after_state w.invariant.0.ready) (falls _ _ _ _ _ _ w.invariant.0 _ e)
+    let e = sym c.next_step.ensures.is ∙ c.in-Step.is in
+    rw (c.advance-state.ensures.is, after_state w.invariant.0.ready) (falls _ _ _ _ _ _ w.invariant.0 _ e)
 
 pub loop-r-preserved : goal.loop-r-preserved
 loop-r-preserved c =
     let w = c.loop-r in
-    let e = sym c.next_step.ensures.0 ∙ c.in-Step.is in
+    let e = sym c.next_step.ensures.is ∙ c.in-Step.is in
     let p = c.write_record-at.ensures in
     let a = c.advance-state.ensures in
     rw (p.0, p.1, a.0, after_state w.invariant.0.ready) (running_next _ _ _ _ _ _ w.invariant.0 _ e, a.1.0, a.1.1)
@@ -71,5 +71,5 @@ shape_of-b-in-Nothing c = kept_length _ _ _ _ _ _ c.loop-r.invariant.0 ∙ ap le
 pub returns-in-Nothing : goal.returns-in-Nothing
 returns-in-Nothing c =
     let w = c.loop-r in
-    let e = sym c.next_step.ensures.0 ∙ c.in-Nothing.is in
+    let e = sym c.next_step.ensures.is ∙ c.in-Nothing.is in
     rw c.end_of-end.ensures (done_answer _ _ _ _ _ _ w.invariant.0 e _, done_buffer _ _ _ _ _ _ w.invariant.0 e _ c.write_version.ensures)

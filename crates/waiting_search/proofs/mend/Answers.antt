@@ -20,7 +20,7 @@ pub remove_known-requires-in-SnakeSubstitution : goal.remove_known-requires-in-S
 remove_known-requires-in-SnakeSubstitution c = let q = c.requires in let w = subst (Mendable _ _) c.in-SnakeSubstitution.is q.1 in (q.0, w.0, w.1, q.2, q.3, q.4)
 
 pub returns-in-Unsupported : goal.returns-in-Unsupported
-returns-in-Unsupported c = rw c.in-Unsupported.is (c.remove_known.ensures.0, c.remove_known.ensures.1)
+returns-in-Unsupported c = rw c.in-Unsupported.is (c.remove_known.ensures.words, c.remove_known.ensures.wakes)
 
 pub returns-in-Snake : goal.returns-in-Snake
 returns-in-Snake c = rw c.in-Snake.is (refl, c.wake.ensures)
@@ -32,4 +32,4 @@ pub returns-in-Neighbourhood : goal.returns-in-Neighbourhood
 returns-in-Neighbourhood c = rw c.in-Neighbourhood.is (refl, c.wake_value.ensures)
 
 pub returns-in-SnakeSubstitution : goal.returns-in-SnakeSubstitution
-returns-in-SnakeSubstitution c = rw c.in-SnakeSubstitution.is (c.remove_known-in-SnakeSubstitution.ensures.0, c.remove_known-in-SnakeSubstitution.ensures.1)
+returns-in-SnakeSubstitution c = rw c.in-SnakeSubstitution.is (c.remove_known-in-SnakeSubstitution.ensures.words, c.remove_known-in-SnakeSubstitution.ensures.wakes)

@@ -13,7 +13,7 @@ use Rattle.waiting_unsupported.proofs.Words.{alone_met}
 use Rattle.waiting_unsupported.proofs.all_alone.Given as goal
 
 abbrev pub invariant-loop-u : goal.invariant-loop-u
-invariant-loop-u l = (l.u ≤ 16) × (l.word ≡ mask_of l.u (λ (l.u : ℕ). eqb (bit_and l.domain (get_or l.t (rows_at l.i l.l + l.u) 0)) 0))
+invariant-loop-u l = (l.u ≤ 16) × (l.word ≡ mask_of l.u (λ (k : ℕ). eqb (bit_and l.domain (get_or l.t (rows_at l.i l.l + k) 0)) 0))
 
 abbrev pub decreases-loop-u : goal.decreases-loop-u
 decreases-loop-u l = 16 - l.u

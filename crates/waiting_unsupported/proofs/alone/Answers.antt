@@ -31,7 +31,7 @@ pub returns-then-rest-eq0 : goal.returns-then-rest-eq0
 returns-then-rest-eq0 c =
     let p = c.requires in
     let small = c.shared_slice_known-1.given in
-    alone_none p.0 _ _ _ _ p.1 p.2 p.6 _ _ _ c.rows_at-at.ensures.0 (low (goal.at.returns-then-rest-eq0 c).After-lowest16).1 c.highest16.ensures.member (small _).fits (small _).fits c.if-rest-eq0.true
+    alone_none p.0 _ _ _ _ p.1 p.2 p.6 _ _ _ c.rows_at-at.ensures.is (low (goal.at.returns-then-rest-eq0 c).After-lowest16).1 c.highest16.ensures.member (small _).fits (small _).fits c.if-rest-eq0.true
 
 pub all_alone-requires : goal.all_alone-requires
 all_alone-requires c = let p = c.requires in (p.0, part_values p.1 _, p.2, p.4, p.5, p.6)
@@ -40,7 +40,7 @@ pub returns : goal.returns
 returns c =
     let p = c.requires in
     let small = c.shared_slice_known-1.given in
-    alone_rest p.0 _ _ _ _ p.1 p.2 p.6 _ _ _ c.rows_at-at.ensures.0 (low (goal.at.returns c).After-lowest16).1 c.highest16.ensures.member (small _).fits (small _).fits c.all_alone.ensures
+    alone_rest p.0 _ _ _ _ p.1 p.2 p.6 _ _ _ c.rows_at-at.ensures.is (low (goal.at.returns c).After-lowest16).1 c.highest16.ensures.member (small _).fits (small _).fits c.all_alone.ensures
 
 pub returns-then-lost-eq0 : goal.returns-then-lost-eq0
 returns-then-lost-eq0 c = alone_nothing _ _ _ c.if-lost-eq0.true

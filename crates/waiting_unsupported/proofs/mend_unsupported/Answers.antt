@@ -45,20 +45,20 @@ pub bounds-on-i : goal.bounds-on-i
 bounds-on-i c = let l = (at_turn (goal.at.bounds-on-i c).After-lowest32-i).0 in search rules
 
 -- what is not known to be words is in the domain
-own : (c : After-unknown) → Values c.args.t.now c.lowest32-i.result c.unknown.result
-own c = subst (Values _ _) (sym c.unknown.ensures.0) (part_values (domain_values c.requires.0 _ (at_turn c).0) _)
+own : (c : After-unknown) → c.lowest32-i.result < 32 → Values c.args.t.now c.lowest32-i.result c.unknown.result
+own c l = subst (Values _ _) (sym c.unknown.ensures.is) (part_values (domain_values c.requires.0 _ l) _)
 
 pub row_among-lost-requires : goal.row_among-lost-requires
 row_among-lost-requires c =
     let p = c.requires in
     let l = at_turn (goal.at.row_among-lost-requires c).After-lowest32-i in
-    (p.0.table, own (goal.at.row_among-lost-requires c).After-unknown, p.1, l.0, l.1)
+    (p.0.table, own (goal.at.row_among-lost-requires c).After-unknown l.0, p.1, l.0, l.1)
 
 pub alone-requires : goal.alone-requires
 alone-requires c =
     let p = c.requires in
     let l = at_turn (goal.at.alone-requires c).After-lowest32-i in
-    (p.0.table, subst (Values _ _) (sym c.row_among-lost.ensures) (part_values (own (goal.at.alone-requires c).After-unknown) _), domain_values p.0 _ p.1.variable, c.if-domain-eq0.false, p.1.variable, l.0, l.1)
+    (p.0.table, subst (Values _ _) (sym c.row_among-lost.ensures) (part_values (own (goal.at.alone-requires c).After-unknown l.0) _), domain_values p.0 _ p.1.variable, c.if-domain-eq0.false, p.1.variable, l.0, l.1)
 
 pub offset_bounds-words-i-in-loop-left : goal.offset_bounds-words-i-in-loop-left
 offset_bounds-words-i-in-loop-left c = let l = (at_turn (goal.at.offset_bounds-words-i-in-loop-left c).After-lowest32-i).0 in search rules
@@ -78,7 +78,7 @@ loop-left-preserved c =
     let w = c.loop-left in
     let l = at_turn (goal.at.loop-left-preserved c).After-lowest32-i in
     let u = c.unknown.ensures in
-    (rw c.without32-left-in-loop-left.ensures (left_next _ w.invariant.0), rw c.without32-left-in-loop-left.ensures (mending_next p.0 _ _ l.0 l.1 l.2 u.1 u.0 c.row_among-lost.ensures c.alone.ensures w.invariant.1))
+    (rw c.without32-left-in-loop-left.ensures (left_next _ w.invariant.0), rw c.without32-left-in-loop-left.ensures (mending_next p.0 _ _ l.0 l.1 l.2 u.fits u.is c.row_among-lost.ensures c.alone.ensures w.invariant.1))
 
 pub returns : goal.returns
 returns c = mending_end c.loop-left-test.false c.loop-left.invariant.1

@@ -29,7 +29,7 @@ has16-requires c = search rules
 
 pub returns-then-not-has16 : goal.returns-then-not-has16
 unfolding step_at
-returns-then-not-has16 c = sym (value_off c.requires.0 _ _ (sym c.has16.ensures ∙ not-true _ c.if-not-has16.true))
+returns-then-not-has16 c = sym (value_off c.requires.0 _ _ (sym c.has16.ensures ∙ c.if-not-has16.true))
 
 pub loop-k-init : goal.loop-k-init
 unfolding step_at

@@ -15,7 +15,7 @@ use Rattle.waiting_unsupported.proofs.Search.{value_off}
 use Rattle.waiting_unsupported.proofs.unsupported_value.Given as goal
 
 abbrev pub invariant-loop-k : goal.invariant-loop-k
-invariant-loop-k l = (l.k ≤ 32) × (first l.k (λ l.k. step_if (unsupported (held l.t) (state_of (sets l.active l.on)) l.i l.b l.k) (Unsupported l.i l.b l.k)) ≡ Nothing)
+invariant-loop-k l = (l.k ≤ 32) × (first l.k (λ m. step_if (unsupported (held l.t) (state_of (sets l.active l.on)) l.i l.b m) (Unsupported l.i l.b m)) ≡ Nothing)
 
 abbrev pub decreases-loop-k : goal.decreases-loop-k
 decreases-loop-k l = 32 - l.k

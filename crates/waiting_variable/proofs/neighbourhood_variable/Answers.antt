@@ -29,7 +29,7 @@ neighbourhood_rests-found-requires c = let p = c.requires in (p.0, bit_value p.0
 pub returns-then-found-ne0 : goal.returns-then-found-ne0
 returns-then-found-ne0 c =
     let w = c.loop-left.invariant in
-    (seeking_hit _ _ 4 _ w.0 c.lowest16-b.ensures (at_turn (goal.at.returns-then-found-ne0 c).After-lowest16-b).0 (neighbourhood_found c.requires.0 _ _ _ c.neighbourhood_rests-found.ensures (search rules) c.if-found-ne0.true c.lowest16.ensures), w.1)
+    record { is = seeking_hit _ _ 4 _ w.0 c.lowest16-b.ensures (at_turn (goal.at.returns-then-found-ne0 c).After-lowest16-b).0 (neighbourhood_found c.requires.0 _ _ _ c.neighbourhood_rests-found.ensures (search rules) c.if-found-ne0.true c.lowest16.ensures); waits = w.1 }
 
 pub learn-requires : goal.learn-requires
 learn-requires c = let w = c.loop-left.invariant.1 in (omega arith, c.requires.2, (at_turn (goal.at.learn-requires c).After-lowest16-b).0, w.narrow, w.long)
@@ -48,7 +48,7 @@ loop-left-preserved c =
     (values_next p.0 _ p.2 4 3 (omega arith) (neighbourhood_made p.0 _) _ w.0 w.1 (at_turn (goal.at.loop-left-preserved c).After-lowest16-b).0 c.learn.ensures (search rules) (c.neighbourhood_rests-found.ensures.fails c.if-found-ne0.false))
 
 pub returns : goal.returns
-returns c = let w = c.loop-left.invariant in (seeking_end _ _ 4 _ w.0 c.loop-left-test.false, w.1)
+returns c = let w = c.loop-left.invariant in record { is = seeking_end _ _ 4 _ w.0 c.loop-left-test.false; waits = w.1 }
 
 pub pending_of-requires : goal.pending_of-requires
 pending_of-requires c = let p = c.requires in (omega arith, p.2, p.1.narrow)

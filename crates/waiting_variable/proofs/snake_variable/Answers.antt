@@ -28,7 +28,7 @@ snake_rests-fails-requires c = let p = c.requires in let v = at_turn (goal.at.sn
 pub returns-then-fails-eq0 : goal.returns-then-fails-eq0
 returns-then-fails-eq0 c =
     let w = c.loop-left.invariant in
-    (seeking_hit _ _ 2 _ w.0 c.lowest16-v.ensures (at_turn (goal.at.returns-then-fails-eq0 c).After-lowest16-v).0 (snake_found c.requires.0 _ _ (c.snake_rests-fails.ensures.holds c.if-fails-eq0.true)), w.1)
+    record { is = seeking_hit _ _ 2 _ w.0 c.lowest16-v.ensures (at_turn (goal.at.returns-then-fails-eq0 c).After-lowest16-v).0 (snake_found c.requires.0 _ _ (c.snake_rests-fails.ensures.holds c.if-fails-eq0.true)); waits = w.1 }
 
 pub learn-requires : goal.learn-requires
 learn-requires c = let w = c.loop-left.invariant.1 in (omega arith, c.requires.2, (at_turn (goal.at.learn-requires c).After-lowest16-v).0, w.narrow, w.long)
@@ -47,7 +47,7 @@ loop-left-preserved c =
     (values_next p.0 _ p.2 2 0 (omega arith) (snake_made p.0 _) _ w.0 w.1 (at_turn (goal.at.loop-left-preserved c).After-lowest16-v).0 c.learn.ensures (search rules) (c.snake_rests-fails.ensures.fails c.if-fails-eq0.false))
 
 pub returns : goal.returns
-returns c = let w = c.loop-left.invariant in (seeking_end _ _ 2 _ w.0 c.loop-left-test.false, w.1)
+returns c = let w = c.loop-left.invariant in record { is = seeking_end _ _ 2 _ w.0 c.loop-left-test.false; waits = w.1 }
 
 pub pending_of-requires : goal.pending_of-requires
 pending_of-requires c = let p = c.requires in (omega arith, p.2, p.1.narrow)

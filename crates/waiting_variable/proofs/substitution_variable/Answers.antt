@@ -14,7 +14,7 @@ use Rattle.waiting_variable.proofs.substitution_variable.Goals.{After-lowest_sub
 pub returns-then-has16-on : goal.returns-then-has16-on
 returns-then-has16-on c =
     let p = c.requires in
-    (sym (goals_none p.0 _ p.2 p.1 c.pending_of.result c.has16.result c.pending_of.ensures c.has16.ensures c.if-has16-on.true), p.1)
+    record { is = sym (goals_none p.0 _ p.2 p.1 c.pending_of.result c.has16.result c.pending_of.ensures c.has16.ensures c.if-has16-on.true); waits = p.1 }
 
 -- what the goals left say
 lowest : (c : After-lowest_substitution-found) → let a = c.args in
@@ -22,13 +22,13 @@ lowest : (c : After-lowest_substitution-found) → let a = c.args in
 lowest c = let p = c.requires in c.lowest_substitution-found.ensures ∙ goals_first p.0 _ p.2 c.substitution_rests-rests.ensures
 
 pub returns-then-is_step : goal.returns-then-is_step
-returns-then-is_step c = (lowest (goal.at.returns-then-is_step c).After-lowest_substitution-found, c.requires.1)
+returns-then-is_step c = record { is = lowest (goal.at.returns-then-is_step c).After-lowest_substitution-found; waits = c.requires.1 }
 
 pub returns : goal.returns
 returns c =
     let p = c.requires in
     let none = sym (lowest (goal.at.returns c).After-lowest_substitution-found) ∙ nothing_is _ (sym c.is_step.ensures ∙ c.if-is_step.false) in
-    (sym none, waits_learned p.1 4 _ 0 (omega arith) p.2 (omega arith) c.learn.ensures (goals_rest p.0 _ p.2 c.substitution_rests-rests.ensures none) (search rules))
+    record { is = sym none; waits = waits_learned p.1 4 _ 0 (omega arith) p.2 (omega arith) c.learn.ensures (goals_rest p.0 _ p.2 c.substitution_rests-rests.ensures none) (search rules) }
 
 pub pending_of-requires : goal.pending_of-requires
 pending_of-requires c = let p = c.requires in (omega arith, p.2, p.1.narrow)

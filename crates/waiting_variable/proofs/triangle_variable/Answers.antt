@@ -25,7 +25,7 @@ at_turn c =
     at_lowest a.active c.pending_triangles.result a.i c.requires.2 c.loop-left-test.true c.lowest32-j.ensures c.without32-left.ensures c.loop-left.invariant.0.left
 
 pub returns-then-not-has32 : goal.returns-then-not-has32
-returns-then-not-has32 c = let p = c.requires in (sym (triangles_off p.0 _ p.2 (sym c.has32.ensures ∙ not-true _ c.if-not-has32.true)), p.1)
+returns-then-not-has32 c = let p = c.requires in record { is = sym (triangles_off p.0 _ p.2 (sym c.has32.ensures ∙ c.if-not-has32.true)); waits = p.1 }
 
 pub loop-left-init : goal.loop-left-init
 loop-left-init c = let p = c.requires in (rw c.without32-left.ensures (triangles_first p.0 _ p.2 c.pending_triangles.ensures p.1), p.1)
@@ -34,12 +34,12 @@ pub triangle_rests-found-requires : goal.triangle_rests-found-requires
 triangle_rests-found-requires c =
     let p = c.requires in
     let j = at_turn (goal.at.triangle_rests-found-requires c).After-lowest32-j in
-    (p.0, p.2, j.0, j.1, sym c.has32.ensures ∙ not-false _ c.if-not-has32.false, T_true _ j.4)
+    (p.0, p.2, j.0, j.1, sym c.has32.ensures ∙ c.if-not-has32.false, T_true _ j.4)
 
 pub returns-then-found-eq16 : goal.returns-then-found-eq16
 returns-then-found-eq16 c =
     let w = c.loop-left.invariant in
-    (seeking_hit _ _ 3 _ w.0 c.lowest32-j.ensures (at_turn (goal.at.returns-then-found-eq16 c).After-lowest32-j).0 (triangle_found c.requires.0 _ _ (c.triangle_rests-found.ensures.holds c.if-found-eq16.true)), w.1)
+    record { is = seeking_hit _ _ 3 _ w.0 c.lowest32-j.ensures (at_turn (goal.at.returns-then-found-eq16 c).After-lowest32-j).0 (triangle_found c.requires.0 _ _ (c.triangle_rests-found.ensures.holds c.if-found-eq16.true)); waits = w.1 }
 
 pub learn_triangle-requires : goal.learn_triangle-requires
 learn_triangle-requires c =
@@ -62,7 +62,7 @@ loop-left-preserved c =
     (triangles_next p.0 _ p.2 _ w.0 w.1 (at_turn (goal.at.loop-left-preserved c).After-lowest32-j).0 c.learn_triangle.ensures (search rules) c.triangle_rests-found.ensures c.if-found-eq16.false)
 
 pub returns : goal.returns
-returns c = let w = c.loop-left.invariant in (seeking_end _ _ 3 _ w.0 c.loop-left-test.false, w.1)
+returns c = let w = c.loop-left.invariant in record { is = seeking_end _ _ 3 _ w.0 c.loop-left-test.false; waits = w.1 }
 
 pub pending_triangles-requires : goal.pending_triangles-requires
 pending_triangles-requires c = let p = c.requires in (p.2, p.1.narrow)
