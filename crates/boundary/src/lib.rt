@@ -1,5 +1,6 @@
 // The bytes of a state at the C boundary, and the numbers that are the boundary's own.
 #![tactic(auto)]
+
 ghost use Rattle.std.specs.Prelude.{◌≡◌, length};
 ghost use Rattle.boundary.specs.State.{state_length, masks_bytes, masks_in};
 ghost use Rattle.boundary.specs.Numbers.{bad_state, bad_hand_state};

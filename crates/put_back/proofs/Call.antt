@@ -1,7 +1,7 @@
 -- Exported putting back, from what the job answers; what its refusal carries has room. Assumes nothing.
 use mathlib.Core.Path.{◌≡◌, sym, ◌∙◌}
 use mathlib.Core.List.{List}
-use Prim.Native.Nat.{ℕ, ◌-◌, ◌<◌}
+use Prim.Native.Nat.{ℕ, ◌<◌}
 use Rattle.put_back.specs.PutBack.{put_back_job}
 use Rattle.put_back.specs.declared.PutBackOutcome.{PutBackOutcome}
 use Rattle.put_back.specs.Call.{back_number, put_back_call, unlawful_fields, FieldsFit}

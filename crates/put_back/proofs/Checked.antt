@@ -20,11 +20,11 @@ use Rattle.problem.proofs.Reflect.{full_fits}
 use Rattle.problem.specs.Sentences.{Fits}
 use Rattle.problem.proofs.Trace.{trace_iff, trace_fits}
 use Rattle.problem.proofs.Spoiler.{names_iff}
-use Rattle.problem.specs.Causes.{CoverAlone, BreaksAt}
+use Rattle.problem.specs.Causes.{BreaksAt}
 use Rattle.buffers.specs.Bytes.{byte_at}
 use Rattle.trace.specs.Trace.{record_bytes, records_bytes, trace_bytes, record_at}
 use Rattle.put_back.specs.Causes.{NoRecord, Carried}
-use Rattle.put_back.specs.PutBack.{Checked, Lawful, Faulty, unnamed, unlawful_record, with_record, check_from, check_trace}
+use Rattle.put_back.specs.PutBack.{Checked, Lawful, Faulty, unlawful_record, with_record, check_from, check_trace}
 use Rattle.trace.specs.declared.RecordRead.{RecordRead}
 use Rattle.trace.specs.declared.RecordRead.TheVariants.{Read, End, Malformed}
 use Rattle.put_back.specs.declared.PutBackRefusal.{PutBackRefusal}

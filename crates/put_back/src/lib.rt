@@ -1,5 +1,6 @@
 // Putting back, as a job: what it answers, the format's number for each refusal, and the number that a call from C answers.
 #![tactic(auto)]
+
 ghost use Rattle.std.specs.Prelude.{◌≡◌, ◌+◌, ◌*◌};
 ghost use Rattle.put_back.specs.Numbers.{put_back_refusal_number};
 ghost use Rattle.put_back.specs.PutBack.{unlawful_record};

@@ -3,5 +3,3 @@ pub mod Read
 pub mod Back
 pub mod Turns
 pub mod Place
-pub mod Steps
-pub mod Moves

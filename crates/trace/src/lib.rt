@@ -1,5 +1,6 @@
 // A trace's records: the reader that moves through them, what stands at a place, and one written at a place of a lent buffer.
 #![tactic(auto)]
+
 ghost use Rattle.std.specs.Prelude.{◌≡◌, ◌+◌, ◌<◌, ◌≤◌, length};
 ghost use Rattle.trace.specs.Trace.{record_bytes, numbered_at, record_at, Small};
 ghost use Rattle.buffers.specs.Written.{written};

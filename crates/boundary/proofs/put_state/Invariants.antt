@@ -1,15 +1,8 @@
-use Prim.Native.Nat.{ℕ, ◌+◌, ◌*◌, ◌%◌, ◌≤◌, ◌-◌}
-use mathlib.Core.Path.{◌≡◌, sym, ap, ◌∙◌}
-use mathlib.Core.List.{List}
-use native.Mathlib.Omega.{arith}
-use lib.ListN.{length, get_or, take}
-use mir.Val.{Fits}
-use mir.Syntax.{w32}
-use Rattle.buffers.specs.Bytes.{number_bytes, words_bytes}
+use Prim.Native.Nat.{◌≤◌, ◌-◌}
+use mathlib.Core.Path.{◌≡◌}
+use lib.ListN.{length, take}
+use Rattle.buffers.specs.Bytes.{words_bytes}
 use Rattle.buffers.specs.Written.{written}
-use Rattle.boundary.proofs.Bytes.{state_put}
-use Rattle.buffers.proofs.Words.{words_none, words_put}
-use borrow.Author.Rules.{rules}
 use Rattle.boundary.proofs.put_state.Given as goal
 
 abbrev pub invariant-loop-i : goal.invariant-loop-i

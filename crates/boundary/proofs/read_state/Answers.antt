@@ -1,11 +1,8 @@
 -- `boundary::read_state`: a loop that fills the domains. Assumes nothing.
-use Prim.Native.Nat.{◌+◌, ◌*◌, ◌≤◌, ◌-◌}
-use mathlib.Core.Path.{◌≡◌, refl, sym, ap, ◌∙◌}
+use mathlib.Core.Path.{refl, sym, ap, ◌∙◌}
 use native.Mathlib.Omega.{arith}
 use lib.ListN.{length}
-use Rattle.bounded.specs.Table.{filled}
 use Rattle.bounded.proofs.Table.{filled_none, filled_more, filled_end}
-use Rattle.buffers.specs.Bytes.{number_at}
 use Rattle.problem.specs.declared.Masks.{Masks}
 use Rattle.boundary.specs.State.{masks_in}
 use borrow.Author.Rules.{rules}

@@ -4,7 +4,6 @@ use Prim.Native.Nat.{◌+◌, ◌*◌}
 use native.Mathlib.Omega.{arith}
 use Rattle.put_back.specs.Call.{back_number, BackFits}
 use Rattle.put_back.proofs.Call.{fields_small}
-use borrow.Author.Rules.{rules}
 use Rattle.put_back.proofs.put_back_answer.Goals as goal
 
 pub unlawful_fields-requires : goal.unlawful_fields-requires

@@ -2,7 +2,6 @@
 use mathlib.Core.Path.{sym, ap, subst}
 use native.Mathlib.Omega.{arith}
 use Rattle.put_back.specs.Call.{unlawful_fields, FieldsFit}
-use borrow.Author.Rules.{rules}
 use Rattle.put_back.proofs.unlawful_fields.Goals as goal
 
 pub overflow_mul-result : goal.overflow_mul-result

@@ -1,7 +1,6 @@
 -- `put_back::unlawful_record`. Assumes nothing.
 use mathlib.Core.Path.{sym, ap}
 use Rattle.put_back.specs.PutBack.{unlawful_record}
-use borrow.Author.Rules.{rules}
 use Rattle.put_back.proofs.unlawful_record.Goals as goal
 
 pub returns-in-At : goal.returns-in-At

@@ -1,6 +1,5 @@
 -- `trace::numbered_at`: the kind's record, from the three bytes after it. Assumes nothing.
 use mathlib.Core.Path.{◌∙◌}
-use borrow.Author.Rules.{rules}
 use Rattle.trace.proofs.numbered_at.Goals as goal
 
 pub returns : goal.returns

@@ -2,7 +2,6 @@
 use mathlib.Core.Path.{sym}
 use native.Mathlib.Omega.{arith}
 use Rattle.trace.proofs.Place.{after_byte, after_end, after_cut}
-use borrow.Author.Rules.{rules}
 use Rattle.trace.proofs.place_after.Goals as goal
 
 pub returns-then-s-at : goal.returns-then-s-at

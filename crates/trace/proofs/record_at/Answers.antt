@@ -5,7 +5,6 @@ use native.Mathlib.Omega.{arith}
 use Rattle.problem.proofs.Apart.{parts_few}
 use Rattle.trace.specs.declared.RecordRead.TheVariants.{Read}
 use Rattle.trace.proofs.Read.{at_end, at_cut, at_none, at_wrong, at_record}
-use borrow.Author.Rules.{rules}
 use Rattle.trace.proofs.record_at.Goals as goal
 
 pub returns-then-s-at : goal.returns-then-s-at

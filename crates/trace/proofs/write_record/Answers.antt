@@ -7,7 +7,6 @@ use Rattle.problem.proofs.Apart.{parts_few}
 use Rattle.buffers.specs.Written.{written}
 use Rattle.buffers.proofs.Written.{sets_written}
 use Rattle.trace.proofs.Parts.{small_parts, two_bytes, three_bytes}
-use borrow.Author.Rules.{rules}
 use Rattle.trace.proofs.write_record.Goals as goal
 
 pub returns-then-parts-eq2 : goal.returns-then-parts-eq2
