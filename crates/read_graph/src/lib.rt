@@ -1,5 +1,6 @@
 // Reading a colouring file in one pass: digits, lines, and what the lines come to.
 #![tactic(auto)]
+
 ghost use Rattle.std.specs.Prelude.{◌≡◌, [], ◌+◌, ◌<◌, ◌≤◌, length, get_or, drop};
 ghost use Rattle.graph.specs.Graph.{is_digit, is_outside, file_limit, begins as begins_with};
 ghost use Rattle.graph.specs.Scan.{line_in, turned_away, stepped, read_from};

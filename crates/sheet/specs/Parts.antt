@@ -1,5 +1,5 @@
 -- What the parts of the reader say to one another.
-use Rattle.std.specs.Prelude.{◌≡◌, cond, List, ℕ, ◌+◌, ◌-◌, ◌≤◌, ◌<◌, ltb, length}
+use Rattle.std.specs.Prelude.{◌≡◌, cond, List, ℕ, ◌+◌, ◌≤◌, ◌<◌, ltb, length}
 use Rattle.buffers.specs.Bytes.{byte_at}
 use Rattle.sheet.specs.Sheet.{Layout, variables_of, row_bytes}
 use Rattle.sheet.specs.Relation.{rows_of}

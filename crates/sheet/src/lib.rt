@@ -1,5 +1,6 @@
 // The sheet's layout: its types, the numbers of its refusals, and its rows read at a place.
 #![tactic(auto)]
+
 ghost use Rattle.std.specs.Prelude.{◌≡◌, ◌+◌, ◌*◌, ◌<◌, ◌≤◌, length};
 ghost use Rattle.buffers.specs.Bytes.{number_at, Is};
 ghost use Rattle.sheet.specs.Sheet.{layout, sheet_number, variables_of, row_width, Front};

@@ -1,10 +1,7 @@
 -- `read_graph::begins`: the word stands as far as was compared. Assumes nothing.
 use mathlib.Core.Path.{sym}
-use Prim.Native.Nat.{◌≤◌, ◌-◌}
-use lib.ListN.{length}
-use Rattle.read_graph.proofs.Laws.{Matching, word_start, word_cut, word_miss, word_turn, word_end}
+use Rattle.read_graph.proofs.Laws.{word_start, word_cut, word_miss, word_turn, word_end}
 use native.Mathlib.Omega.{arith}
-use borrow.Author.Rules.{rules}
 use Rattle.read_graph.proofs.begins.Goals as goal
 
 pub loop-k-init : goal.loop-k-init

@@ -1,7 +1,6 @@
 -- `read_graph::byte_at`: past the end stands a newline. Assumes nothing.
 use mathlib.Core.Path.{sym}
 use lib.ListN.{get_or-eq_default}
-use borrow.Author.Rules.{rules}
 use Rattle.read_graph.proofs.Laws.{get_d_any}
 use Rattle.read_graph.proofs.byte_at.Goals as goal
 

@@ -3,7 +3,6 @@ use mathlib.Core.Path.{◌≡◌, sym, ◌∙◌}
 use Prim.Native.Nat.{ℕ, ◌+◌}
 use Rattle.read_graph.proofs.Laws.{byte_within}
 use Rattle.read_graph.proofs.Found.{bad_here, edge_bad, edge_here}
-use borrow.Author.Rules.{rules}
 use native.Mathlib.Omega.{arith}
 use Rattle.read_graph.proofs.edge_line.Goals as goal
 

@@ -1,6 +1,5 @@
 -- `read_graph::ends_in_eight`: one of four, or of the next four. Assumes nothing.
 use mathlib.Core.Bool.{◌||◌}
-use borrow.Author.Rules.{rules}
 use Rattle.read_graph.proofs.ends_in_eight.Goals as goal
 
 pub returns : goal.returns

@@ -4,7 +4,6 @@ use Rattle.graph.proofs.Lines.{line_within}
 use lib.ListN.{length-drop, drop}
 use Rattle.read_graph.proofs.Laws.{get_d_any}
 use Rattle.read_graph.proofs.Found.{comment_here}
-use borrow.Author.Rules.{rules}
 use native.Mathlib.Omega.{arith}
 use Rattle.read_graph.proofs.line_at.Goals as goal
 

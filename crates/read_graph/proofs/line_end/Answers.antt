@@ -1,9 +1,5 @@
 -- `read_graph::line_end`: the bytes passed are the line's. Assumes nothing.
-use Prim.Native.Nat.{◌-◌}
-use lib.ListN.{length}
-use Rattle.read_graph.specs.Parts.{Passing}
 use Rattle.read_graph.proofs.Laws.{line_turn, line_hit, line_last}
-use borrow.Author.Rules.{rules}
 use Rattle.read_graph.proofs.line_end.Goals as goal
 
 pub loop-k-init : goal.loop-k-init

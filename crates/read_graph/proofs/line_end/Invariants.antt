@@ -1,8 +1,6 @@
 use Prim.Native.Nat.{◌-◌}
 use lib.ListN.{length}
 use Rattle.read_graph.specs.Parts.{Passing}
-use Rattle.read_graph.proofs.Laws.{line_turn, line_hit, line_last}
-use borrow.Author.Rules.{rules}
 use Rattle.read_graph.proofs.line_end.Given as goal
 
 abbrev pub invariant-loop-k : goal.invariant-loop-k

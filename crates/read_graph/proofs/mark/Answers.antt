@@ -1,7 +1,6 @@
 -- `read_graph::mark`: only an `e` line joins two vertices. Assumes nothing.
 use mathlib.Core.Path.{refl}
 use Rattle.read_graph.proofs.Marks.{unmarked_by}
-use borrow.Author.Rules.{rules}
 use Rattle.read_graph.proofs.mark.Goals as goal
 
 pub returns-in-Edge : goal.returns-in-Edge

@@ -4,7 +4,6 @@ use lib.ListN.{length-set}
 use native.Mathlib.Omega.{arith}
 use Rattle.read_graph.proofs.Marks.{inside, unmarked_by, outside_joins, pair_marked}
 use mathlib.Core.Path.{sym, ◌∙◌}
-use borrow.Author.Rules.{rules}
 use Rattle.read_graph.proofs.mark_pair.Goals as goal
 
 pub returns-then-is_outside : goal.returns-then-is_outside

@@ -1,11 +1,7 @@
 -- `read_graph::pass_eights`: eight bytes that end no line are the line's. Assumes nothing.
 use mathlib.Core.Path.{refl, sym, ◌∙◌}
-use Prim.Native.Nat.{◌-◌}
 use native.Mathlib.Omega.{arith}
-use lib.ListN.{length}
-use Rattle.read_graph.specs.Parts.{Passing}
 use Rattle.read_graph.proofs.Laws.{line_eight}
-use borrow.Author.Rules.{rules}
 use Rattle.read_graph.proofs.pass_eights.Goals as goal
 
 pub loop-k-init : goal.loop-k-init

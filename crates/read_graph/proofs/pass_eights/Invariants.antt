@@ -1,10 +1,6 @@
-use mathlib.Core.Path.{refl, sym, ◌∙◌}
 use Prim.Native.Nat.{◌-◌}
-use native.Mathlib.Omega.{arith}
 use lib.ListN.{length}
 use Rattle.read_graph.specs.Parts.{Passing}
-use Rattle.read_graph.proofs.Laws.{line_eight}
-use borrow.Author.Rules.{rules}
 use Rattle.read_graph.proofs.pass_eights.Given as goal
 
 abbrev pub invariant-loop-k : goal.invariant-loop-k

@@ -1,7 +1,6 @@
 -- `read_graph::read_graph`: the length first, then the lines. Assumes nothing.
 use mathlib.Core.Path.{refl, sym, ◌∙◌}
 use Rattle.graph.proofs.Reading.{read_long, read_short}
-use borrow.Author.Rules.{rules}
 use Rattle.read_graph.proofs.read_graph.Goals as goal
 
 pub returns-then-f-gt65536 : goal.returns-then-f-gt65536

@@ -2,11 +2,8 @@
 use native.Mathlib.Omega.{arith}
 use borrow.Author.Tests.{not-true, not-false}
 use Rattle.graph.specs.declared.Tally.{Tally}
-use Rattle.read_graph.proofs.Marks.{reading_rises, Reading, reading_starts, reading_away, reading_turns, reading_ends}
+use Rattle.read_graph.proofs.Marks.{reading_rises, reading_starts, reading_away, reading_turns, reading_ends}
 use mathlib.Core.Path.{refl, sym, ap, ◌∙◌}
-use Prim.Native.Nat.{◌+◌, ◌-◌}
-use lib.ListN.{length}
-use borrow.Author.Rules.{rules}
 use Rattle.read_graph.proofs.read_lines.Goals as goal
 
 pub loop-p-init : goal.loop-p-init

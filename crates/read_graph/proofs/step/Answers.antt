@@ -1,6 +1,5 @@
 -- `read_graph::step`: each arm's line is the line. Assumes nothing.
 use Rattle.graph.specs.Scan.{stepped}
-use borrow.Author.Rules.{rules}
 use Rattle.read_graph.proofs.step.Goals as goal
 
 pub returns-in-Comment : goal.returns-in-Comment

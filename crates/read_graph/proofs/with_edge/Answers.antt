@@ -3,7 +3,6 @@ use mathlib.Core.Path.{sym, ◌∙◌}
 use Rattle.read_graph.proofs.Marks.{in_place_lem, out_of_range, unsized}
 use borrow.Author.Tests.{not-true, not-false}
 use Rattle.graph.proofs.Reading.{step_edge, step_astray}
-use borrow.Author.Rules.{rules}
 use Rattle.read_graph.proofs.with_edge.Goals as goal
 
 pub returns-then-not-g : goal.returns-then-not-g

@@ -1,7 +1,6 @@
 -- `read_graph::with_size`: a second `p` line turns the file away. Assumes nothing.
 use mathlib.Core.Path.{sym, ◌∙◌}
 use Rattle.graph.proofs.Reading.{step_size, step_again}
-use borrow.Author.Rules.{rules}
 use Rattle.read_graph.proofs.with_size.Goals as goal
 
 pub returns-then-g : goal.returns-then-g

@@ -10,13 +10,13 @@ use Rattle.sheet.proofs.Laws.{in_order_lem, Whole, whole, blocks_fault, blocks_n
 use Rattle.read_sheet.proofs.Stores.{clear_local}
 use Rattle.read_sheet.proofs.Pass.{Pass, pass_first, pass_more, pass_end, refused_block}
 use Rattle.read_sheet.proofs.blocks.Goals as goal
-use Rattle.read_sheet.proofs.blocks.Goals.{In-Next-2}
+use Rattle.read_sheet.proofs.blocks.Goals.{In-Next}
 
 -- the block that was met is good, and its rows are read
-block : (c : In-Next-2) → let l = c.loop-left in Whole layout c.args.s.now l.least l.at c.in-Next.l c.in-Next.a
-block c = whole _ _ _ _ _ _ (sym c.block_at.ensures.0 ∙ c.in-Next.is)
+block : (c : In-Next) → let l = c.loop-left in Whole layout c.args.s.now l.least l.at c.in-Next.l c.in-Next.a
+block c = whole _ _ _ _ _ _ (sym c.block_at.ensures.answer ∙ c.in-Next.is)
 
-pair : (c : In-Next-2) → let s = c.args.s.now in let p = c.loop-left.at in (byte_at s p < byte_at s (p + 1)) × (byte_at s (p + 1) < 32)
+pair : (c : In-Next) → let s = c.args.s.now in let p = c.loop-left.at in (byte_at s p < byte_at s (p + 1)) × (byte_at s (p + 1) < 32)
 pair c =
     let s = c.args.s.now in
     let l = c.loop-left in
@@ -45,20 +45,21 @@ pub returns-in-Fault : goal.returns-in-Fault
 returns-in-Fault c =
     let s = c.args.s.now in
     let l = c.loop-left in
-    refused_block s _ _ (sym (l.invariant.0 ∙ blocks_fault layout s l.left l.least l.at c.loop-left-test.true _ (sym c.block_at.ensures.0 ∙ c.in-Fault.is)))
+    let q = refused_block s _ _ (sym (l.invariant.0 ∙ blocks_fault layout s l.left l.least l.at c.loop-left-test.true _ (sym c.block_at.ensures.answer ∙ c.in-Fault.is))) in
+    record { answer = q.0; filled = q.1 }
 
 pub byte-requires : goal.byte-requires
-byte-requires c = let h = (block (goal.at.byte-requires c).In-Next-2).within in omega arith
+byte-requires c = let h = (block (goal.at.byte-requires c).In-Next).within in omega arith
 
 pub overflow_add-at-in-Next : goal.overflow_add-at-in-Next
-overflow_add-at-in-Next c = let h = (block (goal.at.overflow_add-at-in-Next c).In-Next-2).within in search rules
+overflow_add-at-in-Next c = let h = (block (goal.at.overflow_add-at-in-Next c).In-Next).within in search rules
 
 pub byte-requires-in-Next : goal.byte-requires-in-Next
-byte-requires-in-Next c = let h = (block (goal.at.byte-requires-in-Next c).In-Next-2).within in omega arith
+byte-requires-in-Next c = let h = (block (goal.at.byte-requires-in-Next c).In-Next).within in omega arith
 
 pub enter-requires : goal.enter-requires
 enter-requires c =
-    let o = pair (goal.at.enter-requires c).In-Next-2 in
+    let o = pair (goal.at.enter-requires c).In-Next in
     rw (c.byte-in-Next.ensures.is, c.byte.ensures.is) (c.loop-left.invariant.2.located, o.0, o.1)
 
 pub overflow_sub-left : goal.overflow_sub-left
@@ -72,13 +73,13 @@ loop-left-preserved c =
     let s = c.args.s.now in
     let l = c.loop-left in
     let h = c.loop-left-test.true in
-    let w = block (goal.at.loop-left-preserved c).In-Next-2 in
+    let w = block (goal.at.loop-left-preserved c).In-Next in
     let n = w.next in
     let m = w.within in
     let e = rw (c.byte-in-Next.ensures.is, c.byte.ensures.is) at c.enter.ensures in (
-      l.invariant.0 ∙ blocks_next layout s l.left l.least l.at h _ _ (sym c.block_at.ensures.0 ∙ c.in-Next.is),
+      l.invariant.0 ∙ blocks_next layout s l.left l.least l.at h _ _ (sym c.block_at.ensures.answer ∙ c.in-Next.is),
       omega arith,
-      pass_more s l.t _ l.left l.least l.at _ _ _ h c.requires.0 w (c.block_at.ensures.1.rows _ _ c.in-Next.is) e l.invariant.2,
+      pass_more s l.t _ l.left l.least l.at _ _ _ h c.requires.0 w (c.block_at.ensures.rows.rows _ _ c.in-Next.is) e l.invariant.2,
     )
 
 pub after_blocks-requires : goal.after_blocks-requires
@@ -91,7 +92,7 @@ pub returns : goal.returns
 returns c =
     let l = c.loop-left in
     let s = c.args.s.now in
-    let e : l.left ≡ 0 = omega arith in (
-      c.after_blocks.ensures l.least ∙ sym (l.invariant.0 ∙ ap (λ (x : ℕ). blocks_from layout s x l.least l.at) e),
-      λ y. pass_end s _ l.left l.least l.at e y l.invariant.2,
-    )
+    let e : l.left ≡ 0 = omega arith in record {
+      answer = c.after_blocks.ensures l.least ∙ sym (l.invariant.0 ∙ ap (λ (x : ℕ). blocks_from layout s x l.least l.at) e);
+      filled = λ y. pass_end s _ l.left l.least l.at e y l.invariant.2;
+    }

@@ -24,11 +24,11 @@ block_at-requires c = (c.requires, c.loop-left.invariant.1, clear_local)
 pub returns-in-Fault : goal.returns-in-Fault
 returns-in-Fault c =
     let l = c.loop-left in
-    sym (l.invariant.0 ∙ blocks_fault _ _ _ _ _ c.loop-left-test.true _ (sym c.block_at.ensures.0 ∙ c.in-Fault.is))
+    sym (l.invariant.0 ∙ blocks_fault _ _ _ _ _ c.loop-left-test.true _ (sym c.block_at.ensures.answer ∙ c.in-Fault.is))
 
 pub loop-left-preserved : goal.loop-left-preserved
 loop-left-preserved c =
-    let e = sym c.block_at.ensures.0 ∙ c.in-Next.is in
+    let e = sym c.block_at.ensures.answer ∙ c.in-Next.is in
     let w = whole _ _ _ _ _ _ e in
     let n = w.next in
     let m = w.within in

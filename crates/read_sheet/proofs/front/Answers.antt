@@ -16,23 +16,23 @@ tested : (t : Bool) (c : After-takes) → c.takes.result ≡ t → layout.takes 
 tested t c e = ap layout.takes (sym c.byte.ensures.is) ∙ sym c.takes.ensures ∙ e
 
 version : (c : Else-not-takes) → layout.takes (version_of c.args.s.now) ≡ true
-version c = tested true c (not-false _ c.if-not-takes.false)
+version c = ap layout.takes (sym c.byte.ensures.is) ∙ sym c.takes.ensures ∙ c.if-not-takes.false
 
 -- and that of the sizes
 sizes : (t : Bool) (c : After-bad_sizes) → c.bad_sizes.result ≡ t → bad_sizes layout c.args.s.now (variables_of c.args.s.now) 8 ≡ t
 sizes t c e = ap (λ (n : ℕ). bad_sizes layout c.args.s.now n 8) (sym c.byte-n.ensures.is) ∙ sym c.bad_sizes.ensures ∙ e
 
-good_front : (c : Else-bad_sizes) → Front c.args.s.now
-good_front c =
+good_front : (c : Else-bad_sizes) → bad_sizes layout c.args.s.now (variables_of c.args.s.now) 8 ≡ false → Front c.args.s.now
+good_front c e =
     let s = c.args.s.now in
     let f : c.byte-n.result ≡ 0 → ⊥ = c.if-n-eq0.false in
-    record { some = omega arith; few = omega arith; room = omega arith; sizes = good_sizes layout s (variables_of s) 8 (sizes false c c.if-bad_sizes.false) }
+    record { some = omega arith; few = omega arith; room = omega arith; sizes = good_sizes layout s (variables_of s) 8 e }
 
 pub returns-then-s-lt8 : goal.returns-then-s-lt8
 returns-then-s-lt8 c = front_refused _ _ (sheet_short _ _ (omega arith))
 
 pub returns-then-not-takes : goal.returns-then-not-takes
-returns-then-not-takes c = front_refused _ _ (sheet_version _ _ (omega arith) (tested false (goal.at.returns-then-not-takes c).After-takes (not-true _ c.if-not-takes.true)))
+returns-then-not-takes c = front_refused _ _ (sheet_version _ _ (omega arith) (tested false (goal.at.returns-then-not-takes c).After-takes (c.if-not-takes.true)))
 
 pub returns-then-long-s : goal.returns-then-long-s
 returns-then-long-s c = front_refused _ _ (sheet_length _ _ (omega arith) (version (goal.at.returns-then-long-s c).Else-not-takes) (λ e. c.if-long-s.true (omega arith)))
@@ -55,7 +55,8 @@ returns-then-bad_sizes c =
 
 pub returns : goal.returns
 returns c =
-    let f = good_front (goal.at.returns c).Else-bad_sizes in
+    let e = sizes false (goal.at.returns c).After-bad_sizes c.if-bad_sizes.false in
+    let f = good_front (goal.at.returns c).Else-bad_sizes e in
     let s = c.args.s.now in
     front_good s _ _ f
-    (sheet_blocks layout s (omega arith) (version (goal.at.returns c).Else-not-takes) (omega arith) f.some f.few f.room (sizes false (goal.at.returns c).After-bad_sizes c.if-bad_sizes.false))
+    (sheet_blocks layout s (omega arith) (version (goal.at.returns c).Else-not-takes) (omega arith) f.some f.few f.room e)

@@ -8,9 +8,11 @@ pub fill-requires : goal.fill-requires
 fill-requires c = ((c.front.ensures.good _ _ c.in-Accepted.is).0, c.requires)
 
 pub returns-in-Refused : goal.returns-in-Refused
-returns-in-Refused c = refused _ _ _ (sym (c.front.ensures.refused _ c.in-Refused.is))
+returns-in-Refused c =
+    let q = refused c.args.s.now _ _ (sym (c.front.ensures.refused _ c.in-Refused.is)) in
+    record { answer = q.0; filled = q.1 }
 
 pub returns-in-Accepted : goal.returns-in-Accepted
 returns-in-Accepted c =
     let f = c.fill.ensures in
-    (f.0 ∙ sym (c.front.ensures.good _ _ c.in-Accepted.is).1, f.1)
+    record { answer = f.answer ∙ sym (c.front.ensures.good _ _ c.in-Accepted.is).1; filled = f.filled }

@@ -2,7 +2,6 @@
 use mathlib.Core.Path.{ap, ◌∙◌}
 use Prim.Native.Nat.{ℕ}
 use Rattle.sheet.specs.Sheet.{layout, version_of}
-use borrow.Author.Rules.{rules}
 use Rattle.sheet.proofs.width_of.Goals as goal
 
 pub returns : goal.returns

@@ -4,18 +4,19 @@ use Prim.Native.Nat.{ℕ, ◌+◌, ◌-◌, ◌≤◌, ◌<◌}
 use native.Mathlib.Omega.{arith}
 use lib.ListN.{length, get_or}
 use borrow.Author.Rules.{rules}
+use Rattle.problem.specs.Held.{table_length}
 use Rattle.table.specs.Parts.{Wrote}
 use Rattle.table.proofs.Stores.{wrote_none, wrote_more, wrote_places}
 use Rattle.table.proofs.copy_places.Goals as goal
 
 -- the entry is within the table
-inside : (c : tie.Start invariant_loop decreases_loop) (n k : ℕ) → n ≡ length c.args.t.now → k < 1024 → 32 + k < n
-inside c n k e l = let p = c.requires.0 in omega arith
+inside : (m n k : ℕ) → m ≡ table_length → n ≡ m → k < 1024 → 32 + k < n
+inside m n k p e l = omega arith
 
 pub bounds-t-k : goal.bounds-t-k
 bounds-t-k c =
     let l = c.loop-k in
-    inside c _ _ l.invariant.1.long c.loop-k-test.true
+    inside _ _ _ c.requires.0 l.invariant.1.long c.loop-k-test.true
 
 pub loop-k-init : goal.loop-k-init
 loop-k-init c = (omega arith, wrote_none _ _ _)
@@ -24,7 +25,7 @@ pub loop-k-smaller : goal.loop-k-smaller
 loop-k-smaller c = omega arith
 
 pub loop-k-preserved : goal.loop-k-preserved
-loop-k-preserved c = let l = c.loop-k in (omega arith, wrote_more _ _ _ _ _ _ (inside c _ _ refl c.loop-k-test.true) refl l.invariant.1)
+loop-k-preserved c = let l = c.loop-k in (omega arith, wrote_more _ _ _ _ _ _ (inside _ _ _ c.requires.0 refl c.loop-k-test.true) refl l.invariant.1)
 
 pub shape_of-t : goal.shape_of-t
 shape_of-t c = c.loop-k.invariant.1.long

@@ -9,13 +9,13 @@ use Rattle.table.proofs.Stores.{wrote_none, wrote_more}
 use Rattle.table.proofs.put_rows.Goals as goal
 
 -- the place is within the table
-inside : (c : tie.Start invariant_loop decreases_loop) (n a : ℕ) → n ≡ length c.args.t.now → a < 16 → c.args.at + a < n
-inside c n a e l = let p = c.requires in omega arith
+inside : (at m n a : ℕ) → at + 16 ≤ m → n ≡ m → a < 16 → at + a < n
+inside at m n a p e l = omega arith
 
 pub bounds-t-at : goal.bounds-t-at
 bounds-t-at c =
     let l = c.loop-a in
-    inside c _ _ l.invariant.1.long c.loop-a-test.true
+    inside _ _ _ _ c.requires l.invariant.1.long c.loop-a-test.true
 
 pub loop-a-init : goal.loop-a-init
 loop-a-init c = (omega arith, wrote_none _ _ _)
@@ -24,7 +24,7 @@ pub loop-a-smaller : goal.loop-a-smaller
 loop-a-smaller c = omega arith
 
 pub loop-a-preserved : goal.loop-a-preserved
-loop-a-preserved c = let l = c.loop-a in (omega arith, wrote_more _ _ _ _ _ _ (inside c _ _ refl c.loop-a-test.true) refl l.invariant.1)
+loop-a-preserved c = let l = c.loop-a in (omega arith, wrote_more _ _ _ _ _ _ (inside _ _ _ _ c.requires refl c.loop-a-test.true) refl l.invariant.1)
 
 pub shape_of-t : goal.shape_of-t
 shape_of-t c = c.loop-a.invariant.1.long
