@@ -1,6 +1,7 @@
 // Bytes, decimal numbers and the fields of a line, those of a step among them, written into a lent buffer at a place. Each function answers
 // the place after its text.
 #![tactic(auto)]
+
 ghost use Rattle.std.specs.Prelude.{◌≡◌, ◌∷◌, ◌++◌, [], ◌+◌, ◌<◌, ◌≤◌, length};
 ghost use Rattle.problem.specs.Record.{fields_of};
 ghost use Rattle.fields.specs.Print.{decimal, field, fields_text};

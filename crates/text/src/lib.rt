@@ -1,5 +1,6 @@
 // The program's lines, written into a lent buffer at a place. Each function answers the place after its text.
 #![tactic(auto)]
+
 ghost use Rattle.std.specs.Prelude.{◌≡◌, ◌∷◌, ◌++◌, [], ◌+◌, ◌<◌, ◌≤◌, length};
 ghost use Rattle.fields.specs.Print.{decimal, field, sheet_word, step_word, step_text, step_line, end_word, refused_line};
 ghost use Rattle.trace.specs.Trace.{Small};

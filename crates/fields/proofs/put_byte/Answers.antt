@@ -6,4 +6,4 @@ use borrow.Author.Rules.{rules}
 use Rattle.fields.proofs.put_byte.Goals as goal
 
 pub returns : goal.returns
-returns c = (written_one c.args.out.now c.args.at c.args.v (omega arith), refl)
+returns c = record { text = (written_one c.args.out.now c.args.at c.args.v (omega arith), refl) }

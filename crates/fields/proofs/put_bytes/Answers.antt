@@ -21,7 +21,7 @@ pub shape_of-out : goal.shape_of-out
 shape_of-out c = c.loop-j.invariant.1.0
 
 pub returns : goal.returns
-returns c = let a = c.args in paste_end a.out.now c.loop-j.out a.at a.w.now c.loop-j.j (omega arith) c.loop-j.invariant.1.1
+returns c = let a = c.args in record { text = paste_end a.out.now c.loop-j.out a.at a.w.now c.loop-j.j (omega arith) c.loop-j.invariant.1.1 }
 
 pub bounds-w-j : goal.bounds-w-j
 bounds-w-j c = omega arith

@@ -12,4 +12,4 @@ returns c =
     let s = c.put_byte-p in
     let d = c.put_decimal in
     let room_s : s.result ≤ length a.out.now = omega arith in
-    ((after _ _ _ _ _ _ _ _ s.ensures d.ensures.0 room_s), omega arith)
+    record { text = after _ _ _ _ _ _ _ _ s.ensures.text d.ensures.text room_s; within = omega arith }

@@ -27,7 +27,7 @@ returns-then-parts-eq2 c =
     let g = c.put_field-q in
     let room_f : f.result ≤ length a.out.now = omega arith in
     let e = two_text _ _ ∙ ap fields_text (parts_two p.result a.r p.ensures c.if-parts-eq2.true) in
-    (same_text _ _ _ _ _ _ e (after _ _ _ _ _ _ _ _ f.ensures.0 g.ensures.0 room_f), omega arith)
+    record { text = same_text _ _ _ _ _ _ e (after _ _ _ _ _ _ _ _ f.ensures.text g.ensures.text room_f); within = omega arith }
 
 pub returns : goal.returns
 returns c =
@@ -37,9 +37,9 @@ returns c =
     let g = c.put_field-q in
     let h = c.put_field in
     let room_f : f.result ≤ length a.out.now = omega arith in
-    let room_g : g.result ≤ length f.new.0 = omega arith in
+    let room_g : g.result ≤ length f.new.out = omega arith in
     let e = three_text _ _ _ ∙ ap fields_text (parts_three p.result a.r p.ensures (λ e. c.if-parts-eq2.false e)) in
-    (same_text _ _ _ _ _ _ e (after _ _ _ _ _ _ _ _ f.ensures.0 (after _ _ _ _ _ _ _ _ g.ensures.0 h.ensures.0 room_g) room_f), omega arith)
+    record { text = same_text _ _ _ _ _ _ e (after _ _ _ _ _ _ _ _ f.ensures.text (after _ _ _ _ _ _ _ _ g.ensures.text h.ensures.text room_g) room_f); within = omega arith }
 
 pub put_field-p-requires : goal.put_field-p-requires
 put_field-p-requires c = let s = small_parts _ c.args.r c.parts_of-parts.ensures c.requires.1 in (omega arith, omega arith)

@@ -15,6 +15,6 @@ returns c =
     let h = c.put_field-s in
     let e = c.put_byte in
     let room_f : f.result ≤ length a.out.now = omega (arith, room) in
-    let room_g : g.result ≤ length f.new.0 = omega (arith, room) in
-    let room_h : h.result ≤ length g.new.0 = omega (arith, room) in
-    (after _ _ _ _ _ _ _ _ f.ensures.0 (after _ _ _ _ _ _ _ _ g.ensures.0 (after _ _ _ _ _ _ _ _ h.ensures.0 e.ensures room_h) room_g) room_f, omega (arith, room))
+    let room_g : g.result ≤ length f.new.out = omega (arith, room) in
+    let room_h : h.result ≤ length g.new.out = omega (arith, room) in
+    record { text = after _ _ _ _ _ _ _ _ f.ensures.text (after _ _ _ _ _ _ _ _ g.ensures.text (after _ _ _ _ _ _ _ _ h.ensures.text e.ensures.text room_h) room_g) room_f; within = omega (arith, room) }

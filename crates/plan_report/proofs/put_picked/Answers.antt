@@ -17,4 +17,4 @@ returns c =
     let x = c.put_run-p in
     let y = c.put_found_line in
     let room : x.result ≤ length c.args.out.now = omega arith in
-    (picked_put c.args.s.now c.requires.0 _ _ _ _ _ _ c.requires.1.0 _ _ _ _ _ x.ensures.0 y.ensures.0 room, omega arith)
+    record { text = picked_put c.args.s.now c.requires.0 _ _ _ _ _ _ c.requires.1.0 _ _ _ _ _ x.ensures.text y.ensures.text room; within = omega arith }

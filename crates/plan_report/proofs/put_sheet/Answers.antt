@@ -30,4 +30,4 @@ returns-in-Refused c =
     let e = refused_lines a.s.now _ (sym c.read_sheet.ensures ∙ c.in-Refused.is) in
     let p = c.put_refused_line.ensures in
     let n = ap refused_line c.sheet_number.ensures ∙ e in
-    ((p.0.0 ∙ ap (written a.out.now 0) n, p.0.1 ∙ zero-add _ ∙ ap length n), omega arith)
+    record { text = (p.text.0 ∙ ap (written a.out.now 0) n, p.text.1 ∙ zero-add _ ∙ ap length n); within = omega arith }

@@ -18,18 +18,18 @@ loop-c-preserved c =
     let w = c.loop-c in
     let x = c.args.x in
     let e : w.sum + c.one_if-sum.result ≡ count_below (w.c + 1) (λ k. bit x k) =
-    (λ i. w.invariant.1.0 i + (c.one_if-sum.ensures.0 ∙ ap one_if c.has32.ensures) i) ∙ sym (count_more (λ k. bit x k) w.c) in
+    (λ i. w.invariant.1.0 i + (c.one_if-sum.ensures.is ∙ ap one_if c.has32.ensures) i) ∙ sym (count_more (λ k. bit x k) w.c) in
     (omega arith, (e, omega (arith, e, count_most (w.c + 1) (λ k. bit x k))))
 
 pub overflow_add-sum : goal.overflow_add-sum
-overflow_add-sum c = let m = more c in omega arith
+overflow_add-sum c = omega arith
 
 pub returns : goal.returns
 returns c =
     let w = c.loop-c in
     let x = c.args.x in
     let e : w.c ≡ c.args.n = omega arith in
-    (w.invariant.1.0 ∙ ap (λ (k : ℕ). count_below k (λ c. bit x c)) e, omega arith)
+    record { is = w.invariant.1.0 ∙ ap (λ (k : ℕ). count_below k (λ c. bit x c)) e; within = omega arith }
 
 pub has32-requires : goal.has32-requires
 has32-requires c = omega arith

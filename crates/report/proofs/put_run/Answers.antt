@@ -14,11 +14,8 @@ use Rattle.report.proofs.put_run.Goals as goal
 pub bounds-s-5 : goal.bounds-s-5
 bounds-s-5 c = omega (arith, (facts layout c.args.s.now c.requires.0).eight)
 
-pub overflow_cast-n : goal.overflow_cast-n
-overflow_cast-n c = omega (arith, c.shared_slice_known-3-1.given 5)
-
 pub put_first_line-p-requires : goal.put_first_line-p-requires
-put_first_line-p-requires c = (omega (arith, c.shared_slice_known-3-1.given 5), (omega (arith, c.size_sum-sum.ensures.below), omega arith))
+put_first_line-p-requires c = (omega (arith, c.type_inv.s 5), (omega (arith, c.size_sum-sum.ensures.below), omega arith))
 
 pub returns : goal.returns
 unfolding problem_of state_of
@@ -27,8 +24,9 @@ returns c =
     let g = c.put_steps-q in
     let l = c.put_last_line in
     let room_f : f.result ≤ length c.args.out.now = omega arith in
-    let room_g : g.result ≤ length f.new.0 = omega arith in (
-      run_put _ (problem_bounded c.args.s.now c.requires.0) _ _ _ _ c.requires.1.0 _ _ _ _ _ _ _ _ _ _ _ refl c.size_sum-sum.ensures.is
-          c.count_bits-variables.ensures.0 c.count_values-values.ensures.0 f.ensures.0 g.ensures.0 l.ensures.0 room_f room_g,
-      omega arith,
-    )
+    let room_g : g.result ≤ length f.new.out = omega arith in
+    record {
+      text = run_put _ (problem_bounded c.args.s.now c.requires.0) _ _ _ _ c.requires.1.0 _ _ _ _ _ _ _ _ _ _ _ refl c.size_sum-sum.ensures.is
+          c.count_bits-variables.ensures.is c.count_values-values.ensures.is f.ensures.text g.ensures.text l.ensures.text room_f room_g;
+      within = omega arith;
+    }

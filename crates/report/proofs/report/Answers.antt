@@ -5,10 +5,10 @@ use borrow.Author.Rules.{rules}
 use Rattle.report.proofs.report.Goals as goal
 
 pub returns-then-out-lt32768 : goal.returns-then-out-lt32768
-returns-then-out-lt32768 c = let a = c.args in (text_short _ _ a.out.now (omega arith), omega arith)
+returns-then-out-lt32768 c = let a = c.args in record { text = text_short _ _ a.out.now (omega arith); within = omega arith }
 
 pub returns : goal.returns
 returns c =
     let a = c.args in
     let p = c.put_sheet.ensures in
-    (text_whole _ _ a.out.now _ _ (omega arith) p.0, omega arith)
+    record { text = text_whole _ _ a.out.now _ _ (omega arith) p.text; within = omega arith }

@@ -14,6 +14,6 @@ returns c =
     let g = c.put_field-s in
     let e = c.put_byte in
     let room_w : w.result ≤ length a.out.now = omega arith in
-    let room_f : f.result ≤ length w.new.0 = omega arith in
-    let room_g : g.result ≤ length f.new.0 = omega arith in
-    ((after _ _ _ _ _ _ _ _ w.ensures (after _ _ _ _ _ _ _ _ f.ensures.0 (after _ _ _ _ _ _ _ _ g.ensures.0 e.ensures room_g) room_f) room_w), omega arith)
+    let room_f : f.result ≤ length w.new.out = omega arith in
+    let room_g : g.result ≤ length f.new.out = omega arith in
+    record { text = after _ _ _ _ _ _ _ _ w.ensures.text (after _ _ _ _ _ _ _ _ f.ensures.text (after _ _ _ _ _ _ _ _ g.ensures.text e.ensures.text room_g) room_f) room_w; within = omega arith }

@@ -12,4 +12,4 @@ returns c =
     let w = c.put_end_word-p in
     let e = c.put_three_end in
     let room_w : w.result ≤ length a.out.now = omega arith in
-    (after _ _ _ _ _ _ _ _ w.ensures.0 e.ensures.0 room_w, omega arith)
+    record { text = after _ _ _ _ _ _ _ _ w.ensures.text e.ensures.text room_w; within = omega arith }

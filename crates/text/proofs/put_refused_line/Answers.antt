@@ -13,5 +13,5 @@ returns c =
     let f = c.put_field-q in
     let e = c.put_byte in
     let room_w : w.result ≤ length a.out.now = omega arith in
-    let room_f : f.result ≤ length w.new.0 = omega arith in
-    ((after _ _ _ _ _ _ _ _ w.ensures (after _ _ _ _ _ _ _ _ f.ensures.0 e.ensures room_f) room_w), omega arith)
+    let room_f : f.result ≤ length w.new.out = omega arith in
+    record { text = after _ _ _ _ _ _ _ _ w.ensures.text (after _ _ _ _ _ _ _ _ f.ensures.text e.ensures.text room_f) room_w; within = omega arith }

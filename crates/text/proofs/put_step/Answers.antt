@@ -12,4 +12,4 @@ returns c =
     let w = c.put_step_word-p in
     let f = c.put_step_fields in
     let room_w : w.result ≤ length a.out.now = omega arith in
-    (after _ _ _ _ _ _ _ _ w.ensures.0 f.ensures.0 room_w, omega arith)
+    record { text = after _ _ _ _ _ _ _ _ w.ensures.text f.ensures.text room_w; within = omega arith }

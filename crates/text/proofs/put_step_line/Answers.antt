@@ -14,6 +14,6 @@ returns c =
     let w = c.put_step-e in
     let e = c.put_byte in
     let room_d : d.result ≤ length a.out.now = omega arith in
-    let room_s : s.result ≤ length d.new.0 = omega arith in
-    let room_w : w.result ≤ length s.new.0 = omega arith in
-    (after _ _ _ _ _ _ _ _ d.ensures.0 (after _ _ _ _ _ _ _ _ s.ensures (after _ _ _ _ _ _ _ _ w.ensures.0 e.ensures room_w) room_s) room_d, omega arith)
+    let room_s : s.result ≤ length d.new.out = omega arith in
+    let room_w : w.result ≤ length s.new.out = omega arith in
+    record { text = after _ _ _ _ _ _ _ _ d.ensures.text (after _ _ _ _ _ _ _ _ s.ensures.text (after _ _ _ _ _ _ _ _ w.ensures.text e.ensures.text room_w) room_s) room_d; within = omega arith }
