@@ -1,9 +1,7 @@
 -- The bytes at the front of a list, where there are so many. Assumes nothing.
-use mathlib.Core.List.{List}
-use Prim.Native.Nat.{ℕ, ◌≤◌}
-use native.Mathlib.Omega.{arith}
-use lib.ListN.{length, length-take}
-use Rattle.io.specs.Counts.{IsPrefixLen}
+use Rattle.std.proofs.Common.{ℕ, ◌≤◌, List, length, arith}
+use Rattle.std.proofs.Math.ListN.{length-take}
+use Rattle.cases.specs.Counts.{IsPrefixLen}
 
 pub front : (n : ℕ) (xs : List ℕ) → n ≤ length xs → IsPrefixLen n xs
 front n xs h = (h, omega (arith, length-take n xs))

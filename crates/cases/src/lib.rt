@@ -1,21 +1,40 @@
 // The lines of a bench program: a text is read in pieces, a line is fields with a space between them, a field is a word or hexadecimal
 // digits. And what an answer is written with: words, numbers, bytes and states. A line ends with a newline, or where the input ends.
 #![tactic(auto)]
-ghost use Rattle.std.specs.Prelude.{suc, ◌<◌, ◌≤◌, min, length};
-ghost use Rattle.io.specs.Counts.{IsPrefixLen};
 
-use libc::{STDIN_FILENO, STDOUT_FILENO};
+ghost use Rattle.std.specs.Prelude.{suc, ◌<◌, ◌≤◌, min, length, IfOk};
+ghost use Rattle.std.specs.Io.{ReadsAtMost};
+ghost use Rattle.cases.specs.Counts.{IsPrefixLen};
+
 use problem::Masks;
+use std::io;
+use std::io::{Read, Write};
 
 // ---- the text
 
 // Reads on behind the bytes that are held at the front: how many bytes the text has then. As many as before where the input has ended or
 // the text is full.
-pub fn read_on(text: &mut [u8], held: usize) -> usize
+pub fn read_on<R: Read>(input: &mut R, text: &mut [u8], held: usize) -> io::Result<usize>
     requires { held ≤ length text.old }
-    ensures { (held ≤ result) × (result ≤ length text.new) }
+    ensures { IfOk result (λ n. (held ≤ n) × (n ≤ length text.new)) }
 {
-    held + io::read_full(STDIN_FILENO, &mut text[held..])
+    let n = read_full(input, &mut text[held..])?;
+    Ok(held + n)
+}
+
+// Reads until the buffer is full or the input ends: how many bytes stand at its front then.
+fn read_full<R: Read>(input: &mut R, buf: &mut [u8]) -> io::Result<usize>
+    ensures { ReadsAtMost result buf.new }
+{
+    let mut done = 0;
+    while done < buf.len() {
+        let n = input.read(&mut buf[done..])?;
+        if n == 0 {
+            break;
+        }
+        done += n;
+    }
+    Ok(done)
 }
 
 // The place after the last line that ends in the first n bytes, 0 where none does.
@@ -157,44 +176,51 @@ pub fn masks(line: &[u8]) -> Masks {
 
 // ---- an answer
 
-pub fn show(w: &[u8]) {
-    io::write_all(STDOUT_FILENO, w);
+pub fn show<W: Write>(answers: &mut W, w: &[u8]) -> io::Result<()> {
+    answers.write_all(w)
 }
 
 // Words and a number behind them.
-pub fn show_number(w: &[u8], x: usize) {
-    io::write_all(STDOUT_FILENO, w);
-    io::print_decimal(STDOUT_FILENO, x as u64);
+pub fn show_number<W: Write>(answers: &mut W, w: &[u8], x: usize) -> io::Result<()> {
+    answers.write_all(w)?;
+    write!(answers, "{x}")
 }
 
-fn show_byte(x: u8) {
-    io::print_hex(STDOUT_FILENO, x as u64, 2);
+fn show_byte<W: Write>(answers: &mut W, x: u8) -> io::Result<()> {
+    write!(answers, "{x:02x}")
 }
 
-pub fn show_bytes(b: &[u8]) {
+pub fn show_bytes<W: Write>(answers: &mut W, b: &[u8]) -> io::Result<()> {
     let mut k: usize = 0;
     while k < b.len() {
-        show_byte(b[k]);
+        show_byte(answers, b[k])?;
         k += 1;
     }
+    Ok(())
 }
 
 // A state as it stands in a line.
-pub fn show_masks(m: Masks) {
-    io::print_hex(STDOUT_FILENO, m.active as u64, 8);
+pub fn show_masks<W: Write>(answers: &mut W, m: Masks) -> io::Result<()> {
+    let active = m.active;
+    write!(answers, "{active:08x}")?;
     let d = m.domains;
     let mut i: usize = 0;
     while i < 32 {
-        io::print_hex(STDOUT_FILENO, d[i] as u64, 4);
+        show_domain(answers, d[i])?;
         i += 1;
     }
+    Ok(())
+}
+
+fn show_domain<W: Write>(answers: &mut W, x: u16) -> io::Result<()> {
+    write!(answers, "{x:04x}")
 }
 
 // The buffer at the end of an answer's line.
-pub fn show_buffer(b: &[u8]) {
-    show(b" ");
-    show_bytes(b);
-    show(b"\n");
+pub fn show_buffer<W: Write>(answers: &mut W, b: &[u8]) -> io::Result<()> {
+    show(answers, b" ")?;
+    show_bytes(answers, b)?;
+    show(answers, b"\n")
 }
 
 // How many bytes of a buffer are lent: as many as are asked for, or all that it has.

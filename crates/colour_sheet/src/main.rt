@@ -1,15 +1,19 @@
 // Writes the sheet of the DIMACS graph colouring file on standard input, or the line that says why there is none. The argument is the number
 // of channels.
 #![tactic(auto)]
+
 ghost use Rattle.std.specs.Prelude.{◌≡◌, cond, ◌+◌, ◌≤◌, eqb, length, take};
+ghost use Rattle.std.specs.Io.{ReadsAtMost};
 ghost use Rattle.graph.specs.Graph.{file_limit};
 ghost use Rattle.colour.specs.Colour.{colour_job};
 ghost use Rattle.colour_sheet.specs.Argument.{channels_of};
 ghost use Rattle.colour_sheet.specs.Text.{coloured_text};
 
 use colour::Coloured;
-use libc::{STDIN_FILENO, STDOUT_FILENO};
 use read_graph::Field;
+use std::env::Env;
+use std::io;
+use std::io::{Input, Read};
 
 // The channels that an argument names: it is a number and nothing else.
 fn channels_of(word: &[u8]) -> u64
@@ -34,9 +38,9 @@ fn whole(n: usize, x: usize, next: usize) -> u64
 }
 
 // The argument of the program. One that is missing, or does not fit, is empty; one that fills the room has too many digits.
-fn argument() -> u64 {
+fn argument<R: Env>(rt: &R) -> u64 {
     let mut word = [0u8; 10];
-    let n = os::arg(1, &mut word);
+    let n = rt.arg(1, &mut word).unwrap_or(0);
     channels_of(&word[..n])
 }
 
@@ -53,17 +57,33 @@ fn put_coloured(file: &[u8], channels: u64, out: &mut [u8]) -> usize
     }
 }
 
-// The sheet of what standard input holds, up to one byte more than a file may have: the buffer for it has just that length.
-fn print_sheet(channels: u64, file: &mut [u8])
-    requires { length file.old ≡ file_limit + 1 }
+// Reads until the buffer is full or the input ends: how many bytes stand at its front then.
+fn read_full<R: Read>(input: &mut R, buf: &mut [u8]) -> io::Result<usize>
+    ensures { ReadsAtMost result buf.new }
 {
-    let n = io::read_full(STDIN_FILENO, file);
-    let mut out = [0u8; 16904];
-    let k = put_coloured(&file[..n], channels, &mut out);
-    io::write_all(STDOUT_FILENO, &out[..k]);
+    let mut done = 0;
+    while done < buf.len() {
+        let n = input.read(&mut buf[done..])?;
+        if n == 0 {
+            break;
+        }
+        done += n;
+    }
+    Ok(done)
 }
 
-fn main() {
+// The sheet of what standard input holds, up to one byte more than a file may have: the buffer for it has just that length.
+fn print_sheet<R: Input + Print>(rt: &R, channels: u64, file: &mut [u8]) -> io::Result<()>
+    requires { length file.old ≡ file_limit + 1 }
+{
+    let n = read_full(&mut rt.reader(), file)?;
+    let mut out = [0u8; 16904];
+    let k = put_coloured(&file[..n], channels, &mut out);
+    rt.write_all(&out[..k])
+}
+
+fn main(rt: HostRuntime) -> io::Result<()> {
     let mut file = [0u8; 65537];
-    print_sheet(argument(), &mut file);
+    let channels = argument(&rt);
+    print_sheet(&rt, channels, &mut file)
 }

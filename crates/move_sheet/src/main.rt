@@ -1,12 +1,15 @@
 // Reads a sheet from standard input and writes it in the other version, or the line that says why it is turned away.
 #![tactic(auto)]
+
 ghost use Rattle.std.specs.Prelude.{◌≡◌, ◌≤◌, length, take};
+ghost use Rattle.std.specs.Io.{ReadsAtMost};
 ghost use Rattle.fields.specs.Print.{input_limit};
 ghost use Rattle.moved.specs.Move.{move_job};
 ghost use Rattle.move_sheet.specs.Text.{moved_text};
 
-use libc::{STDIN_FILENO, STDOUT_FILENO};
 use moved::Moved;
+use std::io;
+use std::io::{Input, Read};
 
 // What the program writes for a sheet, at the front of a buffer: the moved sheet, or the line of a refusal. How long it is.
 fn put_moved(sheet: &[u8], out: &mut [u8]) -> usize
@@ -21,18 +24,33 @@ fn put_moved(sheet: &[u8], out: &mut [u8]) -> usize
     }
 }
 
-// The move of what standard input holds, up to the format's limit: the buffer for it has just that length. The target has room for the
-// longest sheet, so that it is never too short.
-fn print_moved(sheet: &mut [u8])
-    requires { length sheet.old ≡ input_limit }
+// Reads until the buffer is full or the input ends: how many bytes stand at its front then.
+fn read_full<R: Read>(input: &mut R, buf: &mut [u8]) -> io::Result<usize>
+    ensures { ReadsAtMost result buf.new }
 {
-    let n = io::read_full(STDIN_FILENO, sheet);
-    let mut out = [0u8; 16904];
-    let k = put_moved(&sheet[..n], &mut out);
-    io::write_all(STDOUT_FILENO, &out[..k]);
+    let mut done = 0;
+    while done < buf.len() {
+        let n = input.read(&mut buf[done..])?;
+        if n == 0 {
+            break;
+        }
+        done += n;
+    }
+    Ok(done)
 }
 
-fn main() {
+// The move of what standard input holds, up to the format's limit: the buffer for it has just that length. The target has room for the
+// longest sheet, so that it is never too short.
+fn print_moved<R: Input + Print>(rt: &R, sheet: &mut [u8]) -> io::Result<()>
+    requires { length sheet.old ≡ input_limit }
+{
+    let n = read_full(&mut rt.reader(), sheet)?;
+    let mut out = [0u8; 16904];
+    let k = put_moved(&sheet[..n], &mut out);
+    rt.write_all(&out[..k])
+}
+
+fn main(rt: HostRuntime) -> io::Result<()> {
     let mut sheet = [0u8; 16905];
-    print_moved(&mut sheet);
+    print_moved(&rt, &mut sheet)
 }
