@@ -37,7 +37,7 @@ row_among-left-requires c =
     let w = c.loop-rest in
     let l = left_lowest 32 bit_without32 w.invariant.1 c.loop-rest-test.true c.lowest32-j.ensures in
     let i = live_value p.0 _ _ p.1 in
-    (p.0.table, domain_values p.0 _ l.0, i, l.0, left_other 32 bit_without32 c.args.t2.active c.args.i w.invariant.1 c.without32-active.ensures i.variable l.0 l.1)
+    (p.0.table, domain_values p.0 _ l.0, i, l.0, left_other 32 bit_without32 c.args.m.active c.args.i w.invariant.1 c.without32-active.ensures i.variable l.0 l.1)
 
 pub offset_bounds-on-j : goal.offset_bounds-on-j
 offset_bounds-on-j c = let l = (left_lowest 32 bit_without32 c.loop-rest.invariant.1 c.loop-rest-test.true c.lowest32-j.ensures).0 in search rules
@@ -56,7 +56,7 @@ loop-rest-preserved c =
     let p = c.requires in
     let w = c.loop-rest in
     let l = left_lowest 32 bit_without32 w.invariant.1 c.loop-rest-test.true c.lowest32-j.ensures in
-    let d = left_other 32 bit_without32 c.args.t2.active c.args.i w.invariant.1 c.without32-active.ensures (live_value p.0 _ _ p.1).variable l.0 l.1 in
+    let d = left_other 32 bit_without32 c.args.m.active c.args.i w.invariant.1 c.without32-active.ensures (live_value p.0 _ _ p.1).variable l.0 l.1 in
     (rw (c.without32-rest.ensures, c.row_among-left.ensures) (passed_more p.0 _ _ _ _ _ l.0 d w.invariant.0), rw c.without32-rest.ensures (left_next _ w.invariant.1))
 
 pub returns : goal.returns

@@ -9,12 +9,10 @@ pub returns-then-overfull : goal.returns-then-overfull
 returns-then-overfull c = unsolved_first c.requires.fits (c.overfull.ensures.none c.if-overfull.true) _
 
 pub returns-then-not-o : goal.returns-then-not-o
-returns-then-not-o c = closed_first c.requires.fits c.propagate-o.ensures (c.if-not-o.true) _
+returns-then-not-o c = closed_first c.requires.fits c.propagate-o.ensures (not-true _ c.if-not-o.true) _
 
 pub pick-ok-requires : goal.pick-ok-requires
-pick-ok-requires c =
-    let g = c.well-formed in
-    (c.propagate-o.ensures.narrowed.ready, search (rules, g.1.1.0))
+pick-ok-requires c = (c.propagate-o.ensures.narrowed.ready, search rules)
 
 pub returns : goal.returns
 returns c = c.pick-ok.ensures ∙ sym (opened_first c.requires.fits c.propagate-o.ensures _)

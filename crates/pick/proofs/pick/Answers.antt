@@ -18,7 +18,7 @@ returns-in-Accepted c =
     let a = c.args in
     let q = table_job _ _ c.read_table.ensures c.in-Accepted.is (λ (P : Problem). pick_over P a.trace.now a.plan.now) (pick_kept a.s.now a.trace.now a.plan.now) in
     let p = c.pick_over.ensures in
-    (p.0 ∙ ap (λ (x : PickResult). x.answer) q, (p.1.0 ∙ ap (λ (x : PickResult). x.trace) q, p.1.1 ∙ ap (λ (x : PickResult). x.plan) q))
+    (p.answer ∙ ap (λ (x : PickResult). x.answer) q, (p.trace.0 ∙ ap (λ (x : PickResult). x.trace) q, p.trace.1 ∙ ap (λ (x : PickResult). x.plan) q))
 
 pub read_table-requires : goal.read_table-requires
 read_table-requires c = c.blank_table-t.ensures

@@ -29,4 +29,4 @@ returns c =
     let l : 1 + 5 * size_sum (held a.t.now) ≤ length a.trace.now = omega (arith, c.if-trace-size_sum.false, c.size_sum.ensures.is) in
     let q = sym (pick_accepted_over (held a.t.now) a.trace.now a.plan.now l (c.if-plan-variables.false ∙ c.variables.ensures)) in
     let p = c.pick_sized.ensures in
-    (p.0 ∙ ap (λ (x : PickResult). x.answer) q, (p.1.0 ∙ ap (λ (x : PickResult). x.trace) q, p.1.1 ∙ ap (λ (x : PickResult). x.plan) q))
+    (p.answer ∙ ap (λ (x : PickResult). x.answer) q, (p.trace.0 ∙ ap (λ (x : PickResult). x.trace) q, p.trace.1 ∙ ap (λ (x : PickResult). x.plan) q))

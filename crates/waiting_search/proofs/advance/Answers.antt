@@ -28,4 +28,4 @@ returns c =
     let q = c.requires in
     let e = c.apply-state.ensures in
     let k = known_after q.0.fits _ q.3 (held_few c.args.t.now) q.1 q.2 (ap state_of e ∙ after_state q.0 _) c.mend.ensures in
-    (e, (k.0, k.1))
+    record { is = e; words = k.0; waits = k.1 }

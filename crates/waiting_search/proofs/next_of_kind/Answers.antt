@@ -22,12 +22,12 @@ step_from-found-requires c = let p = c.requires in (p.0, p.1, c.loop-i.invariant
 pub returns-then-is_step : goal.returns-then-is_step
 returns-then-is_step c =
     let found = c.step_from-found.ensures in
-    record { is = sym (sym (lowest_from c.requires.0 _) ∙ first_hit _ 32 _ _ (omega arith) c.loop-i.invariant.1 (sym found.0) (sym c.is_step.ensures ∙ c.if-is_step.true)); waits = found.1 }
+    record { is = sym (sym (lowest_from c.requires.0 _) ∙ first_hit _ 32 _ _ (omega arith) c.loop-i.invariant.1 (sym found.is) (sym c.is_step.ensures ∙ c.if-is_step.true)); waits = found.waits }
 
 pub loop-i-preserved : goal.loop-i-preserved
 loop-i-preserved c =
     let found = c.step_from-found.ensures in
-    (omega arith, first_more _ _ c.loop-i.invariant.1 (sym found.0 ∙ nothing_is _ (sym c.is_step.ensures ∙ c.if-is_step.false)), found.1)
+    (omega arith, first_more _ _ c.loop-i.invariant.1 (sym found.is ∙ nothing_is _ (sym c.is_step.ensures ∙ c.if-is_step.false)), found.waits)
 
 pub returns : goal.returns
 returns c = let w = c.loop-i.invariant in record { is = sym (sym (lowest_from c.requires.0 _) ∙ first_end _ 32 _ (omega arith) w.1); waits = w.2 }

@@ -24,7 +24,7 @@ pub next_of_kind-found-requires : goal.next_of_kind-found-requires
 next_of_kind-found-requires c = let a = c.loop-kind.invariant in let q = c.requires in (q.0, q.1, a.3, sym c.none_empty-lasts.ensures ∙ c.if-not-lasts.false)
 
 pub returns-then-is_step : goal.returns-then-is_step
-returns-then-is_step c = let e = c.next_of_kind-found.ensures in record { is = sym (next_open _ _ (sym c.none_empty-lasts.ensures ∙ c.if-not-lasts.false) ∙ first_hit _ 6 _ _ (omega arith) c.loop-kind.invariant.2 (sym e.0) (sym c.is_step.ensures ∙ c.if-is_step.true)); waits = e.1 }
+returns-then-is_step c = let e = c.next_of_kind-found.ensures in record { is = sym (next_open _ _ (sym c.none_empty-lasts.ensures ∙ c.if-not-lasts.false) ∙ first_hit _ 6 _ _ (omega arith) c.loop-kind.invariant.2 (sym e.is) (sym c.is_step.ensures ∙ c.if-is_step.true)); waits = e.waits }
 
 pub overflow_add-kind : goal.overflow_add-kind
 overflow_add-kind c = omega arith
@@ -33,7 +33,7 @@ pub loop-kind-smaller : goal.loop-kind-smaller
 loop-kind-smaller c = omega arith
 
 pub loop-kind-preserved : goal.loop-kind-preserved
-loop-kind-preserved c = let e = c.next_of_kind-found.ensures in ( omega arith, omega arith, first_more _ _ c.loop-kind.invariant.2 (sym e.0 ∙ nothing_is _ (sym c.is_step.ensures ∙ c.if-is_step.false)), e.1, )
+loop-kind-preserved c = let e = c.next_of_kind-found.ensures in ( omega arith, omega arith, first_more _ _ c.loop-kind.invariant.2 (sym e.is ∙ nothing_is _ (sym c.is_step.ensures ∙ c.if-is_step.false)), e.waits, )
 
 pub returns : goal.returns
 returns c = record { is = sym (next_open _ _ (sym c.none_empty-lasts.ensures ∙ c.if-not-lasts.false) ∙ first_end _ 6 _ (omega arith) c.loop-kind.invariant.2); waits = c.loop-kind.invariant.3 }
