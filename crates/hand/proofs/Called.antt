@@ -16,7 +16,7 @@ use Rattle.problem.specs.declared.Call.TheVariants as outcome
 use Rattle.problem.specs.Sentences.{Active, Fits, NoneEmpty}
 use Rattle.problem.proofs.Bridge.{fits_iff}
 use Rattle.problem.proofs.OneCall.{call_iff}
-use Rattle.problem.specs.Causes.{Misfits, Named, SomeEmpty, LowestSnake, CallCause}
+use Rattle.problem.specs.Causes.{Misfits, Named, SomeEmpty, CallCause}
 use Rattle.sheet.specs.Sheet.{layout, Keeps}
 use Rattle.sheet.specs.Relation.{problem_of}
 use Rattle.sheet.proofs.Refusals.{sheet_number_lem}
@@ -29,7 +29,6 @@ use Rattle.hand.specs.declared.CallOutcome.TheVariants.{Eliminated, Refused}
 use Rattle.hand.specs.declared.HandRefusal.TheVariants as refusal
 use Rattle.hand.specs.Causes.{CauseOver, whose_call, Cause}
 use Rattle.jobs.proofs.SheetCause.{Told, sheet_iff}
-use Rattle.jobs.specs.Causes.{Whose, Sheets, Own, SheetCause}
 
 -- ---- over a problem
 

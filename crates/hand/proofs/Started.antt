@@ -4,8 +4,6 @@ use mathlib.Core.List.{List}
 use mathlib.Core.Logic.{inl, inr, ◌↔◌}
 use Prim.Native.Nat.{ℕ}
 use Rattle.bounded.proofs.Causes.{cause_iff}
-use Rattle.sheet.specs.Sheet.{layout, read_sheet, Keeps}
-use Rattle.sheet.specs.declared.SheetRead.TheVariants as read
 use Rattle.hand.specs.Hand.{start_job}
 use Rattle.hand.specs.declared.StartAnswer.{StartAnswer}
 use Rattle.hand.specs.declared.StartOutcome.{StartOutcome}

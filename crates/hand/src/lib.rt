@@ -1,5 +1,6 @@
 // Taking out by hand, as jobs: the state, what starting and a hand call answer, and the format's number for each refusal.
 #![tactic(auto)]
+
 ghost use Rattle.std.specs.Prelude.{◌≡◌};
 ghost use Rattle.hand.specs.Numbers.{hand_refusal_number};
 

@@ -1,6 +1,6 @@
 -- "the trace buffer holds the trace at its front and its old bytes after that", byte by byte. Assumes nothing.
 use mathlib.Core.List.{List}
-use Prim.Native.Nat.{ℕ, ◌+◌, ◌-◌, ◌*◌, ◌≤◌}
+use Prim.Native.Nat.{ℕ, ◌+◌, ◌*◌, ◌≤◌}
 use lib.ListN.{length}
 use Rattle.problem.specs.Problem.{Problem, full, size_sum}
 use Rattle.problem.specs.Run.{run}

@@ -7,13 +7,11 @@ use native.Mathlib.Omega.{arith}
 use lib.ListN.{length}
 use Rattle.bounded.proofs.Truth.{lt_dec}
 use Rattle.bounded.proofs.Causes.{cause_iff, number_iff}
-use Rattle.problem.specs.Problem.{Problem, full, size_sum}
-use Rattle.problem.specs.Run.{after_trace, run, end_of}
+use Rattle.problem.specs.Problem.{Problem, size_sum}
 use Rattle.sheet.specs.Sheet.{layout, Keeps}
 use Rattle.sheet.specs.Relation.{problem_of}
 use Rattle.sheet.proofs.Refusals.{sheet_number_lem}
 use Rattle.run.specs.Numbers.{run_number}
-use Rattle.trace.specs.Trace.{trace_bytes}
 use Rattle.run.specs.Run.{RunResult, run_done, run_over, run_job}
 use Rattle.run.specs.declared.RunOutcome.{RunOutcome}
 use Rattle.run.specs.declared.RunOutcome.TheVariants.{Done, Refused}
@@ -21,7 +19,6 @@ use Rattle.run.specs.declared.RunRefusal.TheVariants as refusal
 use Rattle.run.specs.Causes.{RunCauseOver, whose_run, RunCause}
 use Rattle.run.proofs.Opened.{run_buffer_refused_over, run_accepted_over}
 use Rattle.jobs.proofs.SheetCause.{Told, sheet_iff}
-use Rattle.jobs.specs.Causes.{Whose, Sheets, Own, SheetCause}
 
 module _ (P : Problem) (b : List ℕ) where
   cause_runs : (o : RunOutcome) → RunCauseOver P b o → (run_over P b).answer.outcome ≡ o

@@ -1,24 +1,19 @@
 -- Demands 1 and 2 of the run, over the definitions that the run's contracts cite. Assumes nothing.
 use mathlib.Core.Path.{◌≡◌, refl, ap, ◌∙◌}
-use mathlib.Core.List.{List, [], ◌∷◌, ◌++◌}
-use mathlib.Core.Logic.{◌↔◌}
+use mathlib.Core.List.{List, [], ◌∷◌}
 use Prim.Native.Nat.{ℕ, ◌+◌, ◌*◌, ◌≤◌}
 use native.Mathlib.Omega.{arith}
 use lib.Dec.{T}
 use lib.ListN.{length, length-append}
-use Rattle.problem.specs.Problem.{Problem, State, full, size_sum, none_empty}
-use Rattle.problem.specs.Run.{holds, lawful_trace, after_trace, run, end_of}
+use Rattle.problem.specs.Problem.{Problem, full, size_sum, none_empty}
+use Rattle.problem.specs.Run.{holds, after_trace, run}
 use Rattle.problem.specs.Held.{Bounded}
-use Rattle.problem.specs.Masks.{state_of, masks_of}
-use Rattle.problem.specs.PutBack.{undo_trace}
+use Rattle.problem.specs.Masks.{state_of}
 use Rattle.problem.specs.declared.Record.{Record}
 use Rattle.problem.proofs.Apart.{fields_few}
 use Rattle.problem.proofs.Reflect.{full_fits}
 use Rattle.problem.proofs.Published.{holds_published, run_published}
-use Rattle.problem.specs.Published.{Published}
 use Rattle.problem.proofs.Least.{run_least}
-use Rattle.problem.specs.Order.{FirstLawful}
-use Rattle.problem.specs.Sentences.{Solution, Solvable, EndSays}
 use Rattle.problem.proofs.Trace.{trace_fits, trace_undone, trace_solvable, lawful_iff}
 use Rattle.problem.proofs.Bridge.{state_back}
 use Rattle.problem.proofs.Run.{run_lawful, run_complete, run_short, end_says}
@@ -26,10 +21,8 @@ use Rattle.sheet.specs.Sheet.{layout, Keeps}
 use Rattle.sheet.specs.Relation.{problem_of}
 use Rattle.sheet.proofs.Accepted.{problem_bounded}
 use Rattle.trace.specs.Trace.{record_bytes, records_bytes, trace_bytes}
-use Rattle.buffers.specs.Written.{fronted}
 use Rattle.run.specs.Run.{RunResult, run_done, run_over, run_job}
 use Rattle.run.specs.declared.RunAnswer.{RunAnswer}
-use Rattle.run.specs.declared.RunOutcome.TheVariants.{Done}
 use Rattle.run.specs.Causes.{Worked}
 use Rattle.run.proofs.Opened.{run_accepted_over, run_kept}
 

@@ -1,6 +1,7 @@
 // The run, as a job: what it answers, and the format's number for each refusal. The definitions of specs/ say which answer each input gets; a
 // crate of an engine proves its code equal to them.
 #![tactic(auto)]
+
 ghost use Rattle.std.specs.Prelude.{◌≡◌, ◌+◌, ◌*◌, length};
 ghost use Rattle.boundary.specs.State.{state_length};
 ghost use Rattle.run.specs.Numbers.{run_refusal_number, end_number};

@@ -2,7 +2,6 @@
 use mathlib.Core.Path.{sym, ap, ◌∙◌}
 use Rattle.run.specs.declared.RunOutcome.{RunOutcome}
 use Rattle.run.specs.Call.{ran_state}
-use borrow.Author.Rules.{rules}
 use Rattle.run.proofs.put_ran_state.Goals as goal
 
 pub returns-in-Done : goal.returns-in-Done

@@ -3,7 +3,6 @@ use mathlib.Core.Path.{sym, ap, subst, ◌∙◌}
 use Prim.Native.Nat.{ℕ, ◌+◌, ◌*◌}
 use native.Mathlib.Omega.{arith}
 use Rattle.run.specs.Call.{ran_number, RunFits}
-use borrow.Author.Rules.{rules}
 use Rattle.run.proofs.ran_number.Goals as goal
 
 pub overflow_mul-result : goal.overflow_mul-result
