@@ -15,6 +15,4 @@ pub returns-then-not-ask : goal.returns-then-not-ask
 returns-then-not-ask c = unsolved_first c.requires.fits (λ x. (c.ask.ensures.no (c.if-not-ask.true)).1 x.0 x.1) _
 
 pub pick-requires : goal.pick-requires
-pick-requires c =
-    let g = c.well-formed in
-    (c.requires, c.draw.ensures, c.ask.ensures.yes (c.if-not-ask.false), search (rules, g.1.1.0))
+pick-requires c = (c.requires, c.draw.ensures, c.ask.ensures.yes (c.if-not-ask.false), search rules)

@@ -1,0 +1,9 @@
+-- Variables left, then values left, fall, as the numbers of their sets.
+use Rattle.std.proofs.Common.{◌+◌, ◌*◌, get_or}
+use Rattle.asked_plan.proofs.+pick_tries.Given as goal
+
+abbrev pub decreases-pick : goal.decreases-pick
+decreases-pick l = l.active * 65537 + 65536
+
+abbrev pub decreases-tries : goal.decreases-tries
+decreases-tries l = l.active * 65537 + get_or l.on.now l.i 0
