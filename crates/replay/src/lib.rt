@@ -1,5 +1,6 @@
 // A trace gone through from the first state: whether each record is lawful in the state reached, and where they lead.
 #![tactic(auto)]
+
 ghost use Rattle.std.specs.Prelude.{◌≡◌, true, false, ◌<◌, T};
 ghost use Rattle.problem.specs.Problem.{full, unsupported as unsupported_at, snake as snake_at, triangle as triangle_at, neighbourhood as neighbourhood_at, snake_substitution as substitution_holds, substitution_spares, cover_asked};
 ghost use Rattle.problem.specs.Run.{holds as holds_at, lawful as lawful_at, broken_cover, after};

@@ -2,7 +2,6 @@
 use mathlib.Core.Path.{sym, ◌∙◌}
 use Rattle.problem.proofs.Spoiler.{broken_asked, broken_unasked}
 use Rattle.replay.proofs.Range.{asked_values}
-use borrow.Author.Rules.{rules}
 use Rattle.replay.proofs.broken_neighbourhood.Goals as goal
 
 pub first_break-requires : goal.first_break-requires

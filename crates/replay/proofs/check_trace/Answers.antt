@@ -5,7 +5,6 @@ use Rattle.problem.specs.Held.{held}
 use Rattle.replay.specs.Walk.{checked_from, walk_ended}
 use Rattle.held.proofs.First.{ready_full}
 use Rattle.replay.proofs.Walk.{no_front, wrong_front, right_front}
-use borrow.Author.Rules.{rules}
 use Rattle.replay.proofs.check_trace.Goals as goal
 
 pub returns-then-trace-eq0 : goal.returns-then-trace-eq0

@@ -4,7 +4,6 @@ use lib.Dec.{eqb}
 use Rattle.problem.specs.Problem.{cover_asked}
 use Rattle.problem.specs.Masks.{state_of}
 use Rattle.replay.proofs.Range.{asked_out}
-use borrow.Author.Rules.{rules}
 use Rattle.replay.proofs.cover_asked.Goals as goal
 
 pub returns-then-i-lt32 : goal.returns-then-i-lt32

@@ -1,6 +1,5 @@
 -- `replay::fault`. Assumes nothing.
 use Rattle.replay.specs.declared.TraceCheck.TheVariants.{Fault}
-use borrow.Author.Rules.{rules}
 use Rattle.replay.proofs.fault.Goals as goal
 
 pub returns : goal.returns

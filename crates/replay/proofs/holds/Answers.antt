@@ -1,6 +1,5 @@
 -- `replay::holds`: each arm's rule is the record's. Assumes nothing.
 use Rattle.problem.specs.Run.{holds_by}
-use borrow.Author.Rules.{rules}
 use Rattle.replay.proofs.holds.Goals as goal
 
 pub returns-in-Unsupported : goal.returns-in-Unsupported

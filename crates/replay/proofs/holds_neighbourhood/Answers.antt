@@ -1,7 +1,6 @@
 -- `replay::holds_neighbourhood`: out of range the rule does not hold. Assumes nothing.
 use mathlib.Core.Path.{sym}
 use Rattle.replay.proofs.Range.{range3, neighbourhood_out}
-use borrow.Author.Rules.{rules}
 use Rattle.replay.proofs.holds_neighbourhood.Goals as goal
 
 pub neighbourhood-requires : goal.neighbourhood-requires

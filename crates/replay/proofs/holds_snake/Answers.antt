@@ -1,7 +1,6 @@
 -- `replay::holds_snake`: out of range the rule does not hold. Assumes nothing.
 use mathlib.Core.Path.{sym}
 use Rattle.replay.proofs.Range.{range2, snake_out}
-use borrow.Author.Rules.{rules}
 use Rattle.replay.proofs.holds_snake.Goals as goal
 
 pub snake-requires : goal.snake-requires

@@ -1,7 +1,6 @@
 -- `replay::holds_substitution`: out of range the rule does not hold. Assumes nothing.
 use mathlib.Core.Path.{sym}
 use Rattle.replay.proofs.Range.{range3, substitution_out}
-use borrow.Author.Rules.{rules}
 use Rattle.replay.proofs.holds_substitution.Goals as goal
 
 pub snake_substitution-requires : goal.snake_substitution-requires

@@ -1,7 +1,6 @@
 -- `replay::holds_triangle`: out of range the rule does not hold. Assumes nothing.
 use mathlib.Core.Path.{sym}
 use Rattle.replay.proofs.Range.{range2, triangle_out}
-use borrow.Author.Rules.{rules}
 use Rattle.replay.proofs.holds_triangle.Goals as goal
 
 pub triangle-requires : goal.triangle-requires

@@ -1,7 +1,6 @@
 -- `replay::holds_unsupported`: out of range the rule does not hold. Assumes nothing.
 use mathlib.Core.Path.{sym}
 use Rattle.replay.proofs.Range.{range3, unsupported_out}
-use borrow.Author.Rules.{rules}
 use Rattle.replay.proofs.holds_unsupported.Goals as goal
 
 pub unsupported-requires : goal.unsupported-requires

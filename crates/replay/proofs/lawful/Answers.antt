@@ -1,7 +1,6 @@
 -- `replay::lawful`. Assumes nothing.
 use mathlib.Core.Path.{sym, ◌∙◌}
 use Rattle.replay.proofs.Range.{lawful_on, lawful_off}
-use borrow.Author.Rules.{rules}
 use Rattle.replay.proofs.lawful.Goals as goal
 
 pub returns-then-none_empty : goal.returns-then-none_empty

@@ -2,7 +2,6 @@
 use mathlib.Core.Path.{ap, ◌∙◌}
 use Rattle.put_back.specs.PutBack.{unlawful_record}
 use Rattle.replay.specs.Walk.{faulty}
-use borrow.Author.Rules.{rules}
 use Rattle.replay.proofs.unlawful.Goals as goal
 
 pub returns : goal.returns
