@@ -1,6 +1,7 @@
 // The sheet of a version that is the problem of a filled table, written at the front of a lent buffer. Its length is known before a
 // byte is written.
 #![tactic(auto)]
+
 ghost use Rattle.std.specs.Prelude.{◌≡◌, ◌+◌, ◌*◌, ◌-◌, ◌/◌, ◌%◌, ◌^◌, ◌<◌, ◌≤◌, length};
 ghost use Rattle.bounded.specs.Table.{tab, filled};
 ghost use Rattle.problem.specs.Held.{held, RowTable};

@@ -1,6 +1,7 @@
 // Reading a sheet: whether its bytes keep the layout, or which refusal is the first. Where a table for the rule tests is lent, it is filled
 // on the way, in one pass over the blocks.
 #![tactic(auto)]
+
 ghost use Rattle.std.specs.Prelude.{◌≡◌, true, ℕ, ◌+◌, ◌-◌, ◌*◌, ◌^◌, ◌<◌, ◌≤◌, length};
 ghost use Rattle.problem.specs.Held.{table_length, Filled};
 ghost use Rattle.buffers.specs.Bytes.{byte_at, number_at};

@@ -1,5 +1,6 @@
 // The table that the rule tests read, filled: the list of places is put into it, and blocks are entered one by one.
 #![tactic(auto)]
+
 ghost use Rattle.std.specs.Prelude.{◌≡◌, cond, ◌+◌, ◌^◌, ◌≤◌, ◌<◌, length, get_or};
 ghost use Rattle.bounded.specs.Mask.{bit};
 ghost use Rattle.problem.specs.Places.{place_list};

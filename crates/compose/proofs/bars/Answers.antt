@@ -1,9 +1,7 @@
 -- `compose::bars`: no setting so far bars any. Assumes nothing.
 use mathlib.Core.Path.{◌≡◌, sym}
-use mathlib.Core.Bool.{false}
-use Prim.Native.Nat.{◌-◌, ◌≤◌, ◌<◌}
+use Prim.Native.Nat.{◌<◌}
 use native.Mathlib.Omega.{arith}
-use Rattle.bounded.specs.Quantifiers.{any_below}
 use Rattle.bounded.proofs.Loops.{any_none, any_more, any_hit, any_end}
 use Rattle.problem.specs.Held.{held}
 use Rattle.problem.proofs.HeldTable.{held_few, held_narrow}

@@ -1,16 +1,14 @@
 -- `compose::blocks_length`: the length so far and that of the rest. Assumes nothing.
-use mathlib.Core.Path.{◌≡◌, ap}
-use Prim.Native.Nat.{◌+◌, ◌-◌, ◌*◌, ◌≤◌}
+use mathlib.Core.Path.{ap}
+use Prim.Native.Nat.{◌-◌}
 use native.Mathlib.Omega.{arith}
 use lib.ListN.{length}
 use Rattle.problem.specs.Held.{held}
 use Rattle.problem.proofs.HeldTable.{held_few, held_bounded}
 use Rattle.sheet.specs.Sheet.{layout}
-use Rattle.compose.specs.Compose.{blocks_bytes}
 use Rattle.compose.proofs.Lengths.{blocks_short}
 use Rattle.compose.proofs.Blocks.{layout_roomy}
 use Rattle.compose.proofs.Writing.{length_step, blocks_beyond}
-use borrow.Author.Rules.{rules}
 use Rattle.compose.proofs.blocks_length.Goals as goal
 
 pub loop-x-init : goal.loop-x-init

@@ -4,7 +4,6 @@ use native.Mathlib.Omega.{arith}
 use Rattle.bounded.specs.Quantifiers.{one_if}
 use Rattle.problem.specs.Held.{held}
 use Rattle.compose.proofs.Writing.{block_low, block_out, block_in}
-use borrow.Author.Rules.{rules}
 use Rattle.compose.proofs.mark.Goals as goal
 
 pub returns-then-j-i : goal.returns-then-j-i

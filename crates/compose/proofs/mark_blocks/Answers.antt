@@ -1,18 +1,16 @@
 -- `compose::mark_blocks`: the marks so far, and their count and that of the rest. Assumes nothing.
 use mathlib.Core.Path.{◌≡◌, sym, ap, ◌∙◌}
 use mathlib.Core.List.{List}
-use Prim.Native.Nat.{ℕ, ◌+◌, ◌-◌, ◌*◌, ◌≤◌, ◌<◌}
+use Prim.Native.Nat.{ℕ, ◌-◌, ◌*◌, ◌<◌}
 use native.Mathlib.Omega.{arith}
 use lib.ListN.{length, set, length-set}
 use Rattle.bounded.specs.Table.{filled}
 use Rattle.bounded.proofs.Table.{filled_none, filled_more}
 use Rattle.problem.specs.Held.{held}
 use Rattle.problem.proofs.HeldTable.{held_few}
-use Rattle.compose.specs.Compose.{block_count}
 use Rattle.compose.specs.Parts.{mark_of}
 use Rattle.compose.proofs.Lengths.{count_few}
 use Rattle.compose.proofs.Writing.{count_step, written_beyond}
-use borrow.Author.Rules.{rules}
 use Rattle.compose.proofs.mark_blocks.Goals as goal
 
 pub loop-x-init : goal.loop-x-init

@@ -10,7 +10,6 @@ use Rattle.sheet.proofs.Laws.{rows_small}
 use Rattle.compose.specs.Compose.{has_block}
 use Rattle.compose.proofs.Lengths.{length_block}
 use Rattle.compose.proofs.Writing.{place_hit, place_miss, marked_not, marked_true}
-use borrow.Author.Rules.{rules}
 use Rattle.compose.proofs.place_length.Goals as goal
 use Rattle.compose.proofs.place_length.Goals.{After-row_width}
 

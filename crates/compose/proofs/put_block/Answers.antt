@@ -9,7 +9,6 @@ use Rattle.problem.proofs.HeldTable.{held_few}
 use Rattle.sheet.specs.Sheet.{layout}
 use Rattle.compose.specs.Compose.{rows_bytes, block_bytes}
 use Rattle.compose.proofs.Writing.{block_parts, pair_put, wrote_both, wrote_same}
-use borrow.Author.Rules.{rules}
 use Rattle.compose.proofs.put_block.Goals as goal
 
 -- room for the items and the rows

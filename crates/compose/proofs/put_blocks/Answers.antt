@@ -1,6 +1,6 @@
 -- `compose::put_blocks`: the blocks of the places so far are written, and the rest is underway. Assumes nothing.
 use mathlib.Core.List.{◌++◌}
-use Prim.Native.Nat.{◌+◌, ◌-◌, ◌*◌, ◌≤◌}
+use Prim.Native.Nat.{◌+◌, ◌-◌}
 use native.Mathlib.Omega.{arith}
 use Rattle.problem.specs.Held.{held}
 use Rattle.problem.proofs.HeldTable.{held_few}
@@ -8,7 +8,6 @@ use Rattle.sheet.specs.Sheet.{layout}
 use Rattle.compose.specs.Compose.{place_bytes, blocks_bytes}
 use Rattle.compose.specs.Parts.{Underway}
 use Rattle.compose.proofs.Writing.{starts, writes, part_room, ends, blocks_step, blocks_beyond}
-use borrow.Author.Rules.{rules}
 use Rattle.compose.proofs.put_blocks.Goals as goal
 use Rattle.compose.proofs.put_blocks.Goals.{In-loop-x}
 

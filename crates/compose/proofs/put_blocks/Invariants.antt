@@ -1,13 +1,8 @@
-use mathlib.Core.List.{◌++◌}
 use Prim.Native.Nat.{◌+◌, ◌-◌, ◌*◌, ◌≤◌}
-use native.Mathlib.Omega.{arith}
 use Rattle.problem.specs.Held.{held}
-use Rattle.problem.proofs.HeldTable.{held_few}
 use Rattle.sheet.specs.Sheet.{layout}
-use Rattle.compose.specs.Compose.{place_bytes, blocks_bytes}
+use Rattle.compose.specs.Compose.{blocks_bytes}
 use Rattle.compose.specs.Parts.{Underway}
-use Rattle.compose.proofs.Writing.{starts, writes, part_room, ends, blocks_step, blocks_beyond}
-use borrow.Author.Rules.{rules}
 use Rattle.compose.proofs.put_blocks.Given as goal
 
 abbrev pub invariant-loop-x : goal.invariant-loop-x

@@ -2,7 +2,6 @@
 use native.Mathlib.Omega.{arith}
 use lib.ListN.{length-set}
 use Rattle.compose.proofs.Writing.{front_stored}
-use borrow.Author.Rules.{rules}
 use Rattle.compose.proofs.put_front.Goals as goal
 
 pub bounds-out-1 : goal.bounds-out-1

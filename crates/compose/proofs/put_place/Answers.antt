@@ -8,7 +8,6 @@ use Rattle.sheet.specs.Sheet.{layout}
 use Rattle.compose.specs.Compose.{has_block}
 use Rattle.compose.proofs.Rows.{has_block_lem}
 use Rattle.compose.proofs.Writing.{place_hit, place_miss, marked_not, marked_true, bytes_wrote_none}
-use borrow.Author.Rules.{rules}
 use Rattle.compose.proofs.put_place.Goals as goal
 
 pub bounds-marks-x : goal.bounds-marks-x

@@ -5,7 +5,6 @@ use native.Mathlib.Omega.{arith}
 use Rattle.buffers.specs.Bytes.{number_bytes}
 use Rattle.buffers.specs.Written.{written}
 use Rattle.compose.proofs.Writing.{put_byte}
-use borrow.Author.Rules.{rules}
 use Rattle.compose.proofs.put_row.Goals as goal
 
 two : (w : ℕ) → 1 ≤ w → w ≤ 2 → (w ≡ 1 → ⊥) → w ≡ 2

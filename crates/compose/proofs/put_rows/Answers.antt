@@ -13,7 +13,6 @@ use Rattle.compose.specs.Parts.{Underway}
 use Rattle.buffers.proofs.Stands.{length_number}
 use Rattle.compose.proofs.Blocks.{layout_roomy}
 use Rattle.compose.proofs.Writing.{starts, writes, part_room, ends, wrote_number, rows_step, rows_none}
-use borrow.Author.Rules.{rules}
 use Rattle.compose.proofs.put_rows.Goals as goal
 use Rattle.compose.proofs.put_rows.Goals.{In-loop-a}
 

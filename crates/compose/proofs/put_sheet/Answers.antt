@@ -9,7 +9,6 @@ use Rattle.compose.specs.Compose.{sheet_length}
 use Rattle.compose.proofs.Lengths.{count_few, blocks_short}
 use Rattle.compose.proofs.Blocks.{layout_roomy}
 use Rattle.compose.proofs.Writing.{version_byte, sheet_written}
-use borrow.Author.Rules.{rules}
 use Rattle.compose.proofs.put_sheet.Goals as goal
 
 pub put_front-requires : goal.put_front-requires

@@ -1,7 +1,7 @@
 -- `compose::put_sizes`: the sizes so far are written. Assumes nothing.
 use mathlib.Core.Path.{◌≡◌, refl, sym, ap, ◌∙◌}
 use mathlib.Core.List.{List}
-use Prim.Native.Nat.{ℕ, ◌+◌, ◌-◌, ◌≤◌, ◌<◌}
+use Prim.Native.Nat.{ℕ, ◌+◌, ◌<◌}
 use native.Mathlib.Omega.{arith}
 use lib.ListN.{length, set, length-set}
 use Rattle.bounded.specs.Table.{tab}
@@ -9,7 +9,6 @@ use Rattle.problem.specs.Held.{held}
 use Rattle.problem.proofs.HeldTable.{held_few, held_narrow}
 use Rattle.buffers.specs.Written.{written}
 use Rattle.buffers.proofs.Written.{tab_none, tab_next}
-use borrow.Author.Rules.{rules}
 use Rattle.compose.proofs.put_sizes.Goals as goal
 
 pub loop-i-init : goal.loop-i-init

@@ -1,14 +1,9 @@
-use mathlib.Core.Path.{◌≡◌, refl, sym, ap, ◌∙◌}
-use mathlib.Core.List.{List}
-use Prim.Native.Nat.{ℕ, ◌+◌, ◌-◌, ◌≤◌, ◌<◌}
-use native.Mathlib.Omega.{arith}
-use lib.ListN.{length, set, length-set}
+use mathlib.Core.Path.{◌≡◌}
+use Prim.Native.Nat.{◌-◌, ◌≤◌}
+use lib.ListN.{length}
 use Rattle.bounded.specs.Table.{tab}
 use Rattle.problem.specs.Held.{held}
-use Rattle.problem.proofs.HeldTable.{held_few, held_narrow}
 use Rattle.buffers.specs.Written.{written}
-use Rattle.buffers.proofs.Written.{tab_none, tab_next}
-use borrow.Author.Rules.{rules}
 use Rattle.compose.proofs.put_sizes.Given as goal
 
 abbrev pub invariant-loop-i : goal.invariant-loop-i

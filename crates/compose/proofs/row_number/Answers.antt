@@ -2,7 +2,6 @@
 use mathlib.Core.Path.{◌∙◌}
 use native.Mathlib.Omega.{arith}
 use Rattle.problem.proofs.HeldTable.{held_bounded, held_value_lem, row_sized, row_within, held_few, held_narrow}
-use borrow.Author.Rules.{rules}
 use Rattle.compose.proofs.row_number.Goals as goal
 
 pub row-requires : goal.row-requires

@@ -12,7 +12,6 @@ use Rattle.compose.proofs.Lengths.{blocks_short}
 use Rattle.compose.proofs.Written.{written_length}
 use Rattle.compose.proofs.Blocks.{layout_roomy}
 use Rattle.compose.proofs.Over.{sheet_over_short, sheet_over_done}
-use borrow.Author.Rules.{rules}
 use Rattle.compose.proofs.write_marked.Goals as goal
 use Rattle.compose.proofs.write_marked.Goals.{After-blocks_length}
 

@@ -1,14 +1,9 @@
-use mathlib.Core.Path.{◌≡◌, sym}
+use mathlib.Core.Path.{◌≡◌}
 use mathlib.Core.Bool.{true}
 use Prim.Native.Nat.{ℕ, ◌-◌, ◌≤◌}
-use native.Mathlib.Omega.{arith}
 use lib.Dec.{eqb}
 use lib.ListN.{get_or}
-use borrow.Author.Rules.{rules}
-use borrow.Author.Tests.{eq-eqb, ne_eqb}
 use Rattle.bounded.specs.Quantifiers.{all_below}
-use Rattle.bounded.proofs.Loops.{all_none, all_more, all_fail, all_end}
-use Rattle.read_sheet.specs.Reading.{all_full}
 use Rattle.read_sheet.proofs.allows_all.Given as goal
 
 abbrev pub invariant-loop-a : goal.invariant-loop-a

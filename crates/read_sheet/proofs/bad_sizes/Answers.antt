@@ -1,7 +1,6 @@
 -- `read_sheet::bad_sizes`: the answer from the start is the answer from here.
 use mathlib.Core.Path.{◌≡◌, refl, sym, ap, ◌∙◌}
-use Prim.Native.Nat.{ℕ, ◌+◌, ◌≤◌}
-use lib.ListN.{length}
+use Prim.Native.Nat.{ℕ}
 use Rattle.sheet.specs.Sheet.{layout, bad_sizes}
 use Rattle.sheet.proofs.Laws.{sizes_zero, sizes_large, sizes_next, sizes_end}
 use borrow.Author.Rules.{rules}

@@ -1,10 +1,7 @@
-use mathlib.Core.Path.{◌≡◌, refl, sym, ap, ◌∙◌}
-use Prim.Native.Nat.{ℕ, ◌+◌, ◌≤◌}
+use mathlib.Core.Path.{◌≡◌}
+use Prim.Native.Nat.{◌+◌, ◌≤◌}
 use lib.ListN.{length}
 use Rattle.sheet.specs.Sheet.{layout, bad_sizes}
-use Rattle.sheet.proofs.Laws.{sizes_zero, sizes_large, sizes_next, sizes_end}
-use borrow.Author.Rules.{rules}
-use native.Mathlib.Omega.{arith}
 use Rattle.read_sheet.proofs.bad_sizes.Given as goal
 
 abbrev pub invariant-loop-left : goal.invariant-loop-left

@@ -1,7 +1,6 @@
 -- `read_sheet::block_at`. Assumes nothing.
 use mathlib.Core.Path.{sym, ◌∙◌}
 use native.Mathlib.Omega.{arith}
-use borrow.Author.Rules.{rules}
 use Rattle.sheet.specs.Sheet.{layout}
 use Rattle.sheet.proofs.Laws.{block_missing, block_there}
 use Rattle.read_sheet.proofs.Rows.{no_rows}

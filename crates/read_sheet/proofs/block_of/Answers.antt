@@ -5,7 +5,6 @@ use Prim.Native.Nat.{◌+◌, ◌*◌, ◌≤◌, ◌<◌}
 use native.Mathlib.Omega.{arith}
 use lib.ListN.{length}
 use borrow.Author.Rules.{rules}
-use borrow.Author.Tests.{not-true, not-false}
 use Rattle.sheet.specs.Sheet.{layout, variables_of, size_at, row_width, row_bytes, in_order}
 use Rattle.sheet.proofs.Laws.{rows_small, in_order_lem, block_order, block_cut}
 use Rattle.read_sheet.specs.Reading.{RowsRead}

@@ -1,14 +1,13 @@
 -- `read_sheet::blocks`: the answer from the start is the answer from here, and the table shows what was met. Assumes nothing.
 use mathlib.Core.Path.{◌≡◌, refl, sym, ap, ◌∙◌}
-use Prim.Native.Nat.{ℕ, ◌+◌, ◌≤◌, ◌<◌}
+use Prim.Native.Nat.{ℕ, ◌+◌, ◌<◌}
 use native.Mathlib.Omega.{arith}
-use lib.ListN.{length}
 use borrow.Author.Rules.{rules}
 use Rattle.buffers.specs.Bytes.{byte_at}
-use Rattle.sheet.specs.Sheet.{layout, variables_of, blocks_of, blocks_from}
+use Rattle.sheet.specs.Sheet.{layout, blocks_from}
 use Rattle.sheet.proofs.Laws.{in_order_lem, Whole, whole, blocks_fault, blocks_next}
 use Rattle.read_sheet.proofs.Stores.{clear_local}
-use Rattle.read_sheet.proofs.Pass.{Pass, pass_first, pass_more, pass_end, refused_block}
+use Rattle.read_sheet.proofs.Pass.{pass_first, pass_more, pass_end, refused_block}
 use Rattle.read_sheet.proofs.blocks.Goals as goal
 use Rattle.read_sheet.proofs.blocks.Goals.{In-Next}
 

@@ -1,13 +1,8 @@
-use mathlib.Core.Path.{◌≡◌, refl, sym, ap, ◌∙◌}
-use Prim.Native.Nat.{ℕ, ◌+◌, ◌≤◌, ◌<◌}
-use native.Mathlib.Omega.{arith}
+use mathlib.Core.Path.{◌≡◌}
+use Prim.Native.Nat.{◌+◌, ◌≤◌}
 use lib.ListN.{length}
-use borrow.Author.Rules.{rules}
-use Rattle.buffers.specs.Bytes.{byte_at}
 use Rattle.sheet.specs.Sheet.{layout, variables_of, blocks_of, blocks_from}
-use Rattle.sheet.proofs.Laws.{in_order_lem, Whole, whole, blocks_fault, blocks_next}
-use Rattle.read_sheet.proofs.Stores.{clear_local}
-use Rattle.read_sheet.proofs.Pass.{Pass, pass_first, pass_more, pass_end, refused_block}
+use Rattle.read_sheet.proofs.Pass.{Pass}
 use Rattle.read_sheet.proofs.blocks.Given as goal
 
 abbrev pub invariant-loop-left : goal.invariant-loop-left

@@ -1,10 +1,8 @@
 -- `read_sheet::check`: the answer from the start is the answer from here. Assumes nothing.
 use mathlib.Core.Path.{◌≡◌, refl, sym, ap, ◌∙◌}
-use Prim.Native.Nat.{ℕ, ◌+◌, ◌≤◌}
+use Prim.Native.Nat.{ℕ}
 use native.Mathlib.Omega.{arith}
-use lib.ListN.{length}
-use borrow.Author.Rules.{rules}
-use Rattle.sheet.specs.Sheet.{layout, variables_of, blocks_of, blocks_from}
+use Rattle.sheet.specs.Sheet.{layout, blocks_from}
 use Rattle.sheet.proofs.Laws.{whole, blocks_fault, blocks_next}
 use Rattle.read_sheet.proofs.Stores.{clear_local}
 use Rattle.read_sheet.proofs.check.Goals as goal

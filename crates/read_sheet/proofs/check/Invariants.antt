@@ -1,11 +1,7 @@
-use mathlib.Core.Path.{◌≡◌, refl, sym, ap, ◌∙◌}
-use Prim.Native.Nat.{ℕ, ◌+◌, ◌≤◌}
-use native.Mathlib.Omega.{arith}
+use mathlib.Core.Path.{◌≡◌}
+use Prim.Native.Nat.{◌+◌, ◌≤◌}
 use lib.ListN.{length}
-use borrow.Author.Rules.{rules}
 use Rattle.sheet.specs.Sheet.{layout, variables_of, blocks_of, blocks_from}
-use Rattle.sheet.proofs.Laws.{whole, blocks_fault, blocks_next}
-use Rattle.read_sheet.proofs.Stores.{clear_local}
 use Rattle.read_sheet.proofs.check.Given as goal
 
 abbrev pub invariant-loop-left : goal.invariant-loop-left

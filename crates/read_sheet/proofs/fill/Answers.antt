@@ -1,5 +1,4 @@
 -- `read_sheet::fill`. Assumes nothing.
-use borrow.Author.Rules.{rules}
 use Rattle.read_sheet.proofs.Stores.{free_table}
 use Rattle.read_sheet.proofs.fill.Goals as goal
 

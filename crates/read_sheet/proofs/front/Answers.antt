@@ -1,12 +1,10 @@
 -- `read_sheet::front`: the cases of a sheet in the order of its tests. Assumes nothing.
-use borrow.Author.Tests.{not-true, not-false}
 use mathlib.Core.Path.{◌≡◌, sym, ap, ◌∙◌}
 use mathlib.Core.Bool.{Bool, true, false}
 use Prim.Native.Nat.{ℕ}
 use Rattle.sheet.specs.Sheet.{layout, version_of, variables_of, bad_sizes, Front}
 use Rattle.sheet.proofs.Laws.{sheet_short, sheet_version, sheet_length, sheet_none, sheet_many, sheet_sizes_missing, sheet_sizes, sheet_blocks, good_sizes}
 use Rattle.read_sheet.proofs.Fronts.{front_refused, front_good}
-use borrow.Author.Rules.{rules}
 use native.Mathlib.Omega.{arith}
 use Rattle.read_sheet.proofs.front.Goals as goal
 use Rattle.read_sheet.proofs.front.Goals.{After-bad_sizes, After-takes, Else-bad_sizes, Else-not-takes}

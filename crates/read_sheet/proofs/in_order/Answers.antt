@@ -2,7 +2,6 @@
 use borrow.Author.Tests.{lt-ltb, le-ltb}
 use Prim.Native.Nat.{◌≤◌, ◌<◌}
 use Rattle.sheet.specs.Sheet.{variables_of}
-use borrow.Author.Rules.{rules}
 use native.Mathlib.Omega.{arith}
 use Rattle.read_sheet.proofs.in_order.Goals as goal
 

@@ -1,12 +1,7 @@
-use mathlib.Core.Path.{◌≡◌}
 use Prim.Native.Nat.{◌-◌, ◌≤◌}
-use native.Mathlib.Omega.{arith}
-use borrow.Author.Rules.{rules}
 use Rattle.sheet.specs.Sheet.{layout}
 use Rattle.sheet.specs.Relation.{size_of}
 use Rattle.table.specs.Parts.{Wrote}
-use Rattle.table.proofs.Stores.{wrote_none}
-use Rattle.read_sheet.proofs.Stores.{first_more}
 use Rattle.read_sheet.proofs.put_sizes.Given as goal
 
 abbrev pub invariant-loop-k : goal.invariant-loop-k

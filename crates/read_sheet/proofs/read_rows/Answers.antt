@@ -1,12 +1,11 @@
 -- `read_sheet::read_rows`: the rows so far are stored. Assumes nothing.
 use mathlib.Core.Path.{◌≡◌, ap, ◌∙◌}
-use Prim.Native.Nat.{ℕ, ◌+◌, ◌-◌, ◌*◌, ◌≤◌, ◌<◌}
+use Prim.Native.Nat.{ℕ, ◌+◌, ◌*◌, ◌≤◌, ◌<◌}
 use native.Mathlib.Nat.{add-mul}
 use native.Mathlib.Omega.{arith}
 use borrow.Author.Rules.{rules}
 use Rattle.buffers.specs.Bytes.{number_at}
 use Rattle.sheet.proofs.Laws.{row_within}
-use Rattle.table.specs.Parts.{Wrote}
 use Rattle.table.proofs.Stores.{wrote_none}
 use Rattle.read_sheet.proofs.Stores.{first_more}
 use Rattle.read_sheet.proofs.read_rows.Goals as goal

@@ -1,13 +1,7 @@
-use mathlib.Core.Path.{◌≡◌, ap, ◌∙◌}
-use Prim.Native.Nat.{ℕ, ◌+◌, ◌-◌, ◌*◌, ◌≤◌, ◌<◌}
-use native.Mathlib.Nat.{add-mul}
-use native.Mathlib.Omega.{arith}
-use borrow.Author.Rules.{rules}
+use mathlib.Core.Path.{◌≡◌}
+use Prim.Native.Nat.{ℕ, ◌+◌, ◌-◌, ◌*◌, ◌≤◌}
 use Rattle.buffers.specs.Bytes.{number_at}
-use Rattle.sheet.proofs.Laws.{row_within}
 use Rattle.table.specs.Parts.{Wrote}
-use Rattle.table.proofs.Stores.{wrote_none}
-use Rattle.read_sheet.proofs.Stores.{first_more}
 use Rattle.read_sheet.proofs.read_rows.Given as goal
 
 abbrev pub invariant-loop-a : goal.invariant-loop-a

@@ -1,6 +1,5 @@
 -- `read_sheet::read_sheet`: the front refuses, or the blocks decide. Assumes nothing.
 use mathlib.Core.Path.{sym, ◌∙◌}
-use borrow.Author.Rules.{rules}
 use Rattle.read_sheet.proofs.read_sheet.Goals as goal
 
 pub check-requires : goal.check-requires

@@ -1,6 +1,5 @@
 -- `read_sheet::read_table`: the front refuses, or the blocks decide. Assumes nothing.
 use mathlib.Core.Path.{sym, ◌∙◌}
-use borrow.Author.Rules.{rules}
 use Rattle.read_sheet.proofs.Pass.{refused}
 use Rattle.read_sheet.proofs.read_table.Goals as goal
 

@@ -2,7 +2,6 @@
 use mathlib.Core.Path.{◌≡◌, sym, ap, ◌∙◌}
 use mathlib.Core.Bool.{Bool, true, false}
 use Prim.Native.Nat.{ℕ, ◌-◌, ◌^◌}
-use borrow.Author.Rules.{rules}
 use Rattle.read_sheet.specs.Reading.{some_beyond, all_full, rows_tell}
 use Rattle.read_sheet.proofs.rows_tell.Goals as goal
 use Rattle.read_sheet.proofs.rows_tell.Goals.{After-allows_all, After-some_beyond}

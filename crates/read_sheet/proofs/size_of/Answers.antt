@@ -1,7 +1,6 @@
 -- `read_sheet::size_of`. Assumes nothing.
 use mathlib.Core.Path.{sym, ◌∙◌}
 use native.Mathlib.Omega.{arith}
-use borrow.Author.Rules.{rules}
 use Rattle.sheet.specs.Sheet.{layout}
 use Rattle.sheet.proofs.Accepted.{size_in, size_out}
 use Rattle.read_sheet.proofs.size_of.Goals as goal

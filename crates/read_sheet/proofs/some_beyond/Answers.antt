@@ -1,12 +1,10 @@
 -- `read_sheet::some_beyond`: what was found in the rows so far. Assumes nothing.
 use mathlib.Core.Path.{◌≡◌, sym, ap, ◌∙◌}
 use mathlib.Core.Bool.{Bool, ◌||◌}
-use Prim.Native.Nat.{ℕ, ◌-◌, ◌≤◌}
+use Prim.Native.Nat.{ℕ}
 use native.Mathlib.Omega.{arith}
 use lib.Dec.{ltb}
 use lib.ListN.{get_or}
-use borrow.Author.Rules.{rules}
-use Rattle.bounded.specs.Quantifiers.{any_below}
 use Rattle.bounded.proofs.Loops.{any_none, any_next}
 use Rattle.read_sheet.specs.Reading.{some_beyond}
 use Rattle.read_sheet.proofs.some_beyond.Goals as goal

@@ -1,13 +1,8 @@
-use mathlib.Core.Path.{◌≡◌, sym, ap, ◌∙◌}
-use mathlib.Core.Bool.{Bool, ◌||◌}
+use mathlib.Core.Path.{◌≡◌}
 use Prim.Native.Nat.{ℕ, ◌-◌, ◌≤◌}
-use native.Mathlib.Omega.{arith}
 use lib.Dec.{ltb}
 use lib.ListN.{get_or}
-use borrow.Author.Rules.{rules}
 use Rattle.bounded.specs.Quantifiers.{any_below}
-use Rattle.bounded.proofs.Loops.{any_none, any_next}
-use Rattle.read_sheet.specs.Reading.{some_beyond}
 use Rattle.read_sheet.proofs.some_beyond.Given as goal
 
 abbrev pub invariant-loop-a : goal.invariant-loop-a

@@ -1,5 +1,4 @@
 -- `table::clear_far`: one entry without one bit. Assumes nothing.
-use borrow.Author.Rules.{rules}
 use Rattle.table.specs.Parts.{cleared}
 use Rattle.table.proofs.clear_far.Goals as goal
 

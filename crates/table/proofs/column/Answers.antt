@@ -1,10 +1,7 @@
 -- `table::column`: the bits so far are the set so far. Assumes nothing.
 use mathlib.Core.Path.{◌≡◌}
-use Prim.Native.Nat.{ℕ, ◌≤◌, ◌-◌}
 use native.Mathlib.Omega.{arith}
-use lib.ListN.{get_or}
 use borrow.Author.Rules.{rules}
-use Rattle.bounded.specs.Mask.{bit, mask_of}
 use Rattle.bounded.proofs.Mask.{mask_none, mask_or}
 use Rattle.table.specs.Parts.{transposed_row}
 use Rattle.table.proofs.column.Goals as goal

@@ -1,11 +1,8 @@
 -- `table::copy_places`: the entries so far are stored. Assumes nothing.
 use mathlib.Core.Path.{◌≡◌, refl}
-use Prim.Native.Nat.{ℕ, ◌+◌, ◌-◌, ◌≤◌, ◌<◌}
+use Prim.Native.Nat.{ℕ, ◌+◌, ◌<◌}
 use native.Mathlib.Omega.{arith}
-use lib.ListN.{length, get_or}
-use borrow.Author.Rules.{rules}
 use Rattle.problem.specs.Held.{table_length}
-use Rattle.table.specs.Parts.{Wrote}
 use Rattle.table.proofs.Stores.{wrote_none, wrote_more, wrote_places}
 use Rattle.table.proofs.copy_places.Goals as goal
 

@@ -1,5 +1,4 @@
 -- `table::enter`: each part does its share, and the law joins them. Assumes nothing.
-use borrow.Author.Rules.{rules}
 use Rattle.table.proofs.Entering.{entered_by}
 use Rattle.table.proofs.enter.Goals as goal
 

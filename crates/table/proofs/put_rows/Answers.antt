@@ -1,10 +1,7 @@
 -- `table::put_rows`: the entries so far are stored. Assumes nothing.
 use mathlib.Core.Path.{◌≡◌, refl}
-use Prim.Native.Nat.{ℕ, ◌+◌, ◌-◌, ◌≤◌, ◌<◌}
+use Prim.Native.Nat.{ℕ, ◌+◌, ◌≤◌, ◌<◌}
 use native.Mathlib.Omega.{arith}
-use lib.ListN.{length, get_or}
-use borrow.Author.Rules.{rules}
-use Rattle.table.specs.Parts.{Wrote}
 use Rattle.table.proofs.Stores.{wrote_none, wrote_more}
 use Rattle.table.proofs.put_rows.Goals as goal
 

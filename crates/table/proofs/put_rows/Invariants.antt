@@ -1,10 +1,6 @@
-use mathlib.Core.Path.{◌≡◌, refl}
-use Prim.Native.Nat.{ℕ, ◌+◌, ◌-◌, ◌≤◌, ◌<◌}
-use native.Mathlib.Omega.{arith}
-use lib.ListN.{length, get_or}
-use borrow.Author.Rules.{rules}
+use Prim.Native.Nat.{ℕ, ◌-◌, ◌≤◌}
+use lib.ListN.{get_or}
 use Rattle.table.specs.Parts.{Wrote}
-use Rattle.table.proofs.Stores.{wrote_none, wrote_more}
 use Rattle.table.proofs.put_rows.Given as goal
 
 abbrev pub invariant-loop-a : goal.invariant-loop-a

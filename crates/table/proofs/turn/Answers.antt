@@ -1,11 +1,10 @@
 -- `table::turn`: the rows so far are turned. Assumes nothing.
-use mathlib.Core.Path.{◌≡◌, sym, ap, ◌∙◌}
+use mathlib.Core.Path.{sym, ap, ◌∙◌}
 use mathlib.Core.List.{List}
-use Prim.Native.Nat.{ℕ, ◌≤◌, ◌-◌}
+use Prim.Native.Nat.{ℕ}
 use native.Mathlib.Omega.{arith}
-use lib.ListN.{length, set}
+use lib.ListN.{set}
 use borrow.Author.Rules.{rules}
-use Rattle.bounded.specs.Table.{filled}
 use Rattle.bounded.proofs.Table.{filled_none, filled_more, filled_end}
 use Rattle.table.specs.Parts.{transposed_row, transposed_rows}
 use Rattle.table.proofs.turn.Goals as goal

@@ -1,12 +1,8 @@
-use mathlib.Core.Path.{◌≡◌, sym, ap, ◌∙◌}
-use mathlib.Core.List.{List}
-use Prim.Native.Nat.{ℕ, ◌≤◌, ◌-◌}
-use native.Mathlib.Omega.{arith}
-use lib.ListN.{length, set}
-use borrow.Author.Rules.{rules}
+use mathlib.Core.Path.{◌≡◌}
+use Prim.Native.Nat.{◌≤◌, ◌-◌}
+use lib.ListN.{length}
 use Rattle.bounded.specs.Table.{filled}
-use Rattle.bounded.proofs.Table.{filled_none, filled_more, filled_end}
-use Rattle.table.specs.Parts.{transposed_row, transposed_rows}
+use Rattle.table.specs.Parts.{transposed_row}
 use Rattle.table.proofs.turn.Given as goal
 
 abbrev pub invariant-loop-b : goal.invariant-loop-b
