@@ -25,9 +25,11 @@ INSTALLED = "$(DESTDIR)$(INCLUDEDIR)/zomuwedli.h" "$(DESTDIR)$(LIBDIR)/libzomuwe
 
 all: $(ARCHIVE)
 
-# rt looks at the sources itself, and takes minutes; after a change to crates/ call it by hand
+# rt looks at the sources itself, and takes minutes; after a change to crates/: make -B target/staticlib/libzomuwedli.a
 $(ARCHIVE):
-	rt staticlib zomuwedli
+	cd crates/zomuwedli && rt lib
+	@mkdir -p $(@D)
+	cp crates/zomuwedli/out/libzomuwedli.a $@
 
 examples: $(EXAMPLES:%=target/c/%)
 

@@ -1,15 +1,15 @@
 """What the pages name stands where they say it does.
 
 The pages are those of PAGES. Looked at, and in blocks of code only paths:
-- a name with a place, as `run-worked`, run: Worked (crates/run/proofs/Worked.antt), or `runJob`, run/specs/Run.antt: the file declares it;
-- a name with a hyphen: some file declares it; on the pages of INDEXES one that its table row, list item or paragraph names, or that the page
-  has it placed in;
+- a name with a place, as `run_worked`, run: Worked (crates/run/proofs/Worked.antt), or `run_job`, run/specs/Run.antt: the file declares it;
+- a name in snake case, as those of definitions, theorems and functions: some file declares it, or it is a crate; on the pages of INDEXES a
+  theorem's is declared in a file that its table row, list item or paragraph names, or that the page has it placed in;
 - the names of a table whose last column is headed "file": declared in the files of that column ("same": those of the row above);
 - the names of a column headed "field of `R`": the fields of the record R, all of them;
 - a function, as `held::rows_at`: the sources of that crate have it;
 - a name with a hyphen, an underscore or a capital: some file of the tree has it;
 - a wrong build, as sheet/six_before_seven: crates/sheet/must-fail/six_before_seven.edit;
-- a path of this tree, and a link, with its heading;
+- a path of this tree, and a link, with its heading; of a crate's out/ only what rt makes there of a program or a static library;
 - README's table and picture of the crates: the crates of crates.txt and no others.
 The exit status is 1 where something is not so."""
 import glob
@@ -23,10 +23,23 @@ FOLDERS = ("crates", "docs", "rust", "tests", "examples", "include")
 # words that stand for a name
 STANDS_FOR = re.compile(r"\b(NAME|LABEL|CRATE|CHANNELS|NN)\b|/F/|…")
 
-# no file of the tree declares it: the kit makes it from an enum
-KIT = {"the-variants"}
-
 NAME = r"[^\W\d_][\w'-]*"
+# a constant in capitals is none
+SNAKE = re.compile(r"(?=.*[-_])(?=.*[^\W_A-Z\d])[\w'-]+")
+# how a theorem is declared, and how a definition
+LAW = re.compile(rf"^\s*pub ({NAME}) ", re.M)
+DEFINED = re.compile(rf"^\s*(?:abbrev|unfoldable) pub ({NAME}) ", re.M)
+# words of Rust and its tools, which no file of the tree declares
+RUST = {"leading_zeros", "trailing_zeros", "compile_fail"}
+# how the files of the callers declare: Rust, C, Python, and else the shell's functions
+CALLERS = {
+    ".rs": r"\b(?:fn|struct|enum|const|static|type|mod) (\w+)|^\s+pub (\w+):",
+    ".h": r"^(?:[a-z]\w*[ *]+)+(\w+)\(|^#define (\w+)",
+    ".c": r"^(?:[a-z]\w*[ *]+)+(\w+)\(|^#define (\w+)",
+    ".py": r"^\s*def (\w+)",
+    "": r"^(\w+)\(\) \{",
+}
+
 PLACE = re.compile(
     r"(?P<path>\b(?:crates/)?(?P<crate>[a-z]\w*)/(?P<folder>specs|proofs|src)/(?P<file>[A-Za-z]\w*)\.(?:antt|rt)\b)"
     r"|(?P<room>\b[a-z]\w*): (?P<rooms>[A-Z]\w*(?:, [A-Z]\w*)*)(?!\.antt|[\w-])"
@@ -37,6 +50,8 @@ PLACE = re.compile(
 BETWEEN = re.compile(r"(,| and|, and| to| or|, or)?( the)?( fields?| cases?)? ")
 JOINED = re.compile(r" (and|or|to) ")
 PART = re.compile(r"\b(fields?|cases?) (`[^`]*`(, | and |, and ))*$")
+# below a folder that rt makes
+OUT = re.compile(r"crates/\w+/out/.")
 
 
 def read(path):
@@ -48,18 +63,32 @@ class Tree:
     """What the files of the tree declare, and every word of theirs."""
 
     def __init__(self):
-        self.declared, self.words = {}, set()
-        self.crates = set(re.findall(r"^(\w+):", read("crates.txt"), re.M))
-        for path in glob.glob("crates/*/*/**/*", recursive=True) + glob.glob("crates/*/must-fail/*"):
-            if path.endswith((".antt", ".rt", ".edit")) and os.path.isfile(path):
-                text = read(path)
-                self.words.update(re.findall(NAME, text))
-                self.declared[path] = declarations(path, text)
+        self.declared, self.words, self.called = {}, set(), set()
+        rows = re.findall(r"^(\w+)( staticlib)?[^:#\n]*:", read("crates.txt"), re.M)
+        self.crates = {name for name, _ in rows}
+        # what rt makes of a crate that is not a library for the crates above it
+        self.made = {f"crates/{name}/out/lib{name}.a" for name, is_archive in rows if is_archive}
+        self.made |= {f"crates/{name}/out/{name}" for name in self.crates if os.path.isfile(f"crates/{name}/src/main.rt")}
+        for folder in ("specs", "proofs", "src", "must-fail"):
+            for path in glob.glob(f"crates/*/{folder}/**/*", recursive=True):
+                if path.endswith((".antt", ".rt", ".edit")) and os.path.isfile(path):
+                    text = read(path)
+                    self.words.update(re.findall(NAME, text))
+                    self.declared[path] = declarations(path, text)
         for pattern in ("rust/**/*.rs", "rust/*", "include/*", "tests/*", "examples/**/*.[ch]", "Makefile", ".ci/run", "crates.txt"):
             for path in glob.glob(pattern, recursive=True):
                 if os.path.isfile(path) and path != "tests/papers.py":
-                    self.words.update(re.findall(r"[A-Za-z]\w*", read(path)))
+                    text = read(path)
+                    self.words.update(re.findall(r"[A-Za-z]\w*", text))
+                    declares = CALLERS.get(os.path.splitext(path)[1], CALLERS[""])
+                    self.called.update(name for found in re.finditer(declares, text, re.M) for name in found.groups() if name)
         self.words.update(os.listdir("crates"))
+        # what is no theorem: the code's names and its callers', the crates, the definitions
+        laws = {name for path in self.declared if path.endswith(".antt") for name in LAW.findall(read(path))}
+        self.loose = self.called | self.crates | RUST
+        for path, names in self.declared.items():
+            self.loose.update(names if path.endswith(".rt") else DEFINED.findall(read(path)) if "/specs/" in path else ())
+        self.loose -= laws
 
     def has(self, paths, name):
         return any(name in self.declared.get(path, ()) for path in paths)
@@ -182,7 +211,7 @@ class Page:
                     self.cited.add(name)
             near = [file for _, _, files in places for file in files]
             for begin, _, name in names:
-                if begin not in direct and begin in whole and "-" in name and name not in KIT:
+                if begin not in direct and begin in whole and SNAKE.fullmatch(name):
                     self.loose.append((line, name, near))
 
     def part(self, files, name, said):
@@ -197,6 +226,8 @@ class Page:
     def loosely(self):
         for line, name, near in self.loose:
             self.counts["near"] += 1
+            if name in self.tree.loose:
+                continue
             if self.path not in INDEXES:
                 if not self.tree.has(self.tree.declared, name):
                     self.fault(line, f"no file declares {name}")
@@ -286,7 +317,7 @@ class Page:
                     continue
                 self.counts["paths"] += 1
                 path = path if path.split("/")[0] in FOLDERS else f"crates/{path}"
-                if not glob.glob(re.sub(r"-N\b", "-*", path)):
+                if path not in self.tree.made and (OUT.match(path) or not glob.glob(re.sub(r"-N\b", "-*", path))):
                     self.fault(line, f"no file {path}")
 
     def links(self):
@@ -319,8 +350,8 @@ class Page:
 
 
 def numbers(first, last):
-    """The names between two that end in numbers, as those from called-11 to called-14."""
-    one, other = re.fullmatch(r"(.*-)(\d+)", first), re.fullmatch(r"(.*-)(\d+)", last)
+    """The names between two that end in numbers, as those from called_11 to called_14."""
+    one, other = re.fullmatch(r"(.*_)(\d+)", first), re.fullmatch(r"(.*_)(\d+)", last)
     return [one[1] + str(k) for k in range(int(one[2]) + 1, int(other[2]))] if one and other and one[1] == other[1] else []
 
 
