@@ -15,33 +15,40 @@ use borrow.Author.Rules.{rules}
 use Rattle.hand_call.proofs.call_over.Goals as goal
 use Rattle.hand_call.proofs.call_over.Goals.{Else-not-fits}
 
--- what the struct's own types say
-proper : (c : tie.Start) → Proper c.args.st.masks
-proper c =
-    record {
+-- what the struct's own types say, and past the test of 11
+ready : (c : Else-not-fits) → Proper c.args.st.masks → Ready c.args.t.now c.args.st.masks
+ready c p =
+    let e = sym c.fits.ensures ∙ c.if-not-fits.false in
+    record { table = c.requires; proper = p; fits = (fits_iff (held c.args.t.now) c.args.st.masks p).0 (T_of e) }
+
+pub fits-requires : goal.fits-requires
+fits-requires c =
+    (c.requires, record {
       active_lt = search rules;
       length_is = search rules;
       domain_lt = λ i l. let h : Fits w16 (get_or c.args.st.masks.domains i 0) = search rules in h.fits;
-    }
-
--- past the test of 11
-ready : (c : Else-not-fits) → Ready c.args.t.now c.args.st.masks
-ready c =
-    let e = sym c.fits2.ensures ∙ c.if-not-fits.false in
-    record { table = c.requires; proper = proper c; fits = (fits_iff (held c.args.t.now) c.args.st.masks (proper c)).0 (T_of e) }
-
-pub fits-requires : goal.fits-requires
-fits-requires c = (c.requires, proper c)
+    })
 
 pub returns-then-not-fits : goal.returns-then-not-fits
 returns-then-not-fits c =
     let a = c.args in
     let P = held a.t.now in
-    let e = sym c.fits2.ensures ∙ c.if-not-fits.true in
+    let e = sym c.fits.ensures ∙ c.if-not-fits.true in
     c.refused_call.ensures ∙ sym (ap (call_answer P a.st a.i) (call_misfit P (state_of a.st.masks) a.i e))
 
 pub none_empty-requires : goal.none_empty-requires
-none_empty-requires c = ready (goal.at.none_empty-requires c).Else-not-fits
+none_empty-requires c =
+    ready (goal.at.none_empty-requires c).Else-not-fits record {
+      active_lt = search rules;
+      length_is = search rules;
+      domain_lt = λ i l. let h : Fits w16 (get_or c.args.st.masks.domains i 0) = search rules in h.fits;
+    }
 
 pub call_fitting-requires : goal.call_fitting-requires
-call_fitting-requires c = (ready (goal.at.call_fitting-requires c).Else-not-fits, c.is_active.ensures, c.none_empty.ensures)
+call_fitting-requires c =
+    let p : Proper c.args.st.masks = record {
+      active_lt = search rules;
+      length_is = search rules;
+      domain_lt = λ i l. let h : Fits w16 (get_or c.args.st.masks.domains i 0) = search rules in h.fits;
+    } in
+    (ready (goal.at.call_fitting-requires c).Else-not-fits p, c.is_active.ensures, c.none_empty.ensures)

@@ -8,15 +8,15 @@ use borrow.Author.Rules.{rules}
 use Rattle.hand_call.proofs.hand_call.Goals as goal
 
 pub returns-in-Refused : goal.returns-in-Refused
-returns-in-Refused c = c.refused_call.ensures ∙ sym (call_refused_lem _ _ _ _ (table_refused _ _ c.read_table.ensures c.in-Refused.is))
+returns-in-Refused c = c.refused_call.ensures ∙ sym (call_refused_lem _ _ _ _ (table_refused _ _ (c.read_table.ensures.answer, c.read_table.ensures.filled) c.in-Refused.is))
 
 pub returns-in-Accepted : goal.returns-in-Accepted
 returns-in-Accepted c =
     let a = c.args in
-    c.call_over.ensures ∙ table_job _ _ c.read_table.ensures c.in-Accepted.is (λ (P : Problem). call_over P a.st a.i) (call_kept _ a.st a.i)
+    c.call_over.ensures ∙ table_job _ _ (c.read_table.ensures.answer, c.read_table.ensures.filled) c.in-Accepted.is (λ (P : Problem). call_over P a.st a.i) (call_kept _ a.st a.i)
 
 pub read_table-requires : goal.read_table-requires
 read_table-requires c = c.blank_table-t.ensures
 
 pub call_over-requires : goal.call_over-requires
-call_over-requires c = table_rows _ _ c.read_table.ensures c.in-Accepted.is
+call_over-requires c = table_rows _ _ (c.read_table.ensures.answer, c.read_table.ensures.filled) c.in-Accepted.is

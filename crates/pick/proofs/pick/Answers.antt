@@ -10,18 +10,18 @@ use Rattle.pick.proofs.pick.Goals as goal
 pub returns-in-Refused : goal.returns-in-Refused
 returns-in-Refused c =
     let a = c.args in
-    let q = sym (pick_sheet_refused a.s.now a.trace.now a.plan.now _ (table_refused _ _ c.read_table.ensures c.in-Refused.is)) in
-    (c.refused.ensures ∙ ap (λ (x : PickResult). x.answer) q, (ap (λ (x : PickResult). x.trace) q, ap (λ (x : PickResult). x.plan) q))
+    let q = sym (pick_sheet_refused a.s.now a.trace.now a.plan.now _ (table_refused _ _ (c.read_table.ensures.answer, c.read_table.ensures.filled) c.in-Refused.is)) in
+    record { answer = c.refused.ensures ∙ ap (λ (x : PickResult). x.answer) q; trace = ap (λ (x : PickResult). x.trace) q; plan = ap (λ (x : PickResult). x.plan) q }
 
 pub returns-in-Accepted : goal.returns-in-Accepted
 returns-in-Accepted c =
     let a = c.args in
-    let q = table_job _ _ c.read_table.ensures c.in-Accepted.is (λ (P : Problem). pick_over P a.trace.now a.plan.now) (pick_kept a.s.now a.trace.now a.plan.now) in
+    let q = table_job _ _ (c.read_table.ensures.answer, c.read_table.ensures.filled) c.in-Accepted.is (λ (P : Problem). pick_over P a.trace.now a.plan.now) (pick_kept a.s.now a.trace.now a.plan.now) in
     let p = c.pick_over.ensures in
-    (p.answer ∙ ap (λ (x : PickResult). x.answer) q, (p.trace.0 ∙ ap (λ (x : PickResult). x.trace) q, p.trace.1 ∙ ap (λ (x : PickResult). x.plan) q))
+    record { answer = p.answer ∙ ap (λ (x : PickResult). x.answer) q; trace = p.trace ∙ ap (λ (x : PickResult). x.trace) q; plan = p.plan ∙ ap (λ (x : PickResult). x.plan) q }
 
 pub read_table-requires : goal.read_table-requires
 read_table-requires c = c.blank_table-t.ensures
 
 pub pick_over-requires : goal.pick_over-requires
-pick_over-requires c = table_rows _ _ c.read_table.ensures c.in-Accepted.is
+pick_over-requires c = table_rows _ _ (c.read_table.ensures.answer, c.read_table.ensures.filled) c.in-Accepted.is

@@ -10,7 +10,7 @@ pub returns-then-state-ne-STATE_LENGTH : goal.returns-then-state-ne-STATE_LENGTH
 returns-then-state-ne-STATE_LENGTH c =
     let a = c.args in
     let e = sym (pick_bad a.sheet.now a.trace.now a.plan.now a.state.now (λ l. omega arith)) in
-    (c.bad_state.ensures ∙ ap (λ (y : PickCall). y.answer) e, (ap (λ (y : PickCall). y.trace) e, (ap (λ (y : PickCall). y.plan) e, ap (λ (y : PickCall). y.state) e)))
+    record { answer = c.bad_state.ensures ∙ ap (λ (y : PickCall). y.answer) e; trace = ap (λ (y : PickCall). y.trace) e; plan = ap (λ (y : PickCall). y.plan) e; state = ap (λ (y : PickCall). y.state) e }
 
 pub picked_number-requires : goal.picked_number-requires
 picked_number-requires c =
@@ -21,7 +21,5 @@ pub returns : goal.returns
 returns c =
     let a = c.args in
     let x = c.pick-done.ensures in
-    let e = pick_says a.sheet.now a.trace.now a.plan.now a.state.now (omega arith) _ _ _ x.0 x.1.0 x.1.1 in (
-      c.picked_number.ensures ∙ ap (λ (y : PickCall). y.answer) e,
-      (ap (λ (y : PickCall). y.trace) e, (ap (λ (y : PickCall). y.plan) e, c.put_picked_state.ensures ∙ ap (λ (y : PickCall). y.state) e)),
-    )
+    let e = pick_says a.sheet.now a.trace.now a.plan.now a.state.now (omega arith) _ _ _ x.answer x.trace x.plan in
+    record { answer = c.picked_number.ensures ∙ ap (λ (y : PickCall). y.answer) e; trace = ap (λ (y : PickCall). y.trace) e; plan = ap (λ (y : PickCall). y.plan) e; state = c.put_picked_state.ensures ∙ ap (λ (y : PickCall). y.state) e }

@@ -14,14 +14,14 @@ pub returns-then-trace-size_sum : goal.returns-then-trace-size_sum
 returns-then-trace-size_sum c =
     let a = c.args in
     let q = sym (pick_buffer_over (held a.t.now) a.trace.now a.plan.now (omega (arith, c.if-trace-size_sum.true, c.size_sum.ensures.is))) in
-    (c.refused.ensures ∙ ap (λ (x : PickResult). x.answer) q, (ap (λ (x : PickResult). x.trace) q, ap (λ (x : PickResult). x.plan) q))
+    record { answer = c.refused.ensures ∙ ap (λ (x : PickResult). x.answer) q; trace = ap (λ (x : PickResult). x.trace) q; plan = ap (λ (x : PickResult). x.plan) q }
 
 pub returns-then-plan-variables : goal.returns-then-plan-variables
 returns-then-plan-variables c =
     let a = c.args in
     let l : 1 + 5 * size_sum (held a.t.now) ≤ length a.trace.now = omega (arith, c.if-trace-size_sum.false, c.size_sum.ensures.is) in
     let q = sym (pick_length_over (held a.t.now) a.trace.now a.plan.now l (λ e. c.if-plan-variables.true (e ∙ sym c.variables.ensures))) in
-    (c.refused-then-plan-variables.ensures ∙ ap (λ (x : PickResult). x.answer) q, (ap (λ (x : PickResult). x.trace) q, ap (λ (x : PickResult). x.plan) q))
+    record { answer = c.refused-then-plan-variables.ensures ∙ ap (λ (x : PickResult). x.answer) q; trace = ap (λ (x : PickResult). x.trace) q; plan = ap (λ (x : PickResult). x.plan) q }
 
 pub returns : goal.returns
 returns c =
@@ -29,4 +29,4 @@ returns c =
     let l : 1 + 5 * size_sum (held a.t.now) ≤ length a.trace.now = omega (arith, c.if-trace-size_sum.false, c.size_sum.ensures.is) in
     let q = sym (pick_accepted_over (held a.t.now) a.trace.now a.plan.now l (c.if-plan-variables.false ∙ c.variables.ensures)) in
     let p = c.pick_sized.ensures in
-    (p.answer ∙ ap (λ (x : PickResult). x.answer) q, (p.trace.0 ∙ ap (λ (x : PickResult). x.trace) q, p.trace.1 ∙ ap (λ (x : PickResult). x.plan) q))
+    record { answer = p.answer ∙ ap (λ (x : PickResult). x.answer) q; trace = p.trace ∙ ap (λ (x : PickResult). x.trace) q; plan = p.plan ∙ ap (λ (x : PickResult). x.plan) q }

@@ -34,7 +34,9 @@ pub returns-in-Done : goal.returns-in-Done
 returns-in-Done c =
     let x = c.run_table-done.ensures in
     let f = c.put_first-plan.ensures in
-    let q = picked_done (held c.args.t.now) c.args.trace.now c.requires.1.0 _ x.0 _ _ _ c.in-Done.is _ x.1 c.args.plan.now _ _ f.0 f.1 in (
-      (λ i. record { outcome = c.outcome_of-outcome.ensures i; state = c.run_table-done.result.state }) ∙ ap (λ (y : PickResult). y.answer) q,
-      (ap (λ (y : PickResult). y.trace) q, ap (λ (y : PickResult). y.plan) q),
-    )
+    let q = picked_done (held c.args.t.now) c.args.trace.now c.requires.1.0 _ x.0 _ _ _ c.in-Done.is _ x.1 c.args.plan.now _ _ f.0 f.1 in
+    record {
+      answer = (λ i. record { outcome = c.outcome_of-outcome.ensures i; state = c.run_table-done.result.state }) ∙ ap (λ (y : PickResult). y.answer) q;
+      trace = ap (λ (y : PickResult). y.trace) q;
+      plan = ap (λ (y : PickResult). y.plan) q;
+    }

@@ -4,7 +4,7 @@ use mathlib.Core.Path.{◌≡◌, sym}
 use mathlib.Core.Bool.{true}
 use lib.Dec.{eqb}
 use lib.ListN.{get_or}
-use borrow.Author.Tests.{not-true, not-false}
+use borrow.Author.Tests.{ne_eqb, eq-eqb}
 use Rattle.bounded.specs.Quantifiers.{all_below}
 use Rattle.bounded.proofs.Loops.{all_none, all_more, all_fail, all_end}
 use Rattle.start.specs.Parts.{same_domains}
@@ -17,10 +17,10 @@ loop-i-init c = (search rules, all_none _)
 
 pub returns-then-not-same : goal.returns-then-not-same
 unfolding same_domains
-returns-then-not-same c = sym (all_fail _ 32 c.loop-i.i (omega arith) (c.if-not-same.true))
+returns-then-not-same c = sym (all_fail _ 32 c.loop-i.i (omega arith) (ne_eqb _ _ c.if-not-same.true))
 
 pub loop-i-preserved : goal.loop-i-preserved
-loop-i-preserved c = (omega arith, all_more _ c.loop-i.i c.loop-i.invariant.1 (c.if-not-same.false))
+loop-i-preserved c = (omega arith, all_more _ c.loop-i.i c.loop-i.invariant.1 (eq-eqb _ _ c.if-not-same.false))
 
 pub returns : goal.returns
 unfolding same_domains

@@ -23,10 +23,10 @@ pub sweep-next-requires-in-loop-kept : goal.sweep-next-requires-in-loop-kept
 sweep-next-requires-in-loop-kept c = let w = c.loop-kept in (above_next w.invariant.0 _ w.invariant.1).ready
 
 pub loop-kept-smaller : goal.loop-kept-smaller
-loop-kept-smaller c = let w = c.loop-kept in above_less w.invariant.0 _ w.invariant.1 (sym c.same_domains.ensures ∙ not-true _ c.loop-kept-test.true)
+loop-kept-smaller c = let w = c.loop-kept in above_less w.invariant.0 _ w.invariant.1 (sym c.same_domains.ensures ∙ c.loop-kept-test.true)
 
 pub loop-kept-preserved : goal.loop-kept-preserved
 loop-kept-preserved c = let w = c.loop-kept in (above_next w.invariant.0 _ w.invariant.1, c.sweep-next-in-loop-kept.ensures)
 
 pub returns : goal.returns
-returns c = let w = c.loop-kept in above_end w.invariant.0 _ w.invariant.1 (sym c.same_domains.ensures ∙ not-false _ c.loop-kept-test.false)
+returns c = let w = c.loop-kept in above_end w.invariant.0 _ w.invariant.1 (sym c.same_domains.ensures ∙ c.loop-kept-test.false)

@@ -7,13 +7,13 @@ use borrow.Author.Rules.{rules}
 use Rattle.start.proofs.start.Goals as goal
 
 pub returns-in-Refused : goal.returns-in-Refused
-returns-in-Refused c = c.refused_start.ensures ∙ sym (start_refused_lem _ _ (table_refused _ _ c.read_table.ensures c.in-Refused.is))
+returns-in-Refused c = c.refused_start.ensures ∙ sym (start_refused_lem _ _ (table_refused _ _ (c.read_table.ensures.answer, c.read_table.ensures.filled) c.in-Refused.is))
 
 pub returns-in-Accepted : goal.returns-in-Accepted
-returns-in-Accepted c = c.start_over.ensures ∙ table_job _ _ c.read_table.ensures c.in-Accepted.is start_over (start_kept _)
+returns-in-Accepted c = c.start_over.ensures ∙ table_job _ _ (c.read_table.ensures.answer, c.read_table.ensures.filled) c.in-Accepted.is start_over (start_kept _)
 
 pub read_table-requires : goal.read_table-requires
 read_table-requires c = c.blank_table-t.ensures
 
 pub start_over-requires : goal.start_over-requires
-start_over-requires c = table_rows _ _ c.read_table.ensures c.in-Accepted.is
+start_over-requires c = table_rows _ _ (c.read_table.ensures.answer, c.read_table.ensures.filled) c.in-Accepted.is

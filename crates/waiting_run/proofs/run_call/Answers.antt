@@ -10,7 +10,7 @@ pub returns-then-state-ne-STATE_LENGTH : goal.returns-then-state-ne-STATE_LENGTH
 returns-then-state-ne-STATE_LENGTH c =
     let a = c.args in
     let e = sym (run_bad a.sheet.now a.trace.now a.state.now (λ l. omega arith)) in
-    (c.bad_state.ensures ∙ ap (λ (y : RunCall). y.answer) e, (ap (λ (y : RunCall). y.trace) e, ap (λ (y : RunCall). y.state) e))
+    record { answer = c.bad_state.ensures ∙ ap (λ (y : RunCall). y.answer) e; trace = ap (λ (y : RunCall). y.trace) e; state = ap (λ (y : RunCall). y.state) e }
 
 pub ran_number-requires : goal.ran_number-requires
 ran_number-requires c =
@@ -22,4 +22,4 @@ returns c =
     let a = c.args in
     let x = c.run_sheet-done.ensures in
     let e = run_says a.sheet.now a.trace.now a.state.now (omega arith) _ _ x.0 x.1 _ refl in
-    (c.ran_number.ensures ∙ ap (λ (y : RunCall). y.answer) e, (ap (λ (y : RunCall). y.trace) e, c.put_ran_state.ensures ∙ ap (λ (y : RunCall). y.state) e))
+    record { answer = c.ran_number.ensures ∙ ap (λ (y : RunCall). y.answer) e; trace = ap (λ (y : RunCall). y.trace) e; state = c.put_ran_state.ensures ∙ ap (λ (y : RunCall). y.state) e }

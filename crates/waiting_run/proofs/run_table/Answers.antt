@@ -60,7 +60,7 @@ loop-r-preserved c =
     let e = sym c.next_step.ensures.is ∙ c.in-Step.is in
     let p = c.write_record-at.ensures in
     let a = c.advance-state.ensures in
-    rw (p.0, p.1, a.is, after_state w.invariant.0.ready) (running_next _ _ _ _ _ _ w.invariant.0 _ e, a.words.0, a.words.1)
+    rw (p.0, p.1, a.is, after_state w.invariant.0.ready) (running_next _ _ _ _ _ _ w.invariant.0 _ e, a.words, a.waits)
 
 pub end_of-end-requires : goal.end_of-end-requires
 end_of-end-requires c = c.loop-r.invariant.0.ready
