@@ -1,4 +1,3 @@
-pub mod Again
 pub mod Back
 pub mod Found
 pub mod Lowest

@@ -1,5 +1,6 @@
 // Records undone last first, each against the state before it: putting the variables that were taken out back into a plan.
 #![tactic(auto)]
+
 ghost use Rattle.std.specs.Prelude.{◌≡◌, true, ◌≢◌, ◌<◌, T};
 ghost use Rattle.bounded.specs.Quantifiers.{lowest};
 ghost use Rattle.bounded.specs.Mask.{bit};

@@ -2,7 +2,6 @@
 use mathlib.Core.Path.{sym, ap, ◌∙◌, subst}
 use Rattle.problem.specs.Held.{held}
 use Rattle.undo.specs.Found.{LawfulFound, after_found}
-use borrow.Author.Rules.{rules}
 use Rattle.undo.proofs.after_found.Goals as goal
 
 pub after_lawful-requires : goal.after_lawful-requires

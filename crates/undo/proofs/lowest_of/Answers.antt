@@ -1,5 +1,4 @@
 -- `undo::lowest_of`. Assumes nothing.
-use borrow.Author.Rules.{rules}
 use Rattle.undo.proofs.Lowest.{lowest_none, lowest_some}
 use Rattle.undo.proofs.lowest_of.Goals as goal
 

@@ -4,7 +4,6 @@ use Rattle.bounded.proofs.Truth.{T_of}
 use Rattle.problem.specs.Masks.{state_of}
 use Rattle.held.proofs.Laws.{live_value}
 use Rattle.undo.proofs.Undo.{other_active, mended_out}
-use borrow.Author.Rules.{rules}
 use Rattle.undo.proofs.mended.Goals as goal
 
 pub mended_other-requires : goal.mended_other-requires

@@ -1,10 +1,9 @@
 -- `undo::repair`: the entries passed are mended, and the others are as they were. Assumes nothing.
 use mathlib.Core.Path.{◌≡◌, refl, sym, ap, ◌∙◌, subst}
-use Prim.Native.Nat.{ℕ, ◌-◌, ◌≤◌, ◌<◌}
+use Prim.Native.Nat.{ℕ, ◌<◌}
 use mathlib.Core.List.{List}
 use lib.Dec.{T}
 use lib.ListN.{length, get_or, set, length-set}
-use Rattle.bounded.specs.Table.{filled}
 use Rattle.bounded.proofs.Table.{filled_none, filled_more, filled_end}
 use Rattle.problem.specs.PutBack.{plan_of}
 use Rattle.problem.specs.Held.{held}
@@ -12,7 +11,6 @@ use Rattle.problem.specs.Masks.{state_of, sets}
 use Rattle.problem.proofs.HeldTable.{held_few}
 use Rattle.undo.specs.Undone.{mended}
 use Rattle.undo.proofs.Undo.{filled_here}
-use borrow.Author.Rules.{rules}
 use native.Mathlib.Omega.{arith}
 use Rattle.undo.proofs.repair.Goals as goal
 

@@ -1,18 +1,11 @@
-use mathlib.Core.Path.{◌≡◌, refl, sym, ap, ◌∙◌, subst}
-use Prim.Native.Nat.{ℕ, ◌-◌, ◌≤◌, ◌<◌}
-use mathlib.Core.List.{List}
-use lib.Dec.{T}
-use lib.ListN.{length, get_or, set, length-set}
+use mathlib.Core.Path.{◌≡◌}
+use Prim.Native.Nat.{◌-◌, ◌≤◌}
+use lib.ListN.{length}
 use Rattle.bounded.specs.Table.{filled}
-use Rattle.bounded.proofs.Table.{filled_none, filled_more, filled_end}
 use Rattle.problem.specs.PutBack.{plan_of}
 use Rattle.problem.specs.Held.{held}
 use Rattle.problem.specs.Masks.{state_of, sets}
-use Rattle.problem.proofs.HeldTable.{held_few}
 use Rattle.undo.specs.Undone.{mended}
-use Rattle.undo.proofs.Undo.{filled_here}
-use borrow.Author.Rules.{rules}
-use native.Mathlib.Omega.{arith}
 use Rattle.undo.proofs.repair.Given as goal
 
 abbrev pub invariant-loop-j : goal.invariant-loop-j

@@ -4,7 +4,6 @@ use Rattle.problem.specs.Held.{held}
 use Rattle.problem.specs.Masks.{state_of}
 use Rattle.trace.specs.declared.RecordRead.{RecordRead}
 use Rattle.undo.specs.Found.{UndoableFound, undone_found}
-use borrow.Author.Rules.{rules}
 use Rattle.undo.proofs.undo_found.Goals as goal
 
 pub undo_record-requires : goal.undo_record-requires

@@ -4,14 +4,13 @@ use Rattle.problem.specs.PutBack.{undo}
 use Rattle.problem.specs.declared.Record.{Record}
 use Rattle.undo.specs.Undone.{Undoable}
 use Rattle.undo.proofs.Undo.{tab_back}
-use borrow.Author.Rules.{rules}
 use Rattle.undo.proofs.undo_record.Goals as goal
 
 pub undo_snake-requires : goal.undo_snake-requires
-undo_snake-requires c = let p = c.requires in let a = c.args in (p.0, subst (λ (x : Record). Undoable a.t.now a.t2 x a.out.now) c.in-Snake.is p.1)
+undo_snake-requires c = let p = c.requires in let a = c.args in (p.0, subst (λ (x : Record). Undoable a.t.now a.m x a.out.now) c.in-Snake.is p.1)
 
 pub undo_triangle-requires : goal.undo_triangle-requires
-undo_triangle-requires c = let p = c.requires in let a = c.args in (p.0, subst (λ (x : Record). Undoable a.t.now a.t2 x a.out.now) c.in-Triangle.is p.1)
+undo_triangle-requires c = let p = c.requires in let a = c.args in (p.0, subst (λ (x : Record). Undoable a.t.now a.m x a.out.now) c.in-Triangle.is p.1)
 
 pub returns-in-Unsupported : goal.returns-in-Unsupported
 unfolding undo

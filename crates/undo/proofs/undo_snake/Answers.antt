@@ -7,7 +7,6 @@ use Rattle.held.proofs.Laws.{live_value}
 use Rattle.problem.specs.declared.Record.TheVariants.{Snake}
 use Rattle.undo.proofs.Undo.{snake_live, snake_left, snake_store}
 use native.Mathlib.Omega.{arith}
-use borrow.Author.Rules.{rules}
 use Rattle.undo.proofs.undo_snake.Goals as goal
 
 pub repair-requires : goal.repair-requires

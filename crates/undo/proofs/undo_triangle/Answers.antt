@@ -7,14 +7,10 @@ use Rattle.held.proofs.Laws.{live_value, active_32}
 use Rattle.problem.specs.declared.Record.TheVariants.{Triangle}
 use Rattle.undo.proofs.Undo.{triangle_left, triangle_store}
 use native.Mathlib.Omega.{arith}
-use borrow.Author.Rules.{rules}
 use Rattle.undo.proofs.undo_triangle.Goals as goal
 
 pub bounds-out-j : goal.bounds-out-j
 bounds-out-j c = let a = c.args in let p = c.requires in let F = p.0.fits in let x = triangle_left F a.i a.j (plan_of a.out.now) ((lawful_iff (held a.t.now) (state_of (sets a.active a.on.now)) (Triangle a.i a.j)).0 p.1.lawfully).1 p.1.solved in let e = p.1.long in let n = F.active_lt a.j x.1.1.0 in omega arith
-
-pub overflow_cast-out : goal.overflow_cast-out
-overflow_cast-out c = omega (arith, c.slice_known-2-1.given c.args.j)
 
 pub lowest_triangle-requires : goal.lowest_triangle-requires
 lowest_triangle-requires c = let a = c.args in let p = c.requires in let F = p.0.fits in let x = triangle_left F a.i a.j (plan_of a.out.now) ((lawful_iff (held a.t.now) (state_of (sets a.active a.on.now)) (Triangle a.i a.j)).0 p.1.lawfully).1 p.1.solved in let e = p.1.long in (p.0, (live_value p.0 a.j _ x.0, (active_32 p.0 a.i x.1.0, x.1.1.1)))
