@@ -1,5 +1,6 @@
 // The read check, as C and Rust call it.
 #![tactic(auto)]
+
 ghost use Rattle.std.specs.Prelude.{◌≡◌, ◌+◌, ◌*◌};
 ghost use Rattle.read.specs.Read.{read_call};
 

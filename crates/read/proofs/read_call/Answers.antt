@@ -4,7 +4,6 @@ use Prim.Native.Nat.{◌≤◌}
 use native.Mathlib.Omega.{arith}
 use Rattle.read.specs.Read.{read_number}
 use Rattle.read.proofs.Read.{read_small}
-use borrow.Author.Rules.{rules}
 use Rattle.read.proofs.read_call.Goals as goal
 use Rattle.read.proofs.read_call.Goals.{In-Accepted}
 
