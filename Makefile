@@ -1,6 +1,7 @@
 # For C callers. It proves nothing: rt and .ci/run do.
 #
 #     make                             the archive, by rt, where it is missing
+#     make programs                    the proved programs, by rt, in target/bin/, where they are missing
 #     make examples                    the programs of examples/c/, in target/c/
 #     make install PREFIX=/usr/local   the header, the archive and a file for pkg-config; DESTDIR stands before every path, for packagers
 #     make uninstall PREFIX=/usr/local
@@ -14,13 +15,14 @@ CFLAGS = -O2
 ARCHIVE = target/staticlib/libzomuwedli.a
 HEADER = include/zomuwedli.h
 EXAMPLES = run plan hand put_back colour move
+PROGRAMS = reduce_sheet plan_sheet colour_sheet move_sheet
 
 # the header's version, so that it stands in one place
 VERSION = $(shell sed -n 's/.*define ZOMUWEDLI_VERSION "\(.*\)"/\1/p' $(HEADER))
 
 INSTALLED = "$(DESTDIR)$(INCLUDEDIR)/zomuwedli.h" "$(DESTDIR)$(LIBDIR)/libzomuwedli.a" "$(DESTDIR)$(LIBDIR)/pkgconfig/zomuwedli.pc"
 
-.PHONY: all examples install uninstall
+.PHONY: all programs examples install uninstall
 .DELETE_ON_ERROR:
 
 all: $(ARCHIVE)
@@ -30,6 +32,14 @@ $(ARCHIVE):
 	cd crates/zomuwedli && rt lib
 	@mkdir -p $(@D)
 	cp crates/zomuwedli/out/libzomuwedli.a $@
+
+programs: $(PROGRAMS:%=target/bin/%)
+
+# rt builds a program and runs it; what it prints is no matter here
+target/bin/%: crates/%/src/main.rt
+	cd crates/$* && rt run <stdin >/dev/null
+	@mkdir -p $(@D)
+	cp crates/$*/out/$* $@
 
 examples: $(EXAMPLES:%=target/c/%)
 

@@ -1,9 +1,9 @@
 /* Zomuwedli for C: every job of the proved library, over numbers and byte buffers. What each job does is in docs/FORMAT.md; the answers and
  * the bytes of a state are under "The state's bytes and the C boundary". Programs that use it stand in examples/c/.
  *
- * Link libzomuwedli.a, which `rt staticlib zomuwedli` writes to target/staticlib/ for x86-64 Linux. It allocates nothing, keeps nothing
- * between calls, so that threads need no lock, and calls nothing of the C library but memset and memcpy (tests/callers looks at the
- * archive). The functions that are written out here are the caller's own code and nothing of them is proved; tests/boundary.c tries them.
+ * Link libzomuwedli.a, which `make` writes to target/staticlib/ for x86-64 Linux. It allocates nothing, keeps nothing between calls, so that
+ * threads need no lock, and calls nothing of the C library but memset and memcpy (tests/callers looks at the archive). The functions that are
+ * written out here are the caller's own code and nothing of them is proved; tests/boundary.c tries them.
  *
  * Buffers. Each is an address and then a length in bytes. It is read, and written, within that length only. An address is not followed
  * where the length is 0. The caller's part, which nothing checks: the lengths are those of its memory, and a buffer that a call writes

@@ -1,5 +1,5 @@
 //! Links libzomuwedli.a: from the folder that ZOMUWEDLI_LIB_DIR names, where the library is installed, or else from the folder to which
-//! `rt staticlib zomuwedli` writes it.
+//! `make` in the top folder writes it.
 
 use std::path::{Path, PathBuf};
 
@@ -10,7 +10,7 @@ fn main() {
     println!("cargo:rerun-if-env-changed={VARIABLE}");
     let (folder, help) = match std::env::var_os(VARIABLE) {
         Some(folder) => (PathBuf::from(folder), "it is the folder that ZOMUWEDLI_LIB_DIR names"),
-        None => (built(), "run `rt staticlib zomuwedli` in the top folder first, or name the folder in ZOMUWEDLI_LIB_DIR"),
+        None => (built(), "run `make` in the top folder first, or name the folder in ZOMUWEDLI_LIB_DIR"),
     };
     let archive = folder.join("libzomuwedli.a");
     println!("cargo:rerun-if-changed={}", archive.display());

@@ -30,6 +30,6 @@ own=
 if [ -x ../target/bin/plan_sheet ]; then
     own=program=../target/bin/plan_sheet
 else
-    echo "target/bin/plan_sheet is not built: rt check plan_sheet" >&2
+    echo "target/bin/plan_sheet is not built: make target/bin/plan_sheet" >&2
 fi
 "$program" ${own:+"$own"} ${gecode:+"$gecode"} ${sat:+"$sat"} "$@"

@@ -1,7 +1,7 @@
 #!/usr/bin/env python3
 """Times target/bin/reduce_sheet on eight families of sheets of 32 items, seven of 16 settings and one of 4 whose run takes slides, by the
 processor seconds of the program itself (best of five), and prints its first and last line, and how many slides it took. Build it first:
-rt check reduce_sheet."""
+make target/bin/reduce_sheet."""
 import os
 import random
 import resource
