@@ -1,5 +1,6 @@
 // Numbers in lent bytes: one read at a place, and a word written at a place.
 #![tactic(auto)]
+
 ghost use Rattle.std.specs.Prelude.{◌≡◌, ◌+◌, ◌<◌, ◌≤◌, length};
 ghost use Rattle.buffers.specs.Bytes.{byte_at, number_at, number_bytes, Is};
 ghost use Rattle.buffers.specs.Written.{written};

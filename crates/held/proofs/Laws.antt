@@ -15,11 +15,11 @@ use Rattle.bounded.specs.Mask.{bit, mask_of}
 use Rattle.bounded.proofs.Truth.{T_ext, T_of, T_dec, T_false, and_iff, imp_iff, not_iff, ltb_iff}
 use Rattle.bounded.proofs.Quantifiers.{all_iff, any_iff}
 use Rattle.bounded.proofs.Mask.{bit_and_lem, bit_mask, bit_mask_all, mask_lt, zero_bits}
-use Rattle.problem.specs.Problem.{Problem, State, all_active, all_live, any_live}
+use Rattle.problem.specs.Problem.{Problem, State, all_active, any_live}
 use Rattle.problem.specs.Held.{row_word, rows_at, held_size, held_variables, held, RowTable}
 use Rattle.problem.specs.Masks.{state_of}
 use Rattle.problem.specs.declared.Masks.{Masks}
-use Rattle.problem.proofs.Reflect.{all_active_iff, all_live_iff, any_live_iff}
+use Rattle.problem.proofs.Reflect.{all_active_iff, any_live_iff}
 use Rattle.problem.specs.Sentences.{Active, Live, Allowed, Fits}
 use Rattle.problem.proofs.HeldTable.{row_word_lem, row_only, held_row_tells, row_met, held_bounded, held_few, held_narrow, held_value_lem, held_value_iff, far_free}
 use Rattle.held.specs.Ready.{Ready, Value, Values, Near, Among}

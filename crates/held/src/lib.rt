@@ -1,6 +1,7 @@
 // A filled table and a state of its problem: sizes, rows, the first state, and whether an active variable has an empty domain. A row of
 // the table is the set of values allowed with one value.
 #![tactic(auto)]
+
 ghost use Rattle.std.specs.Prelude.{◌≡◌, true, false, ◌≢◌, ◌<◌, ◌≤◌, ◌+◌, ◌*◌, ◌^◌, ltb};
 ghost use Rattle.std.specs.Int.Bits.{bit_and};
 ghost use Rattle.bounded.specs.Quantifiers.{imp};

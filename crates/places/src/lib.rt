@@ -1,5 +1,6 @@
 // The list of places: a constant, and it is computed once, over the whole list, that each of its entries is the rule's.
 #![tactic(auto)]
+
 ghost use Rattle.std.specs.Prelude.{◌≡◌};
 ghost use Rattle.problem.specs.Places.{place_list};
 

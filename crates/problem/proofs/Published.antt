@@ -9,14 +9,14 @@ use lib.Dec.{T}
 use Rattle.bounded.proofs.Truth.{T_ext, eq_dec}
 use Rattle.problem.specs.Problem.{Problem, State, unsupported, snake, triangle, neighbourhood, snake_substitution, substitution_spares, remove, eliminate}
 use Rattle.problem.specs.Run.{holds, holds_by, lawful, after_effect, after, lawful_trace, after_trace, run}
-use Rattle.problem.specs.Published.{HasSupport, NoSupport, DeSnakeBy, DeSnake, TriangleBy, TriangleProperty, Arrow, NeighbourhoodSubstitutable, WavyArrow, SnakeSubstitutable, TwoValues, Published, Related, VariableEliminated, ValueEliminated, EffectPublished, StepPublished}
+use Rattle.problem.specs.Published.{DeSnake, TriangleProperty, Published, VariableEliminated, ValueEliminated, EffectPublished, StepPublished}
 use Rattle.problem.specs.Record.{effect_of}
 use Rattle.problem.specs.declared.Effect.{Effect}
 use Rattle.problem.specs.declared.Effect.TheVariants.{Removes, Eliminates}
 use Rattle.problem.specs.declared.Record.{Record}
 use Rattle.problem.specs.declared.Record.TheVariants.{Unsupported, Snake, Triangle, Neighbourhood, SnakeSubstitution}
 use Rattle.problem.proofs.Reflect.{turn, none_empty_iff, unsupported_iff, snake_iff, triangle_iff, neighbourhood_iff, snake_substitution_iff, remove_live, eliminate_active, eliminate_live}
-use Rattle.problem.specs.Sentences.{Active, Live, Allowed, Fits, NoneEmpty}
+use Rattle.problem.specs.Sentences.{Live, Fits, NoneEmpty}
 use Rattle.problem.proofs.Trace.{trace_fits, lawful_iff, trace_at}
 use Rattle.problem.proofs.Run.{run_lawful}
 

@@ -18,11 +18,10 @@ use Rattle.problem.specs.declared.Record.{Record}
 use Rattle.problem.specs.declared.Record.TheVariants.{Unsupported, Snake, Triangle, Neighbourhood, SnakeSubstitution}
 use Rattle.problem.specs.declared.Next.{Next}
 use Rattle.problem.specs.declared.Next.TheVariants.{Step, Nothing}
-use Rattle.problem.specs.declared.End.{End}
 use Rattle.problem.specs.declared.End.TheVariants.{Impossible, Solved, Rest}
 use Rattle.problem.proofs.Reflect.{all_active_or, any_live_iff, none_empty_iff, unsupported_iff, snake_iff, triangle_iff, neighbourhood_iff, snake_substitution_iff}
-use Rattle.problem.specs.Sentences.{EndSays, Active, Live, Fits}
-use Rattle.problem.proofs.Trace.{after_fits, trace_fits, step_by_falls, step_falls, lawful_by_iff, trace_iff, trace_short}
+use Rattle.problem.specs.Sentences.{EndSays, Active, Fits}
+use Rattle.problem.proofs.Trace.{after_fits, trace_fits, step_by_falls, lawful_by_iff, trace_iff, trace_short}
 
 -- ---- searching
 

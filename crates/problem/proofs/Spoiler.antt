@@ -3,7 +3,7 @@
 use mathlib.Core.Path.{◌≡◌, refl, ap, ◌∙◌}
 use mathlib.Core.Bool.{Bool, true, false, not, ◌&&◌}
 use mathlib.Core.Logic.Iff
-use mathlib.Core.Logic.{◌⊎◌, inl, inr, ⊎_elim, ◌≢◌, ◌↔◌}
+use mathlib.Core.Logic.{inl, inr, ⊎_elim, ◌≢◌, ◌↔◌}
 use Prim.Native.Nat.{ℕ, ◌<◌}
 use lib.Dec.{T, eqb}
 use Rattle.bounded.specs.Quantifiers.{imp}
@@ -20,8 +20,8 @@ use Rattle.problem.specs.declared.Cover.TheVariants.{Spoilt, Holds}
 use Rattle.problem.specs.declared.Break.{Break}
 use Rattle.problem.specs.declared.Break.TheVariants.{At, Nowhere}
 use Rattle.problem.proofs.Reflect.{spoils_iff, unspoilt_none, unspoilt_iff, neighbourhood_iff, none_empty_iff}
-use Rattle.problem.specs.Sentences.{Active, Live, Fits, Spoils, Substitutes, NoneEmpty}
-use Rattle.problem.specs.Causes.{Lowest, SpoilerSays, Breaks, BreakSays, CoverAsked, CoverAlone, BreaksAt, Names}
+use Rattle.problem.specs.Sentences.{Active, Fits, Substitutes}
+use Rattle.problem.specs.Causes.{SpoilerSays, Breaks, BreakSays, CoverAsked, BreaksAt, Names}
 
 -- ---- the test's answer
 

@@ -1,6 +1,6 @@
 -- "the next step is of the lowest kind that holds anywhere, then the lowest i, then the lowest third field, then the lowest fourth": the
 -- order of the records, and the first lawful one in it.
-use Rattle.std.specs.Prelude.{◌≡◌, ◌⊎◌, ℕ, ◌<◌, T}
+use Rattle.std.specs.Prelude.{◌≡◌, ◌⊎◌, ◌<◌, T}
 use Rattle.problem.specs.Problem.{Problem, State}
 use Rattle.problem.specs.Record.{kind_of, item_of, third_of, fourth_of}
 use Rattle.problem.specs.Run.{lawful}

@@ -1,6 +1,7 @@
 // The types that the definitions of specs/ share with the code, the state that holds nothing, and what an answer says where only yes or no
 // is asked.
 #![tactic(auto)]
+
 ghost use Rattle.std.specs.Prelude.{◌≡◌};
 ghost use Rattle.problem.specs.Problem.{unspoilt as unspoilt_of, unbroken as unbroken_of};
 ghost use Rattle.problem.specs.Masks.{empty_masks};

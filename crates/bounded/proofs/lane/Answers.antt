@@ -1,6 +1,5 @@
 -- `bounded::lane`. Assumes nothing.
 use mathlib.Core.Path.{◌∙◌}
-use borrow.Author.Rules.{rules}
 use Rattle.bounded.proofs.lane.Goals as goal
 
 pub returns-then-t : goal.returns-then-t

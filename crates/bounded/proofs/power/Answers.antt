@@ -5,7 +5,6 @@ use native.Mathlib.Nat.{one-mul}
 use native.Mathlib.Omega.{arith}
 use lib.Pow.{shl_exact}
 use lib.Dec.{lit<}
-use borrow.Author.Rules.{rules}
 use Rattle.bounded.proofs.power.Goals as goal
 
 pub returns : goal.returns

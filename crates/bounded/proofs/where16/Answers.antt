@@ -1,7 +1,6 @@
 -- `bounded::where16`: one bit, by `&` with a power of 2. Assumes nothing.
 use mathlib.Core.Path.{sym, ap, ◌∙◌}
 use lib.Bits.{bit_and}
-use borrow.Author.Rules.{rules}
 use Rattle.bounded.proofs.Mask.{bit_hit, bit_miss, one_shifted}
 use Rattle.bounded.proofs.where16.Goals as goal
 

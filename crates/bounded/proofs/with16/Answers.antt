@@ -1,5 +1,4 @@
 -- `bounded::with16`: the shift is exact. Assumes nothing.
-use borrow.Author.Rules.{rules}
 use Rattle.bounded.proofs.Mask.{one_shifted}
 use Rattle.bounded.proofs.with16.Goals as goal
 

@@ -1,5 +1,4 @@
 -- `bounded::without16`: the shift is exact, and the complement of one bit is what `without` says. Assumes nothing.
-use borrow.Author.Rules.{rules}
 use Rattle.bounded.proofs.Mask.{one_shifted}
 use Rattle.bounded.proofs.without16.Goals as goal
 

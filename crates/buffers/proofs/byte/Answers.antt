@@ -1,6 +1,5 @@
 -- `buffers::byte`: a byte is below 256.
 use mathlib.Core.Path.{refl}
-use borrow.Author.Rules.{rules}
 use native.Mathlib.Omega.{arith}
 use Rattle.buffers.proofs.byte.Goals as goal
 

@@ -2,7 +2,6 @@
 use native.Mathlib.Omega.{arith}
 use lib.ListN.{length-set}
 use Rattle.buffers.proofs.Written.{word_put}
-use borrow.Author.Rules.{rules}
 use Rattle.buffers.proofs.put_word.Goals as goal
 
 pub bounds-b-at-2 : goal.bounds-b-at-2

@@ -1,6 +1,5 @@
 -- `buffers::word`: the first byte is worth the most. Assumes nothing.
 use native.Mathlib.Omega.{arith}
-use borrow.Author.Rules.{rules}
 use Rattle.buffers.proofs.word.Goals as goal
 
 pub returns : goal.returns

@@ -10,7 +10,6 @@ use Rattle.bounded.proofs.Mask.{below_mask}
 use Rattle.problem.specs.Held.{RowTable}
 use Rattle.problem.proofs.HeldTable.{held_narrow, held_entry}
 use Rattle.held.proofs.Full.{full_domain, full_outside}
-use borrow.Author.Rules.{rules}
 use Rattle.held.proofs.full_domain.Goals as goal
 
 pub bounds-t-i : goal.bounds-t-i

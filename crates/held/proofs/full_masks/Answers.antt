@@ -1,15 +1,13 @@
 -- `held::full_masks`: a loop that fills the domains. Assumes nothing.
-use Prim.Native.Nat.{ℕ, ◌≤◌, ◌-◌}
-use mathlib.Core.Path.{◌≡◌, refl, sym, ap, ◌∙◌}
+use Prim.Native.Nat.{ℕ}
+use mathlib.Core.Path.{refl, sym, ap, ◌∙◌}
 use native.Mathlib.Omega.{arith}
 use lib.Dec.{ltb}
 use lib.ListN.{length}
 use borrow.Author.Rules.{rules}
 use Rattle.bounded.specs.Mask.{mask_of}
 use Rattle.bounded.proofs.Mask.{below_mask}
-use Rattle.bounded.specs.Table.{filled}
 use Rattle.bounded.proofs.Table.{filled_none, filled_more, filled_end}
-use Rattle.problem.specs.Problem.{full}
 use Rattle.problem.specs.Held.{held}
 use Rattle.problem.specs.Masks.{masks_of}
 use Rattle.problem.specs.declared.Masks.{Masks}

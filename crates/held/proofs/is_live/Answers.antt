@@ -3,7 +3,6 @@ use mathlib.Core.Path.{sym}
 use Rattle.bounded.proofs.Mask.{bit_high}
 use Rattle.problem.specs.Masks.{state_of}
 use native.Mathlib.Omega.{arith}
-use borrow.Author.Rules.{rules}
 use Rattle.held.proofs.is_live.Goals as goal
 
 pub returns-then-v-lt16 : goal.returns-then-v-lt16

@@ -10,7 +10,6 @@ use Rattle.bounded.specs.Mask.{bit}
 use Rattle.bounded.proofs.Truth.{lt_dec}
 use Rattle.bounded.proofs.Mask.{bit_not, bit_first, bit_second}
 use Rattle.problem.specs.Held.{far_start, far_at, far_from}
-use borrow.Author.Rules.{rules}
 use Rattle.held.specs.Ready.{Near}
 use Rattle.held.proofs.neighbours.Goals as goal
 

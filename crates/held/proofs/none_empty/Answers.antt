@@ -1,16 +1,9 @@
 -- `held::none_empty`: a loop over the variables. Assumes nothing.
-use Prim.Native.Nat.{◌≤◌, ◌-◌}
-use mathlib.Core.Path.{◌≡◌, sym, ◌∙◌}
-use mathlib.Core.Bool.{true}
+use mathlib.Core.Path.{sym, ◌∙◌}
 use native.Mathlib.Omega.{arith}
 use borrow.Author.Rules.{rules}
-use borrow.Author.Tests.{not-true, not-false}
-use Rattle.bounded.specs.Quantifiers.{imp, all_below}
-use Rattle.bounded.specs.Mask.{bit}
 use Rattle.bounded.proofs.Loops.{all_none, all_more, all_fail, all_end}
-use Rattle.problem.specs.Problem.{any_live, none_empty}
-use Rattle.problem.specs.Held.{held}
-use Rattle.problem.specs.Masks.{state_of, sets}
+use Rattle.problem.specs.Problem.{none_empty}
 use Rattle.held.proofs.Laws.{active_loop}
 use Rattle.held.proofs.none_empty.Goals as goal
 

@@ -1,16 +1,11 @@
 use Prim.Native.Nat.{◌≤◌, ◌-◌}
-use mathlib.Core.Path.{◌≡◌, sym, ◌∙◌}
+use mathlib.Core.Path.{◌≡◌}
 use mathlib.Core.Bool.{true}
-use native.Mathlib.Omega.{arith}
-use borrow.Author.Rules.{rules}
-use borrow.Author.Tests.{not-true, not-false}
 use Rattle.bounded.specs.Quantifiers.{imp, all_below}
 use Rattle.bounded.specs.Mask.{bit}
-use Rattle.bounded.proofs.Loops.{all_none, all_more, all_fail, all_end}
-use Rattle.problem.specs.Problem.{any_live, none_empty}
+use Rattle.problem.specs.Problem.{any_live}
 use Rattle.problem.specs.Held.{held}
 use Rattle.problem.specs.Masks.{state_of, sets}
-use Rattle.held.proofs.Laws.{active_loop}
 use Rattle.held.proofs.none_empty.Given as goal
 
 abbrev pub invariant-loop-l : goal.invariant-loop-l

@@ -1,7 +1,6 @@
 -- `held::one_of`: the place of items 0 and 2. Assumes nothing.
 use mathlib.Core.Path.{◌∙◌}
 use native.Mathlib.Omega.{arith}
-use borrow.Author.Rules.{rules}
 use Rattle.problem.proofs.Places.{place_up}
 use Rattle.held.proofs.one_of.Goals as goal
 

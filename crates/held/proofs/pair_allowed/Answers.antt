@@ -5,7 +5,6 @@ use lib.ListN.{get_or}
 use Rattle.bounded.specs.Mask.{bit}
 use Rattle.problem.proofs.HeldTable.{held_row_tells}
 use Rattle.held.proofs.Laws.{allowed_apart}
-use borrow.Author.Rules.{rules}
 use Rattle.held.proofs.pair_allowed.Goals as goal
 
 pub returns-then-j-i : goal.returns-then-j-i

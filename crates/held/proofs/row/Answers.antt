@@ -10,7 +10,6 @@ use Rattle.problem.specs.Held.{row_word, held}
 use Rattle.problem.proofs.HeldTable.{held_narrow}
 use Rattle.held.specs.Ready.{Values}
 use Rattle.held.proofs.Laws.{all_values, row_all}
-use borrow.Author.Rules.{rules}
 use Rattle.held.proofs.row.Goals as goal
 use Rattle.held.proofs.row.Goals.{After-below16, After-size}
 

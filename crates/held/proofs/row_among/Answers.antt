@@ -4,7 +4,6 @@ use Prim.Native.Nat.{ℕ, ◌+◌}
 use lib.Bits.{bit_and}
 use lib.ListN.{get_or}
 use Rattle.problem.proofs.HeldTable.{row_met}
-use borrow.Author.Rules.{rules}
 use Rattle.held.proofs.row_among.Goals as goal
 
 pub returns : goal.returns

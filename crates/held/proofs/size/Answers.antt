@@ -1,7 +1,6 @@
 -- `held::size`. Assumes nothing.
 use mathlib.Core.Path.{sym}
 use Rattle.problem.proofs.HeldTable.{held_entry}
-use borrow.Author.Rules.{rules}
 use native.Mathlib.Omega.{arith}
 use Rattle.held.proofs.size.Goals as goal
 

@@ -1,6 +1,5 @@
 -- `held::some_value`: a domain that is not 0 has a value in it. Assumes nothing.
 use Rattle.held.proofs.Laws.{some_word}
-use borrow.Author.Rules.{rules}
 use Rattle.held.proofs.some_value.Goals as goal
 
 pub returns : goal.returns

@@ -1,13 +1,8 @@
 use Prim.Native.Nat.{◌≤◌, ◌-◌}
-use mathlib.Core.Path.{◌≡◌, sym, ◌∙◌}
-use native.Mathlib.Omega.{arith}
+use mathlib.Core.Path.{◌≡◌}
 use lib.Dec.{eqb}
-use borrow.Author.Tests.{eq-eqb, ne_eqb}
 use Rattle.bounded.specs.Quantifiers.{lowest}
-use Rattle.bounded.proofs.Loops.{lowest_none, lowest_more, lowest_hit, lowest_end}
 use Rattle.problem.specs.Held.{held}
-use Rattle.problem.proofs.HeldTable.{held_entry, held_lowest}
-use borrow.Author.Rules.{rules}
 use Rattle.held.proofs.variables.Given as goal
 
 abbrev pub invariant-loop-i : goal.invariant-loop-i

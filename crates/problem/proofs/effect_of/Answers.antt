@@ -1,5 +1,4 @@
 -- `problem::effect_of`: each kind by itself. Assumes nothing.
-use borrow.Author.Rules.{rules}
 use Rattle.problem.proofs.effect_of.Goals as goal
 
 pub returns-in-Unsupported : goal.returns-in-Unsupported
