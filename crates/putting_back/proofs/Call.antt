@@ -2,7 +2,7 @@
 -- 17 carries comes back; and, whoever wrote the trace, what the demands ask. Assumes nothing.
 use mathlib.Core.Path.{◌≡◌, refl, sym, ap, ◌∙◌}
 use mathlib.Core.List.{List}
-use Prim.Native.Nat.{ℕ, ◌-◌, ◌/◌, ◌%◌}
+use Prim.Native.Nat.{ℕ, ◌/◌, ◌%◌}
 use native.Mathlib.Omega.{arith}
 use Rattle.problem.specs.Problem.{full}
 use Rattle.problem.specs.Run.{lawful_trace, after_trace}

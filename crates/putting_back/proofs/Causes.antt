@@ -2,7 +2,7 @@
 -- each number its cause. Assumes nothing.
 use mathlib.Core.Path.{◌≡◌, refl, sym, ap, ◌∙◌}
 use mathlib.Core.Bool.{Bool, true, false, cond, ◌&&◌, ◌||◌, not}
-use mathlib.Core.List.{List, [], ◌++◌}
+use mathlib.Core.List.{List}
 use mathlib.Core.Logic.{◌⊎◌, inl, inr, ◌≢◌, ◌↔◌}
 use Prim.Native.Nat.{ℕ, ◌≤◌, ◌<◌}
 use native.Mathlib.Omega.{arith}
@@ -13,26 +13,23 @@ use Rattle.bounded.proofs.Truth.{T_true, T_false, T_dec, eq_dec, and_iff, or_iff
 use Rattle.bounded.proofs.Quantifiers.{all_iff, all_or}
 use Rattle.bounded.proofs.Causes.{cause_iff, number_iff}
 use Rattle.problem.specs.Problem.{Problem, State, full, all_other}
-use Rattle.problem.specs.Run.{lawful, lawful_trace, after_trace}
+use Rattle.problem.specs.Run.{after_trace}
 use Rattle.problem.specs.PutBack.{solves, plan_of}
 use Rattle.problem.specs.declared.Record.{Record}
 use Rattle.problem.proofs.Reflect.{full_fits, all_active_or}
-use Rattle.problem.specs.Sentences.{Active, Live, Allowed, Fits, Solution}
+use Rattle.problem.specs.Sentences.{Active, Fits, Solution}
 use Rattle.problem.proofs.Sound.{solves_iff}
 use Rattle.problem.proofs.Trace.{trace_fits}
-use Rattle.buffers.specs.Bytes.{byte_at}
 use Rattle.sheet.proofs.Refusals.{sheet_number_lem}
 use Rattle.put_back.specs.Numbers.{put_back_number}
-use Rattle.trace.specs.Trace.{record_bytes, trace_bytes}
 use Rattle.put_back.specs.PutBack.{PutBackResult, put_back_refused, put_back_done, Checked, Lawful, Faulty, check_trace, plan_fits, after_check, put_back_over, put_back_job}
 use Rattle.put_back.specs.declared.PutBackOutcome.{PutBackOutcome}
 use Rattle.put_back.specs.declared.PutBackOutcome.TheVariants.{Done, Refused}
 use Rattle.put_back.specs.declared.PutBackRefusal.TheVariants as refusal
 use Rattle.put_back.proofs.Opened.{put_back_plan_length_over, put_back_result_length_over, put_back_checked_over}
 use Rattle.jobs.proofs.SheetCause.{Told, sheet_iff}
-use Rattle.jobs.specs.Causes.{Whose, Sheets, Own, SheetCause}
 use Rattle.put_back.proofs.Checked.{TraceCause, checked_iff}
-use Rattle.put_back.specs.Causes.{PlanFault, Sized, BackCauseOver, whose_back, BackCause, NoRecord, Carried}
+use Rattle.put_back.specs.Causes.{PlanFault, Sized, BackCauseOver, whose_back, BackCause}
 
 -- ---- the plan
 

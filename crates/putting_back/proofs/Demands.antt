@@ -1,7 +1,7 @@
 -- Demands 1 and 2 of putting back, over the definitions that its contracts cite. Assumes nothing.
 use mathlib.Core.Path.{◌≡◌, refl, sym, ap, ◌∙◌, subst}
 use mathlib.Core.Bool.{◌||◌}
-use mathlib.Core.List.{List, ◌∷◌, ◌++◌}
+use mathlib.Core.List.{List}
 use mathlib.Core.Logic.{◌↔◌}
 use Prim.Native.Nat.{ℕ}
 use lib.Dec.{T, eqb}
@@ -16,7 +16,6 @@ use Rattle.problem.specs.declared.Record.{Record}
 use Rattle.problem.proofs.Reflect.{full_fits}
 use Rattle.problem.specs.Sentences.{Active, Live, Fits, Solvable}
 use Rattle.problem.proofs.Published.{trace_published}
-use Rattle.problem.specs.Published.{Published}
 use Rattle.problem.proofs.Sound.{solves_iff, solves_whole_iff}
 use Rattle.problem.proofs.Trace.{trace_fits, trace_undone, trace_solvable}
 use Rattle.problem.proofs.Run.{run_lawful}

@@ -1,5 +1,6 @@
 // Putting back, the format's third job: the lengths, the trace, the plan for the items left, and the records undone.
 #![tactic(auto)]
+
 ghost use Rattle.put_back.specs.Call.{put_back_call};
 ghost use Rattle.std.specs.Prelude.{◌≡◌, true, false, ◌<◌, ◌≤◌, length};
 ghost use Rattle.bounded.specs.Quantifiers.{all_below};

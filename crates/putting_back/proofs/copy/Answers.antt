@@ -1,12 +1,9 @@
 -- `putting_back::copy`: the result so far is the plan's front before its own rest. Assumes nothing.
-use mathlib.Core.Path.{◌≡◌, refl, sym, ◌∙◌}
-use Prim.Native.Nat.{◌-◌, ◌≤◌}
+use mathlib.Core.Path.{refl, sym, ◌∙◌}
 use lib.ListN.{length, length-set}
-use Rattle.bounded.specs.Table.{filled}
 use Rattle.bounded.proofs.Table.{filled_none, filled_more, filled_end}
 use Rattle.problem.specs.PutBack.{plan_of}
 use Rattle.undo.proofs.Undo.{tab_back}
-use borrow.Author.Rules.{rules}
 use native.Mathlib.Omega.{arith}
 use Rattle.putting_back.proofs.copy.Goals as goal
 

@@ -1,12 +1,8 @@
-use mathlib.Core.Path.{◌≡◌, refl, sym, ◌∙◌}
+use mathlib.Core.Path.{◌≡◌}
 use Prim.Native.Nat.{◌-◌, ◌≤◌}
-use lib.ListN.{length, length-set}
+use lib.ListN.{length}
 use Rattle.bounded.specs.Table.{filled}
-use Rattle.bounded.proofs.Table.{filled_none, filled_more, filled_end}
 use Rattle.problem.specs.PutBack.{plan_of}
-use Rattle.undo.proofs.Undo.{tab_back}
-use borrow.Author.Rules.{rules}
-use native.Mathlib.Omega.{arith}
 use Rattle.putting_back.proofs.copy.Given as goal
 
 abbrev pub invariant-loop-i : goal.invariant-loop-i

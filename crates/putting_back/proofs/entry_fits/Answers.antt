@@ -2,7 +2,6 @@
 use mathlib.Core.Path.{sym, ◌∙◌}
 use Rattle.problem.specs.Masks.{state_of}
 use Rattle.putting_back.proofs.Plan.{entry_in, entry_out}
-use borrow.Author.Rules.{rules}
 use Rattle.putting_back.proofs.entry_fits.Goals as goal
 
 pub returns-then-has32 : goal.returns-then-has32

@@ -5,15 +5,7 @@ use Rattle.problem.specs.Masks.{state_of}
 use Rattle.held.proofs.Laws.{live_value}
 use Rattle.bounded.proofs.Guard.{guard, met, unmet}
 use Rattle.putting_back.proofs.Plan.{entry_iff}
-use native.Mathlib.Omega.{arith}
-use borrow.Author.Rules.{rules}
 use Rattle.putting_back.proofs.pair_fits.Goals as goal
-
-pub overflow_cast-plan : goal.overflow_cast-plan
-overflow_cast-plan c = omega (arith, c.shared_slice_known-then-has32-i-1.given c.args.i)
-
-pub overflow_cast-plan-then-has32-i : goal.overflow_cast-plan-then-has32-i
-overflow_cast-plan-then-has32-i c = omega (arith, c.shared_slice_known-then-has32-i-2-1.given c.args.j)
 
 pub pair_allowed-requires : goal.pair_allowed-requires
 unfolding state_of

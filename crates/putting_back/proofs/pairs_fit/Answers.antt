@@ -1,16 +1,6 @@
 -- `putting_back::pairs_fit`: a loop over the variables. Assumes nothing.
-use mathlib.Core.Path.{◌≡◌, sym, ◌∙◌}
-use Prim.Native.Nat.{◌-◌, ◌≤◌}
-use mathlib.Core.Bool.{true}
-use lib.ListN.{length}
-use borrow.Author.Tests.{not-true, not-false}
-use Rattle.bounded.specs.Quantifiers.{all_below}
+use mathlib.Core.Path.{sym, ◌∙◌}
 use Rattle.bounded.proofs.Loops.{all_none, all_more, all_fail, all_end}
-use Rattle.problem.specs.PutBack.{plan_of}
-use Rattle.problem.specs.Held.{held}
-use Rattle.problem.specs.Masks.{state_of, sets}
-use Rattle.putting_back.specs.Plan.{pairs_of}
-use borrow.Author.Rules.{rules}
 use native.Mathlib.Omega.{arith}
 use Rattle.putting_back.proofs.pairs_fit.Goals as goal
 
@@ -21,10 +11,10 @@ pub pairs_of-requires : goal.pairs_of-requires
 pairs_of-requires c = let p = c.requires in (p.0, (p.1.0, (p.1.1, c.loop-i-test.true)))
 
 pub returns-then-not-pairs_of : goal.returns-then-not-pairs_of
-returns-then-not-pairs_of c = sym (all_fail _ _ c.loop-i.i (omega arith) (sym c.pairs_of.ensures ∙ not-true _ c.if-not-pairs_of.true))
+returns-then-not-pairs_of c = sym (all_fail _ _ c.loop-i.i (omega arith) (sym c.pairs_of.ensures ∙ c.if-not-pairs_of.true))
 
 pub loop-i-preserved : goal.loop-i-preserved
-loop-i-preserved c = (omega arith, all_more _ _ c.loop-i.invariant.1 (sym c.pairs_of.ensures ∙ not-false _ c.if-not-pairs_of.false))
+loop-i-preserved c = (omega arith, all_more _ _ c.loop-i.invariant.1 (sym c.pairs_of.ensures ∙ c.if-not-pairs_of.false))
 
 pub returns : goal.returns
 returns c = sym (all_end _ _ c.loop-i.i (omega arith) c.loop-i.invariant.1)

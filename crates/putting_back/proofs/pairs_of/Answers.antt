@@ -1,16 +1,7 @@
 -- `putting_back::pairs_of`: a loop over the other variables. Assumes nothing.
-use mathlib.Core.Path.{◌≡◌, sym, ◌∙◌}
-use Prim.Native.Nat.{◌-◌, ◌≤◌}
-use mathlib.Core.Bool.{true}
-use lib.ListN.{length}
-use borrow.Author.Tests.{not-true, not-false}
-use Rattle.bounded.specs.Quantifiers.{all_below}
+use mathlib.Core.Path.{sym, ◌∙◌}
 use Rattle.bounded.proofs.Loops.{all_none, all_more, all_fail, all_end}
-use Rattle.problem.specs.PutBack.{plan_of}
-use Rattle.problem.specs.Held.{held}
-use Rattle.problem.specs.Masks.{state_of, sets}
-use Rattle.putting_back.specs.Plan.{pair_fits, pairs_of}
-use borrow.Author.Rules.{rules}
+use Rattle.putting_back.specs.Plan.{pairs_of}
 use native.Mathlib.Omega.{arith}
 use Rattle.putting_back.proofs.pairs_of.Goals as goal
 
@@ -22,10 +13,10 @@ pair_fits-requires c = let p = c.requires in (p.0, (p.1.0, (p.1.1.1, c.loop-j-te
 
 pub returns-then-not-pair_fits : goal.returns-then-not-pair_fits
 unfolding pairs_of
-returns-then-not-pair_fits c = sym (all_fail _ _ c.loop-j.j (omega arith) (sym c.pair_fits.ensures ∙ not-true _ c.if-not-pair_fits.true))
+returns-then-not-pair_fits c = sym (all_fail _ _ c.loop-j.j (omega arith) (sym c.pair_fits.ensures ∙ c.if-not-pair_fits.true))
 
 pub loop-j-preserved : goal.loop-j-preserved
-loop-j-preserved c = (omega arith, all_more _ _ c.loop-j.invariant.1 (sym c.pair_fits.ensures ∙ not-false _ c.if-not-pair_fits.false))
+loop-j-preserved c = (omega arith, all_more _ _ c.loop-j.invariant.1 (sym c.pair_fits.ensures ∙ c.if-not-pair_fits.false))
 
 pub returns : goal.returns
 unfolding pairs_of

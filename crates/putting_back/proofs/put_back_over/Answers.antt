@@ -3,7 +3,6 @@ use mathlib.Core.Path.{sym, ap, ◌∙◌}
 use Rattle.problem.specs.Held.{held}
 use Rattle.put_back.specs.PutBack.{PutBackResult}
 use Rattle.put_back.proofs.Opened.{put_back_plan_length_over, put_back_result_length_over, put_back_checked_over}
-use borrow.Author.Rules.{rules}
 use Rattle.putting_back.proofs.put_back_over.Goals as goal
 
 pub returns-then-plan-n : goal.returns-then-plan-n

@@ -4,7 +4,6 @@ use Rattle.put_back.specs.PutBack.{Checked, after_check, check_trace}
 use Rattle.problem.specs.Problem.{full}
 use Rattle.problem.specs.Held.{held}
 use Rattle.replay.proofs.Walk.{ended_fault}
-use borrow.Author.Rules.{rules}
 use Rattle.putting_back.proofs.put_back_sized.Goals as goal
 
 pub check_trace-end-requires : goal.check_trace-end-requires
