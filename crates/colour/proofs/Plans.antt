@@ -11,7 +11,7 @@ use lib.ListN.{length, take, get_or}
 use borrow.Author.Tests.{lt-ltb, le-ltb, eq-eqb, ne_eqb, eqb-true, ltb-false, not-false}
 use Rattle.bounded.specs.Quantifiers.{one_if}
 use Rattle.bounded.specs.Mask.{bit}
-use Rattle.bounded.proofs.Truth.{T_true, T_of, T_not, T_ext, and_iff, or_iff, eqb_iff, ltb_iff, lt_dec, split, both, neither, clash}
+use Rattle.bounded.proofs.Truth.{T_true, T_of, T_not, T_ext, and_iff, or_iff, eqb_iff, ltb_iff, lt_dec, split, neither, clash}
 use Rattle.problem.specs.Problem.{Problem, full}
 use Rattle.problem.specs.Held.{Bounded}
 use Rattle.problem.specs.PutBack.{solves_whole}

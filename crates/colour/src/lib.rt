@@ -1,5 +1,6 @@
 // The sheet of a colouring graph: the file is read, the table of its colouring problem filled, and the sheet written.
 #![tactic(auto)]
+
 ghost use Rattle.colour.specs.Call.{colour_call};
 ghost use Rattle.std.specs.Prelude.{◌≡◌, ◌*◌, ◌<◌, ◌≤◌, length};
 ghost use Rattle.problem.specs.Held.{table_length, Located, Filled};

@@ -1,5 +1,6 @@
 // A sheet moved to the other version: it is read, its table filled, and the same problem written in the other version.
 #![tactic(auto)]
+
 ghost use Rattle.moved.specs.Call.{move_call};
 ghost use Rattle.std.specs.Prelude.{◌≡◌};
 ghost use Rattle.problem.specs.Held.{held, RowTable};

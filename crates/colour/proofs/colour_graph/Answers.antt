@@ -5,19 +5,18 @@ use borrow.Author.Tests.{eq-eqb, ne_eqb}
 use Rattle.colour.specs.Colour.{out_of_range}
 use Rattle.colour.specs.Parts.{graph_job}
 use Rattle.colour.proofs.Job.{in_range}
-use borrow.Author.Rules.{rules}
 use Rattle.colour.proofs.colour_graph.Goals as goal
 
 pub returns-then-loops : goal.returns-then-loops
 unfolding graph_job
-returns-then-loops c = rw c.if-loops.true (refl, refl)
+returns-then-loops c = rw c.if-loops.true record { answer = refl; buffer = refl }
 
 pub returns-then-lines-edges : goal.returns-then-lines-edges
 unfolding graph_job
 returns-then-lines-edges c =
     let a = c.args in
     let q = ne_eqb a.lines a.edges c.if-lines-edges.true in
-    rw (c.if-loops.false, q) (refl, refl)
+    rw (c.if-loops.false, q) record { answer = refl; buffer = refl }
 
 pub returns-then-out_of_range : goal.returns-then-out_of_range
 unfolding graph_job
@@ -25,7 +24,7 @@ returns-then-out_of_range c =
     let a = c.args in
     let q = eq-eqb a.lines a.edges c.if-lines-edges.false in
     let o : out_of_range a.vertices a.channels ≡ true = sym c.out_of_range.ensures ∙ c.if-out_of_range.true in
-    rw (c.if-loops.false, q, o) (refl, refl)
+    rw (c.if-loops.false, q, o) record { answer = refl; buffer = refl }
 
 pub write-requires : goal.write-requires
 write-requires c =
@@ -40,4 +39,4 @@ returns c =
     let a = c.args in
     let q = eq-eqb a.lines a.edges c.if-lines-edges.false in
     let o : out_of_range a.vertices a.channels ≡ false = sym c.out_of_range.ensures ∙ c.if-out_of_range.false in
-    rw (c.if-loops.false, q, o) (c.write.ensures.0, c.write.ensures.1)
+    rw (c.if-loops.false, q, o) record { answer = c.write.ensures.answer; buffer = c.write.ensures.buffer }

@@ -1,12 +1,11 @@
 -- `colour::edge_rows`: the rows so far. Assumes nothing.
-use mathlib.Core.Path.{◌≡◌, sym, ap, ◌∙◌}
+use mathlib.Core.Path.{sym, ap, ◌∙◌}
 use mathlib.Core.List.{List}
-use Prim.Native.Nat.{ℕ, ◌-◌, ◌^◌, ◌≤◌}
+use Prim.Native.Nat.{ℕ, ◌-◌, ◌^◌}
 use native.Mathlib.Omega.{arith}
-use lib.ListN.{length, set, length-replicate}
+use lib.ListN.{set, length-replicate}
 use borrow.Author.Rules.{rules}
 use Rattle.bounded.specs.Mask.{without}
-use Rattle.bounded.specs.Table.{filled}
 use Rattle.bounded.proofs.Table.{filled_none, filled_more, filled_end}
 use Rattle.colour.specs.Parts.{edge_rows}
 use Rattle.colour.proofs.edge_rows.Goals as goal

@@ -1,13 +1,8 @@
-use mathlib.Core.Path.{◌≡◌, sym, ap, ◌∙◌}
-use mathlib.Core.List.{List}
+use mathlib.Core.Path.{◌≡◌}
 use Prim.Native.Nat.{ℕ, ◌-◌, ◌^◌, ◌≤◌}
-use native.Mathlib.Omega.{arith}
-use lib.ListN.{length, set, length-replicate}
-use borrow.Author.Rules.{rules}
+use lib.ListN.{length}
 use Rattle.bounded.specs.Mask.{without}
 use Rattle.bounded.specs.Table.{filled}
-use Rattle.bounded.proofs.Table.{filled_none, filled_more, filled_end}
-use Rattle.colour.specs.Parts.{edge_rows}
 use Rattle.colour.proofs.edge_rows.Given as goal
 
 abbrev pub invariant-loop-a : goal.invariant-loop-a

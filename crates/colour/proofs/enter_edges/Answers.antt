@@ -1,10 +1,7 @@
 -- `colour::enter_edges`: the edges at the places so far are entered. Assumes nothing.
 use mathlib.Core.Path.{◌≡◌, sym, ◌∙◌}
-use Prim.Native.Nat.{◌*◌, ◌-◌, ◌≤◌}
+use Prim.Native.Nat.{◌*◌}
 use native.Mathlib.Omega.{arith}
-use borrow.Author.Rules.{rules}
-use Rattle.graph.specs.Scan.{is_marked}
-use Rattle.table.specs.Filling.{EnteredTo}
 use Rattle.table.proofs.Filling.{place_next}
 use Rattle.colour.proofs.enter_edges.Goals as goal
 

@@ -1,10 +1,6 @@
-use mathlib.Core.Path.{◌≡◌, sym, ◌∙◌}
 use Prim.Native.Nat.{◌*◌, ◌-◌, ◌≤◌}
-use native.Mathlib.Omega.{arith}
-use borrow.Author.Rules.{rules}
 use Rattle.graph.specs.Scan.{is_marked}
 use Rattle.table.specs.Filling.{EnteredTo}
-use Rattle.table.proofs.Filling.{place_next}
 use Rattle.colour.proofs.enter_edges.Given as goal
 
 abbrev pub invariant-loop-x : goal.invariant-loop-x

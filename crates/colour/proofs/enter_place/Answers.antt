@@ -1,8 +1,6 @@
 -- `colour::enter_place`: an edge is entered, and where there is none nothing is changed. Assumes nothing.
 use mathlib.Core.Path.{refl, sym, ◌∙◌}
 use native.Mathlib.Omega.{arith}
-use borrow.Author.Rules.{rules}
-use borrow.Author.Tests.{not-true, not-false}
 use Rattle.bounded.proofs.Truth.{clash}
 use Rattle.table.proofs.Filling.{block_facts}
 use Rattle.colour.proofs.enter_place.Goals as goal

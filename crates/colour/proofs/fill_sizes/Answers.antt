@@ -1,11 +1,8 @@
 -- `colour::fill_sizes`: the sizes so far are stored. Assumes nothing.
 use mathlib.Core.Path.{◌≡◌}
-use Prim.Native.Nat.{◌+◌, ◌-◌, ◌≤◌}
+use Prim.Native.Nat.{◌+◌}
 use native.Mathlib.Omega.{arith}
-use borrow.Author.Rules.{rules}
-use Rattle.table.specs.Parts.{Wrote}
 use Rattle.table.proofs.Stores.{wrote_none, wrote_more}
-use Rattle.colour.specs.Parts.{entry_size}
 use Rattle.colour.proofs.fill_sizes.Goals as goal
 
 pub loop-i-preserved : goal.loop-i-preserved

@@ -1,9 +1,5 @@
-use mathlib.Core.Path.{◌≡◌}
-use Prim.Native.Nat.{◌+◌, ◌-◌, ◌≤◌}
-use native.Mathlib.Omega.{arith}
-use borrow.Author.Rules.{rules}
+use Prim.Native.Nat.{◌-◌, ◌≤◌}
 use Rattle.table.specs.Parts.{Wrote}
-use Rattle.table.proofs.Stores.{wrote_none, wrote_more}
 use Rattle.colour.specs.Parts.{entry_size}
 use Rattle.colour.proofs.fill_sizes.Given as goal
 

@@ -1,6 +1,5 @@
 -- `colour::fill_table`: the sizes, the list of places, then the edges. Assumes nothing.
 use mathlib.Core.Path.{◌∙◌}
-use borrow.Author.Rules.{rules}
 use Rattle.table.proofs.Filling.{none_entered}
 use Rattle.colour.proofs.Filling.{marked_filled}
 use Rattle.colour.proofs.fill_table.Goals as goal

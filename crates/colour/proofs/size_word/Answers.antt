@@ -1,6 +1,5 @@
 -- `colour::size_word`: below n and from n on. Assumes nothing.
 use borrow.Author.Tests.{lt-ltb, le-ltb}
-use borrow.Author.Rules.{rules}
 use Rattle.colour.proofs.size_word.Goals as goal
 
 pub returns-then-i-n : goal.returns-then-i-n

@@ -4,7 +4,6 @@ use Rattle.problem.proofs.HeldTable.{filled_rows}
 use Rattle.colour.specs.Parts.{marked_problem}
 use Rattle.colour.proofs.Filling.{marked_bounded}
 use Rattle.colour.proofs.Job.{coloured_of, write_answers, write_leaves}
-use borrow.Author.Rules.{rules}
 use Rattle.colour.proofs.write.Goals as goal
 
 pub fill_table-requires : goal.fill_table-requires
@@ -26,7 +25,7 @@ returns-in-TooShort c =
     let B = marked_bounded a.near.now a.n a.k p.0 p.1 in
     let t = c.fill_table.ensures in
     let w = c.write_sheet.ensures in
-    (ap coloured_of (sym c.in-TooShort.is ∙ w.0) ∙ write_answers P B _ a.sheet.now t, w.1 ∙ write_leaves P B _ a.sheet.now t)
+    record { answer = ap coloured_of (sym c.in-TooShort.is ∙ w.0) ∙ write_answers P B _ a.sheet.now t; buffer = w.1 ∙ write_leaves P B _ a.sheet.now t }
 
 pub returns-in-Written : goal.returns-in-Written
 returns-in-Written c =
@@ -36,4 +35,4 @@ returns-in-Written c =
     let B = marked_bounded a.near.now a.n a.k p.0 p.1 in
     let t = c.fill_table.ensures in
     let w = c.write_sheet.ensures in
-    (ap coloured_of (sym c.in-Written.is ∙ w.0) ∙ write_answers P B _ a.sheet.now t, w.1 ∙ write_leaves P B _ a.sheet.now t)
+    record { answer = ap coloured_of (sym c.in-Written.is ∙ w.0) ∙ write_answers P B _ a.sheet.now t; buffer = w.1 ∙ write_leaves P B _ a.sheet.now t }

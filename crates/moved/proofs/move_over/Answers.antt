@@ -2,7 +2,6 @@
 use mathlib.Core.Path.{sym, ap, ◌∙◌}
 use Rattle.problem.specs.Held.{held}
 use Rattle.moved.proofs.Job.{moved_of, move_answers, move_leaves}
-use borrow.Author.Rules.{rules}
 use Rattle.moved.proofs.move_over.Goals as goal
 
 pub returns-in-TooShort : goal.returns-in-TooShort
@@ -10,11 +9,11 @@ returns-in-TooShort c =
     let a = c.args in
     let w = c.write_sheet.ensures in
     let P = held a.t.now in
-    (ap moved_of (sym c.in-TooShort.is ∙ w.0) ∙ move_answers a.v P a.target.now, w.1 ∙ move_leaves a.v P a.target.now)
+    record { answer = ap moved_of (sym c.in-TooShort.is ∙ w.0) ∙ move_answers a.v P a.target.now; target = w.1 ∙ move_leaves a.v P a.target.now }
 
 pub returns-in-Written : goal.returns-in-Written
 returns-in-Written c =
     let a = c.args in
     let w = c.write_sheet.ensures in
     let P = held a.t.now in
-    (ap moved_of (sym c.in-Written.is ∙ w.0) ∙ move_answers a.v P a.target.now, w.1 ∙ move_leaves a.v P a.target.now)
+    record { answer = ap moved_of (sym c.in-Written.is ∙ w.0) ∙ move_answers a.v P a.target.now; target = w.1 ∙ move_leaves a.v P a.target.now }
