@@ -12,7 +12,7 @@ first_plan-found-requires c = let p = c.requires in left_ready p.0 p.1.0
 
 pub returns-then-not-found : goal.returns-then-not-found
 returns-then-not-found c =
-    put_none c.requires.0 c.requires.1.0 _ c.first_plan-found.ensures c.args.plan.now (c.if-not-found.true)
+    put_none c.requires.0 c.requires.1.0 _ c.first_plan-found.ensures c.args.plan.now (not-true _ c.if-not-found.true)
 
 pub slice_bounds-first-end : goal.slice_bounds-first-end
 slice_bounds-first-end c =
@@ -24,4 +24,4 @@ slice_bounds-put_back_over-end c =
 
 pub returns : goal.returns
 returns c =
-    put_some c.requires.0 c.requires.1.0 _ c.first_plan-found.ensures c.args.plan.now _ _ (c.if-not-found.false) c.requires.1.1.1 c.requires.1.1.0 c.put_back_over.ensures.1
+    put_some c.requires.0 c.requires.1.0 _ c.first_plan-found.ensures c.args.plan.now _ _ (not-false _ c.if-not-found.false) c.requires.1.1.1 c.requires.1.1.0 c.put_back_over.ensures.1

@@ -1,5 +1,6 @@
 -- `putting_back::put_back_over`: the lengths, then the trace and the plan. Assumes nothing.
 use mathlib.Core.Path.{sym, ap, ◌∙◌}
+use native.Mathlib.Omega.{arith}
 use Rattle.problem.specs.Held.{held}
 use Rattle.put_back.specs.PutBack.{PutBackResult}
 use Rattle.put_back.proofs.Opened.{put_back_plan_length_over, put_back_result_length_over, put_back_checked_over}
@@ -15,7 +16,7 @@ pub returns-then-out-n : goal.returns-then-out-n
 returns-then-out-n c =
     let a = c.args in
     let e = c.variables-n.ensures in
-    let g = sym (put_back_result_length_over (held a.t.now) a.trace.now a.plan.now a.out.now (c.if-plan-n.false ∙ e) (λ q. c.if-out-n.true (q ∙ sym e))) in
+    let g = sym (put_back_result_length_over (held a.t.now) a.trace.now a.plan.now a.out.now (omega arith) (λ q. c.if-out-n.true (q ∙ sym e))) in
     (ap (λ (r : PutBackResult). r.answer) g, ap (λ (r : PutBackResult). r.result) g)
 
 pub put_back_sized-requires : goal.put_back_sized-requires
