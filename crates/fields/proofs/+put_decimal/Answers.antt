@@ -1,8 +1,7 @@
 -- `fields::put_decimal`: the digits before the last one are those of a tenth of the number.
 use Rattle.std.proofs.Common.{◌≤◌, ◌/◌, length, arith}
-use Rattle.fields.specs.Print.{decimal}
-use Rattle.fields.proofs.Decimal.{decimal_small, decimal_more, decimal_four, decimal_five}
-use Rattle.fields.proofs.Laws.{Puts, after}
+use Rattle.fields.proofs.Decimal.{decimal_small, decimal_more, decimal_four}
+use Rattle.fields.proofs.Laws.{after}
 use Rattle.fields.proofs.+put_decimal.Goals as goal
 
 pub returns-then-x-lt10-clause-text : goal.returns-then-x-lt10-clause-text

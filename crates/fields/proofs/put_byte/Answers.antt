@@ -2,7 +2,6 @@
 use mathlib.Core.Path.{refl}
 use native.Mathlib.Omega.{arith}
 use Rattle.buffers.proofs.Written.{written_one}
-use borrow.Author.Rules.{rules}
 use Rattle.fields.proofs.put_byte.Goals as goal
 
 pub returns : goal.returns

@@ -1,9 +1,8 @@
 -- `fields::put_bytes`: before each turn the first j bytes are copied.
-use mathlib.Core.Path.{◌≡◌, refl, ◌∙◌}
-use Prim.Native.Nat.{◌+◌, ◌≤◌, ◌-◌}
+use mathlib.Core.Path.{refl, ◌∙◌}
+use Prim.Native.Nat.{◌+◌}
 use native.Mathlib.Omega.{arith}
-use lib.ListN.{length, length-set}
-use lib.Seq.{paste}
+use lib.ListN.{length-set}
 use Rattle.fields.proofs.Laws.{paste_start, paste_turn, paste_end}
 use Rattle.fields.proofs.put_bytes.Goals as goal
 

@@ -8,7 +8,6 @@ use Rattle.problem.proofs.Apart.{parts_two, parts_three}
 use Rattle.fields.specs.Print.{field, fields_text}
 use Rattle.trace.proofs.Parts.{small_parts}
 use Rattle.fields.proofs.Laws.{same_text, after}
-use borrow.Author.Rules.{rules}
 use Rattle.fields.proofs.put_step_fields.Goals as goal
 
 two_text : (x y : ℕ) → field x ++ field y ≡ fields_text (x ∷ y ∷ [])

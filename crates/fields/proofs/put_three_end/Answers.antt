@@ -1,5 +1,4 @@
 -- `fields::put_three_end`: three fields and the line's end, one after the other.
-use borrow.Author.Rules.{rules}
 use native.Mathlib.Omega.{arith}
 use Prim.Native.Nat.{◌+◌, ◌≤◌}
 use lib.ListN.{length}

@@ -8,15 +8,15 @@ use Rattle.plan_report.proofs.put_kept.Goals as goal
 pub put_picked-requires : goal.put_picked-requires
 put_picked-requires c =
     let x = c.pick-picked.ensures in
-    let R = picks c.args.s.now c.requires.0 _ (omega arith) _ c.requires.1.0 _ x.0 true _ _ _ c.in-Plan.is _ _ x.1.0 x.1.1 (omega arith) in
+    let R = picks c.args.s.now c.requires.0 _ (omega arith) _ c.requires.1.0 _ x.answer true _ _ _ c.in-Plan.is _ _ x.trace x.plan (omega arith) in
     (c.requires.0, (R, omega arith))
 
 pub put_picked-requires-in-None : goal.put_picked-requires-in-None
 put_picked-requires-in-None c =
     let x = c.pick-picked.ensures in
-    let R = picks c.args.s.now c.requires.0 _ (omega arith) _ c.requires.1.0 _ x.0 false _ _ _ c.in-None.is _ _ x.1.0 x.1.1 (omega arith) in
+    let R = picks c.args.s.now c.requires.0 _ (omega arith) _ c.requires.1.0 _ x.answer false _ _ _ c.in-None.is _ _ x.trace x.plan (omega arith) in
     (c.requires.0, (R, omega arith))
 
 pub returns-in-Refused : goal.returns-in-Refused
 returns-in-Refused c =
-    absurd (not_refused c.args.s.now c.requires.0 _ (omega arith) _ c.requires.1.0 _ c.pick-picked.ensures.0 _ c.in-Refused.is)
+    absurd (not_refused c.args.s.now c.requires.0 _ (omega arith) _ c.requires.1.0 _ c.pick-picked.ensures.answer _ c.in-Refused.is)

@@ -14,20 +14,20 @@ put_run-requires c =
     let a = c.args in
     let r = c.run_sheet-done in
     let o = c.in-Done.is in
-    (done_keeps a.s.now _ (omega arith) _ r.ensures.text _ _ _ o, (done_ran a.s.now _ (omega arith) _ r.ensures.text _ _ _ o _ r.ensures.within, omega arith))
+    (done_keeps a.s.now _ (omega arith) _ r.ensures.0 _ _ _ o, (done_ran a.s.now _ (omega arith) _ r.ensures.0 _ _ _ o _ r.ensures.1, omega arith))
 
 pub returns-in-Done : goal.returns-in-Done
 returns-in-Done c =
     let a = c.args in
     let r = c.run_sheet-done in
-    let K = done_keeps a.s.now _ (omega arith) _ r.ensures.text _ _ _ c.in-Done.is in
+    let K = done_keeps a.s.now _ (omega arith) _ r.ensures.0 _ _ _ c.in-Done.is in
     record { text = rw (read_lines a.s.now K) c.put_run.ensures.text; within = c.put_run.ensures.within }
 
 pub returns-in-Refused : goal.returns-in-Refused
 returns-in-Refused c =
     let a = c.args in
     let r = c.run_sheet-done in
-    let e = refused_text a.s.now _ (omega arith) _ r.ensures.text _ c.in-Refused.is in
+    let e = refused_text a.s.now _ (omega arith) _ r.ensures.0 _ c.in-Refused.is in
     let p = c.put_refused_line.ensures in
     let n = ap refused_line c.run_number.ensures ∙ e in
     record { text = (p.text.0 ∙ ap (written a.out.now 0) n, p.text.1 ∙ zero-add _ ∙ ap length n); within = omega arith }

@@ -1,6 +1,5 @@
 -- `text::put_end_word`: each end by itself.
 use native.Mathlib.Omega.{arith}
-use borrow.Author.Rules.{rules}
 use Rattle.text.proofs.put_end_word.Goals as goal
 
 pub returns-in-Impossible : goal.returns-in-Impossible

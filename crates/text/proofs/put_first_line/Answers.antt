@@ -3,7 +3,6 @@ use native.Mathlib.Omega.{arith}
 use Prim.Native.Nat.{◌≤◌}
 use lib.ListN.{length}
 use Rattle.fields.proofs.Laws.{after}
-use borrow.Author.Rules.{rules}
 use Rattle.text.proofs.put_first_line.Goals as goal
 
 pub returns : goal.returns

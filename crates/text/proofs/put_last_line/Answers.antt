@@ -1,5 +1,4 @@
 -- `text::put_last_line`: the word, and the rest of the line after it.
-use borrow.Author.Rules.{rules}
 use native.Mathlib.Omega.{arith}
 use Prim.Native.Nat.{◌≤◌}
 use lib.ListN.{length}

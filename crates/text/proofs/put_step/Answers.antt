@@ -1,5 +1,4 @@
 -- `text::put_step`: the word, and the fields after it.
-use borrow.Author.Rules.{rules}
 use native.Mathlib.Omega.{arith}
 use Prim.Native.Nat.{◌≤◌}
 use lib.ListN.{length}

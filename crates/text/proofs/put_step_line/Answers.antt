@@ -1,5 +1,4 @@
 -- `text::put_step_line`: the number, a space, the step and the line's end, one after the other.
-use borrow.Author.Rules.{rules}
 use native.Mathlib.Omega.{arith}
 use Prim.Native.Nat.{◌≤◌}
 use lib.ListN.{length}

@@ -1,6 +1,5 @@
 -- `text::put_step_word`: each kind by itself.
 use native.Mathlib.Omega.{arith}
-use borrow.Author.Rules.{rules}
 use Rattle.text.proofs.put_step_word.Goals as goal
 
 pub returns-in-Unsupported : goal.returns-in-Unsupported
