@@ -1,5 +1,6 @@
 // The whole text that the program prints for a sheet, written to the front of a lent buffer.
 #![tactic(auto)]
+
 ghost use Rattle.std.specs.Prelude.{◌≡◌, ◌+◌, ◌*◌, ◌≤◌, length};
 ghost use Rattle.bounded.specs.Quantifiers.{count_below, sum_to};
 ghost use Rattle.bounded.specs.Mask.{bit};

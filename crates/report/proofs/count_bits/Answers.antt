@@ -1,10 +1,9 @@
 -- `report::count_bits`: before each turn the sum is the count below c. Assumes nothing.
 use mathlib.Core.Path.{◌≡◌, sym, ap, ◌∙◌}
-use Prim.Native.Nat.{ℕ, ◌+◌, ◌-◌, ◌≤◌}
+use Prim.Native.Nat.{ℕ, ◌+◌}
 use native.Mathlib.Omega.{arith}
 use Rattle.bounded.specs.Quantifiers.{one_if, count_below}
 use Rattle.bounded.specs.Mask.{bit}
-use borrow.Author.Rules.{rules}
 use Rattle.bounded.proofs.Quantifiers.{count_most}
 use Rattle.report.proofs.Counting.{count_none, count_more}
 use Rattle.report.proofs.count_bits.Goals as goal

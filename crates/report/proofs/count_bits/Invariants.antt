@@ -1,11 +1,7 @@
-use mathlib.Core.Path.{◌≡◌, sym, ap, ◌∙◌}
-use Prim.Native.Nat.{ℕ, ◌+◌, ◌-◌, ◌≤◌}
-use native.Mathlib.Omega.{arith}
-use Rattle.bounded.specs.Quantifiers.{one_if, count_below}
+use mathlib.Core.Path.{◌≡◌}
+use Prim.Native.Nat.{◌-◌, ◌≤◌}
+use Rattle.bounded.specs.Quantifiers.{count_below}
 use Rattle.bounded.specs.Mask.{bit}
-use borrow.Author.Rules.{rules}
-use Rattle.bounded.proofs.Quantifiers.{count_most}
-use Rattle.report.proofs.Counting.{count_none, count_more}
 use Rattle.report.proofs.count_bits.Given as goal
 
 abbrev pub invariant-loop-c : goal.invariant-loop-c

@@ -1,11 +1,8 @@
 -- `report::count_values`: before each turn the sum is that of the domains below i. Assumes nothing.
 use mathlib.Core.Path.{◌≡◌, sym}
-use Prim.Native.Nat.{◌-◌, ◌*◌, ◌≤◌}
 use native.Mathlib.Omega.{arith}
-use Rattle.bounded.specs.Quantifiers.{count_below, sum_to}
 use Rattle.bounded.proofs.Loops.{sum_none}
 use Rattle.problem.specs.Masks.{state_of}
-use borrow.Author.Rules.{rules}
 use Rattle.report.proofs.Counting.{sum_turn, sum_end}
 use Rattle.report.proofs.count_values.Goals as goal
 

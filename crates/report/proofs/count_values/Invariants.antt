@@ -1,11 +1,7 @@
-use mathlib.Core.Path.{◌≡◌, sym}
+use mathlib.Core.Path.{◌≡◌}
 use Prim.Native.Nat.{◌-◌, ◌*◌, ◌≤◌}
-use native.Mathlib.Omega.{arith}
 use Rattle.bounded.specs.Quantifiers.{count_below, sum_to}
-use Rattle.bounded.proofs.Loops.{sum_none}
 use Rattle.problem.specs.Masks.{state_of}
-use borrow.Author.Rules.{rules}
-use Rattle.report.proofs.Counting.{sum_turn, sum_end}
 use Rattle.report.proofs.count_values.Given as goal
 
 abbrev pub invariant-loop-i : goal.invariant-loop-i

@@ -8,7 +8,6 @@ use Rattle.sheet.specs.Sheet.{layout}
 use Rattle.sheet.specs.Relation.{problem_of}
 use Rattle.sheet.proofs.Accepted.{facts, problem_bounded}
 use Rattle.report.proofs.Text.{run_put}
-use borrow.Author.Rules.{rules}
 use Rattle.report.proofs.put_run.Goals as goal
 
 pub bounds-s-5 : goal.bounds-s-5

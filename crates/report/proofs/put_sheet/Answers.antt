@@ -6,7 +6,6 @@ use lib.ListN.{length}
 use Rattle.fields.specs.Print.{refused_line}
 use Rattle.buffers.specs.Written.{written}
 use Rattle.report.proofs.Text.{done_keeps, done_ran, read_lines, refused_text}
-use borrow.Author.Rules.{rules}
 use Rattle.report.proofs.put_sheet.Goals as goal
 
 pub put_run-requires : goal.put_run-requires

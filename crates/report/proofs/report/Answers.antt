@@ -1,7 +1,6 @@
 -- `report::report`: by the room in the buffer. Assumes nothing.
 use native.Mathlib.Omega.{arith}
 use Rattle.report.proofs.Text.{text_short, text_whole}
-use borrow.Author.Rules.{rules}
 use Rattle.report.proofs.report.Goals as goal
 
 pub returns-then-out-lt32768 : goal.returns-then-out-lt32768

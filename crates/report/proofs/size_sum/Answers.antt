@@ -1,6 +1,6 @@
 -- `report::size_sum`: the sum so far, at most 16 for each item. Assumes nothing.
 use mathlib.Core.Path.{◌≡◌, sym, ap, ◌∙◌}
-use Prim.Native.Nat.{ℕ, ◌-◌, ◌*◌, ◌≤◌}
+use Prim.Native.Nat.{ℕ}
 use Rattle.bounded.specs.Quantifiers.{sum_to}
 use Rattle.bounded.proofs.Loops.{sum_none, sum_more}
 use Rattle.problem.specs.Problem.{size_sum}

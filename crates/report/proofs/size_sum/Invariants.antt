@@ -1,13 +1,8 @@
-use mathlib.Core.Path.{◌≡◌, sym, ap, ◌∙◌}
-use Prim.Native.Nat.{ℕ, ◌-◌, ◌*◌, ◌≤◌}
+use mathlib.Core.Path.{◌≡◌}
+use Prim.Native.Nat.{◌-◌, ◌*◌, ◌≤◌}
 use Rattle.bounded.specs.Quantifiers.{sum_to}
-use Rattle.bounded.proofs.Loops.{sum_none, sum_more}
-use Rattle.problem.specs.Problem.{size_sum}
-use Rattle.sheet.specs.Sheet.{layout, variables_of}
-use Rattle.sheet.specs.Relation.{size_of, problem_of}
-use Rattle.sheet.proofs.Accepted.{facts, size_in}
-use borrow.Author.Rules.{rules}
-use native.Mathlib.Omega.{arith}
+use Rattle.sheet.specs.Sheet.{layout}
+use Rattle.sheet.specs.Relation.{size_of}
 use Rattle.report.proofs.size_sum.Given as goal
 
 abbrev pub invariant-loop-i : goal.invariant-loop-i
