@@ -1,6 +1,7 @@
 // Any plan within sets of values, or that there is none. One plan is asked for and not the first, so the search goes where it fails most; what
 // it goes by is no part of the answer (crate weights). Sets are narrowed only by variables that have one value left: more would cost more than it saves.
 #![tactic(auto)]
+
 ghost use Rattle.std.specs.Prelude.{◌≡◌, ◌≢◌, ◌+◌, ◌^◌, ◌<◌, ◌≤◌, length, get_or};
 ghost use Rattle.bounded.specs.Quantifiers.{any_below};
 ghost use Rattle.lines.specs.Lines.{lines_length};

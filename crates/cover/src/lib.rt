@@ -1,6 +1,7 @@
 // Covering, the format's word for one value in another's place, over a lent table of rows: what spoils it at one variable, where it breaks
 // first in a set of them, which values of a set cover, and where the others break.
 #![tactic(auto)]
+
 ghost use Rattle.std.specs.Prelude.{◌≡◌, cond, false, ◌≢◌, ◌<◌, ◌≤◌, ◌+◌, ◌^◌};
 ghost use Rattle.std.specs.Int.Bits.{bit_and, bit_or};
 ghost use Rattle.bounded.specs.Mask.{bit};

@@ -1,5 +1,6 @@
 // The lines of a state, drawn from a table: what each value allows at every variable, side by side.
 #![tactic(auto)]
+
 ghost use Rattle.std.specs.Prelude.{◌≡◌, ◌≢◌, ◌<◌, length, replicate};
 ghost use Rattle.bounded.specs.Mask.{without as without_of};
 ghost use Rattle.problem.specs.Held.{held, RowTable};

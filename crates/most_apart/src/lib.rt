@@ -1,6 +1,7 @@
 // More variables that must all differ than values for them: such a state has no solution. Consistency of pairs does not see it, and a
 // search would go through every order of the values.
 #![tactic(auto)]
+
 ghost use Rattle.std.specs.Prelude.{◌≡◌, cond, ◌⊎◌, ◌≢◌, ◌-◌, ◌%◌, ◌<◌, T};
 ghost use Rattle.bounded.specs.Mask.{bit, without as without_of};
 ghost use Rattle.problem.specs.Held.{held, RowTable};

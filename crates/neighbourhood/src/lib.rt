@@ -1,5 +1,6 @@
 // Kind 4, cover: the test for a neighbourhood substitution, the values that substitute for one, and what it rests on that none does.
 #![tactic(auto)]
+
 ghost use Rattle.std.specs.Prelude.{◌≡◌, true, ◌<◌, get_or};
 ghost use Rattle.bounded.specs.Mask.{bit};
 ghost use Rattle.problem.specs.Problem.{neighbourhood as neighbourhood_holds, first_break as first_break_at};

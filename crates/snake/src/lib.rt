@@ -1,5 +1,6 @@
 // Kind 2, snake: the rule's test, what its failure rests on, and the choice that undoing makes.
 #![tactic(auto)]
+
 ghost use Rattle.std.specs.Prelude.{◌≡◌, true, ◌&&◌, ◌≢◌, ◌<◌, get_or};
 ghost use Rattle.bounded.specs.Mask.{bit, mask_of};
 ghost use Rattle.problem.specs.Problem.{snake as snake_holds, snake_serves};

@@ -1,5 +1,6 @@
 // Kind 5, slide: the test for a snake substitution, all that a variable has, and what it rests on that it has none.
 #![tactic(auto)]
+
 ghost use Rattle.std.specs.Prelude.{◌≡◌, true, false, ◌≢◌, ◌<◌, T, length, get_or};
 ghost use Rattle.std.specs.Int.Bits.{bit_and};
 ghost use Rattle.bounded.specs.Quantifiers.{imp};

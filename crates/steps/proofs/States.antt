@@ -1,7 +1,7 @@
 -- What a step leads to, as masks of the problem that a table holds. Assumes nothing.
 use mathlib.Core.Path.{◌≡◌}
 use mathlib.Core.List.{List}
-use Prim.Native.Nat.{ℕ, ◌-◌, ◌<◌}
+use Prim.Native.Nat.{ℕ, ◌<◌}
 use lib.Dec.{T}
 use Rattle.problem.specs.Run.{holds, after}
 use Rattle.problem.specs.Held.{held}

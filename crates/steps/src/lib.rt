@@ -1,5 +1,6 @@
 // What a step makes of a state: a value removed, a variable eliminated.
 #![tactic(auto)]
+
 ghost use Rattle.std.specs.Prelude.{◌≡◌, ◌<◌};
 ghost use Rattle.problem.specs.Problem.{remove as removed, eliminate as eliminated};
 ghost use Rattle.problem.specs.Held.{held};

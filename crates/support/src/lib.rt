@@ -1,5 +1,6 @@
 // Supports by words: the values of one variable that have a support at another, and those that have one at every other.
 #![tactic(auto)]
+
 ghost use Rattle.std.specs.Prelude.{◌≡◌, true, ◌≢◌, ◌<◌};
 ghost use Rattle.std.specs.Int.Bits.{bit_and};
 ghost use Rattle.problem.specs.Problem.{none_empty};

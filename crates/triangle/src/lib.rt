@@ -1,5 +1,6 @@
 // Kind 3, fold: the triangle rule's test, what its failure rests on, and the choice that undoing makes.
 #![tactic(auto)]
+
 ghost use Rattle.std.specs.Prelude.{◌≡◌, true, ◌&&◌, ◌≢◌, ◌<◌};
 ghost use Rattle.bounded.specs.Mask.{bit, mask_of};
 ghost use Rattle.problem.specs.Problem.{triangle as triangle_holds, triangle_serves};

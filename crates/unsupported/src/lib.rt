@@ -1,5 +1,6 @@
 // Kind 1, bare: the test for a value without a support at another variable.
 #![tactic(auto)]
+
 ghost use Rattle.std.specs.Prelude.{◌≡◌, not, ◌≢◌, ◌<◌};
 ghost use Rattle.problem.specs.Problem.{all_live, unsupported as unsupported_holds};
 ghost use Rattle.problem.specs.Held.{held};

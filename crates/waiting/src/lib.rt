@@ -1,6 +1,7 @@
 // What a run's search waits for: a test that failed is not made again before a variable changes that its failure rests on. This crate alone
 // knows where the word of a test stands.
 #![tactic(auto)]
+
 ghost use Rattle.std.specs.Prelude.{◌≡◌, ◌<◌, length, get_or};
 ghost use Rattle.waiting.specs.Waiting.{rows, groups, waiting_length, row_of, TrianglesPending, Watched, Learned, Woken, TriangleLearned, TrianglesWoken};
 

@@ -1,5 +1,6 @@
 // The unsupported values of a state as words, which a run of the engine that waits keeps up to date, and the lowest step of kind 1 by them.
 #![tactic(auto)]
+
 ghost use Rattle.std.specs.Prelude.{◌≡◌, true, ◌≢◌, ◌<◌, ◌-◌, length};
 ghost use Rattle.std.specs.Int.Bits.{bit_and};
 ghost use Rattle.bounded.specs.Mask.{bit};

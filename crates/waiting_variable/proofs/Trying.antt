@@ -26,7 +26,7 @@ use Rattle.problem.specs.declared.Next.TheVariants.{Step, Nothing}
 use Rattle.problem.proofs.Reflect.{snake_iff, triangle_iff, neighbourhood_iff, snake_substitution_iff}
 use Rattle.problem.proofs.Run.{first_each, step_if_none}
 use Rattle.problem.proofs.Search.{step_if_on, first_ext, first_off, first_at, outside}
-use Rattle.problem.specs.Sentences.{Live, Snake, Triangle, Neighbourhood, SnakeSubstitution}
+use Rattle.problem.specs.Sentences.{Live, Snake, Triangle, Neighbourhood}
 use Rattle.rests.specs.Rests.{Rests, Of}
 use Rattle.rests.proofs.Rests.{rests_fails}
 use Rattle.waiting.specs.Waiting.{groups, row_of, triangle_group, substitutions, Passes, TrianglesPending, Waits, Learned, TriangleLearned}

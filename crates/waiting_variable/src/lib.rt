@@ -1,6 +1,7 @@
 // The lowest step of each kind but the first from a variable. A test is made where it is pending: what is not has failed, and what its failure
 // rests on has not changed.
 #![tactic(auto)]
+
 ghost use Rattle.std.specs.Prelude.{◌≡◌, ◌<◌};
 ghost use Rattle.problem.specs.Held.{held};
 ghost use Rattle.problem.specs.Masks.{state_of, sets};

@@ -1,6 +1,7 @@
 // What the search for any plan goes by: which variable to branch on, by the values that it has left and by how often it failed. Nothing that
 // is answered rests on it, so no contract says more than that an answer is a variable.
 #![tactic(auto)]
+
 ghost use Rattle.std.specs.Prelude.{◌<◌, ◌≤◌};
 
 use bounded::{lowest32, without32};

@@ -1,9 +1,6 @@
 -- `any_plan::explore` and `any_plan::branch`, which call each other. Assumes nothing.
-use Prim.Native.Nat.{◌+◌, ◌*◌, ◌<◌}
 use native.Mathlib.Omega.{arith}
-use borrow.Author.Rules.{rules}
-use Rattle.any_plan.proofs.Laws.{told_pruned}
-use Rattle.any_plan.proofs.Branches.{lowest_lt, total, pruned_total, pruned_open, first_sets, first_total, first_open, first_told, first_none, second_sets, second_total, second_open, second_told}
+use Rattle.any_plan.proofs.Branches.{lowest_lt, pruned_total, pruned_open, first_sets, first_total, first_open, first_told, first_none, second_sets, second_total, second_open, second_told}
 use Rattle.any_plan.proofs.+branch_explore.Goals as goal
 
 pub branch-single-requires : goal.branch-single-requires

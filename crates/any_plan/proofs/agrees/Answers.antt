@@ -1,9 +1,6 @@
 -- `any_plan::agrees`: every line so far agrees. Assumes nothing.
-use Prim.Native.Nat.{◌-◌, ◌≤◌}
 use native.Mathlib.Omega.{arith}
-use borrow.Author.Rules.{rules}
-use borrow.Author.Tests.{not-true, not-false}
-use Rattle.any_plan.proofs.Laws.{AgreeBelow, agree_none, agree_more, agree_end, agreed, disagreed}
+use Rattle.any_plan.proofs.Laws.{agree_none, agree_more, agree_end, agreed, disagreed}
 use Rattle.any_plan.proofs.agrees.Goals as goal
 
 pub returns-then-not-agrees_at : goal.returns-then-not-agrees_at

@@ -1,8 +1,5 @@
 use Prim.Native.Nat.{◌-◌, ◌≤◌}
-use native.Mathlib.Omega.{arith}
-use borrow.Author.Rules.{rules}
-use borrow.Author.Tests.{not-true, not-false}
-use Rattle.any_plan.proofs.Laws.{AgreeBelow, agree_none, agree_more, agree_end, agreed, disagreed}
+use Rattle.any_plan.proofs.Laws.{AgreeBelow}
 use Rattle.any_plan.proofs.agrees.Given as goal
 
 abbrev pub invariant-loop-k : goal.invariant-loop-k

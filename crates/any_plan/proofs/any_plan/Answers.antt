@@ -1,5 +1,4 @@
 -- `any_plan::any_plan`. Assumes nothing.
-use borrow.Author.Rules.{rules}
 use Rattle.any_plan.proofs.Branches.{none_around}
 use Rattle.any_plan.proofs.any_plan.Goals as goal
 

@@ -1,9 +1,7 @@
 -- `any_plan::barred`: whether some set so far is barred. Assumes nothing.
-use mathlib.Core.Path.{◌≡◌, sym}
-use Prim.Native.Nat.{◌-◌, ◌≤◌}
+use mathlib.Core.Path.{sym}
 use native.Mathlib.Omega.{arith}
 use borrow.Author.Rules.{rules}
-use Rattle.bounded.specs.Quantifiers.{any_below}
 use Rattle.bounded.proofs.Loops.{any_none}
 use Rattle.any_plan.specs.Steps.{barred_at}
 use Rattle.any_plan.proofs.Laws.{any_step, any_last}

@@ -1,11 +1,7 @@
-use mathlib.Core.Path.{◌≡◌, sym}
+use mathlib.Core.Path.{◌≡◌}
 use Prim.Native.Nat.{◌-◌, ◌≤◌}
-use native.Mathlib.Omega.{arith}
-use borrow.Author.Rules.{rules}
 use Rattle.bounded.specs.Quantifiers.{any_below}
-use Rattle.bounded.proofs.Loops.{any_none}
 use Rattle.any_plan.specs.Steps.{barred_at}
-use Rattle.any_plan.proofs.Laws.{any_step, any_last}
 use Rattle.any_plan.proofs.barred.Given as goal
 
 abbrev pub invariant-loop-j : goal.invariant-loop-j

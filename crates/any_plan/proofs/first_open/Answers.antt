@@ -1,9 +1,7 @@
 -- `any_plan::first_open`: none so far has more than one value. Assumes nothing.
 use mathlib.Core.Path.{sym, ◌∙◌}
-use Prim.Native.Nat.{◌-◌, ◌≤◌}
 use native.Mathlib.Omega.{arith}
-use borrow.Author.Rules.{rules}
-use Rattle.any_plan.proofs.Laws.{ClosedBelow, closed_none, closed_more}
+use Rattle.any_plan.proofs.Laws.{closed_none, closed_more}
 use Rattle.any_plan.proofs.first_open.Goals as goal
 
 pub returns-then-others-ne0 : goal.returns-then-others-ne0

@@ -1,8 +1,5 @@
-use mathlib.Core.Path.{sym, ◌∙◌}
 use Prim.Native.Nat.{◌-◌, ◌≤◌}
-use native.Mathlib.Omega.{arith}
-use borrow.Author.Rules.{rules}
-use Rattle.any_plan.proofs.Laws.{ClosedBelow, closed_none, closed_more}
+use Rattle.any_plan.proofs.Laws.{ClosedBelow}
 use Rattle.any_plan.proofs.first_open.Given as goal
 
 abbrev pub invariant-loop-j : goal.invariant-loop-j

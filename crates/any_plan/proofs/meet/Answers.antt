@@ -1,8 +1,7 @@
 -- `any_plan::meet`. Assumes nothing.
-use Prim.Native.Nat.{◌-◌, ◌≤◌}
 use native.Mathlib.Omega.{arith}
 use borrow.Author.Rules.{rules}
-use Rattle.any_plan.proofs.Laws.{MetTo, met_none, met_more, EmptiedTo, emptied_none, emptied_more, met_all}
+use Rattle.any_plan.proofs.Laws.{met_none, met_more, emptied_none, emptied_more, met_all}
 use Rattle.any_plan.proofs.meet.Goals as goal
 
 pub loop-j-preserved : goal.loop-j-preserved

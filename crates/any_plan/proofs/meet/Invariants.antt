@@ -1,7 +1,5 @@
 use Prim.Native.Nat.{◌-◌, ◌≤◌}
-use native.Mathlib.Omega.{arith}
-use borrow.Author.Rules.{rules}
-use Rattle.any_plan.proofs.Laws.{MetTo, met_none, met_more, EmptiedTo, emptied_none, emptied_more, met_all}
+use Rattle.any_plan.proofs.Laws.{MetTo, EmptiedTo}
 use Rattle.any_plan.proofs.meet.Given as goal
 
 abbrev pub invariant-loop-j : goal.invariant-loop-j

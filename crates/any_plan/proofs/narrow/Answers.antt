@@ -8,7 +8,6 @@ use borrow.Author.Rules.{rules}
 use borrow.Author.Tests.{eqb-false}
 use Rattle.bounded.proofs.Truth.{neither}
 use Rattle.bounded.proofs.Members.{lowest_member}
-use Rattle.any_plan.specs.Steps.{Pruned}
 use Rattle.any_plan.proofs.Laws.{pruned_same, pruned_trans, settled_more, settled_pruned}
 use Rattle.any_plan.proofs.narrow.Goals as goal
 

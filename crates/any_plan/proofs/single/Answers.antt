@@ -1,5 +1,4 @@
 -- `any_plan::single`. Assumes nothing.
-use borrow.Author.Rules.{rules}
 use Rattle.bounded.proofs.Mask.{one_shifted}
 use Rattle.any_plan.proofs.single.Goals as goal
 

@@ -1,7 +1,6 @@
 -- `cover::break_at`. Assumes nothing.
 use mathlib.Core.Path.{sym, ap}
 use Rattle.problem.specs.Problem.{break_at}
-use borrow.Author.Rules.{rules}
 use Rattle.cover.proofs.break_at.Goals as goal
 
 pub returns-in-Spoilt : goal.returns-in-Spoilt

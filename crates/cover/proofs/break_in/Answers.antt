@@ -10,10 +10,9 @@ use Rattle.bounded.proofs.Truth.{T_of, T_true}
 use Rattle.bounded.proofs.Mask.{bit_without32}
 use Rattle.bounded.proofs.Members.{Sought, sought_all, sought_next, sought_least, sought_none, left_lowest}
 use Rattle.bounded.proofs.Loops.{at_lowest_is, at_lowest_none}
-use Rattle.problem.specs.Problem.{unspoilt, break_at}
+use Rattle.problem.specs.Problem.{break_at}
 use Rattle.problem.specs.Held.{held}
 use Rattle.problem.specs.Masks.{state_of, sets}
-use Rattle.problem.specs.declared.Cover.{Cover}
 use Rattle.cover.specs.Words.{spoiler_in, first_break_in}
 use Rattle.cover.proofs.Laws.{in_set, break_member, apart}
 use Rattle.cover.proofs.break_in.Invariants.{asked}

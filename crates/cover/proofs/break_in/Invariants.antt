@@ -1,20 +1,10 @@
-use mathlib.Core.Path.{◌≡◌, sym, ap, ◌∙◌}
-use mathlib.Core.Bool.{Bool, true, not}
-use mathlib.Core.Logic.{◌≢◌}
-use Prim.Native.Nat.{ℕ, ◌<◌}
-use borrow.Author.Rules.{rules}
-use Rattle.bounded.specs.Quantifiers.{lowest}
-use Rattle.bounded.specs.Mask.{bit}
-use Rattle.bounded.proofs.Truth.{T_of, T_true}
-use Rattle.bounded.proofs.Mask.{bit_without32}
-use Rattle.bounded.proofs.Members.{Sought, sought_all, sought_next, sought_least, sought_none, left_lowest}
-use Rattle.bounded.proofs.Loops.{at_lowest_is, at_lowest_none}
-use Rattle.problem.specs.Problem.{unspoilt, break_at}
+use mathlib.Core.Bool.{Bool, not}
+use Rattle.bounded.proofs.Members.{Sought}
+use Rattle.problem.specs.Problem.{unspoilt}
 use Rattle.problem.specs.Held.{held}
 use Rattle.problem.specs.Masks.{state_of, sets}
 use Rattle.problem.specs.declared.Cover.{Cover}
-use Rattle.cover.specs.Words.{spoiler_in, first_break_in}
-use Rattle.cover.proofs.Laws.{in_set, break_member, apart}
+use Rattle.cover.specs.Words.{spoiler_in}
 use Rattle.cover.proofs.break_in.Given as goal
 
 -- the answer of a turn, read as yes or no

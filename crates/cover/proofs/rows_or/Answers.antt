@@ -2,7 +2,6 @@
 use mathlib.Core.Path.{sym, ap, ◌∙◌}
 use Prim.Native.Nat.{ℕ}
 use Rattle.problem.specs.Held.{rows_at}
-use borrow.Author.Rules.{rules}
 use Rattle.cover.proofs.rows_or.Goals as goal
 
 pub rows_at-requires : goal.rows_at-requires

@@ -7,12 +7,11 @@ use borrow.Author.Tests.{not-true, eqb-false}
 use Rattle.bounded.specs.Mask.{bit, without}
 use Rattle.bounded.proofs.Truth.{T_true, both}
 use Rattle.bounded.proofs.Mask.{bit_without32}
-use Rattle.bounded.proofs.Members.{Left, left_all, left_next, left_highest}
-use Rattle.problem.specs.Masks.{sets}
+use Rattle.bounded.proofs.Members.{left_all, left_next, left_highest}
 use Rattle.held.specs.Ready.{Values}
 use Rattle.held.proofs.Laws.{domain_values, part_values}
 use Rattle.cover.proofs.Laws.{apart}
-use Rattle.cover.proofs.Servers.{Serving, serving_first, serving_next, serving_end}
+use Rattle.cover.proofs.Servers.{serving_first, serving_next, serving_end}
 use Rattle.cover.proofs.serving_in.Goals as goal
 use Rattle.cover.proofs.serving_in.Goals.{After-highest32-l}
 

@@ -7,7 +7,6 @@ use Rattle.bounded.specs.Quantifiers.{lowest}
 use Rattle.bounded.specs.Mask.{bit}
 use Rattle.bounded.proofs.Mask.{at_lowest_zero, at_lowest_member}
 use Rattle.problem.specs.declared.Cover.TheVariants.{Spoilt, Holds}
-use borrow.Author.Rules.{rules}
 use Rattle.cover.proofs.Laws.{spoilers_word, spoilers_raw, spoiler_word, spoilers_lt}
 use Rattle.cover.proofs.spoiler.Goals as goal
 use Rattle.cover.proofs.spoiler.Goals.{After-shared_slice_known-3-1}

@@ -1,5 +1,4 @@
 -- `cover::third_set`. Assumes nothing.
-use borrow.Author.Rules.{rules}
 use Rattle.cover.proofs.third_set.Goals as goal
 
 pub returns : goal.returns

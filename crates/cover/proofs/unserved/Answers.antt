@@ -1,17 +1,16 @@
 -- `cover::unserved`: each value that is to be served and is not is still left. Assumes nothing.
 use mathlib.Core.Path.{◌∙◌}
-use Prim.Native.Nat.{◌-◌, ◌<◌}
-use lib.Bits.{bit_and}
+use Prim.Native.Nat.{◌<◌}
 use lib.Dec.{T}
 use borrow.Author.Rules.{rules}
 use Rattle.bounded.specs.Mask.{bit, without}
 use Rattle.bounded.proofs.Mask.{bit_without16}
-use Rattle.bounded.proofs.Members.{Sought, sought_next, left_highest}
+use Rattle.bounded.proofs.Members.{sought_next, left_highest}
 use Rattle.problem.specs.Held.{held}
 use Rattle.problem.specs.Masks.{state_of, sets}
 use Rattle.held.proofs.Laws.{live_value}
 use Rattle.cover.proofs.Laws.{part_out}
-use Rattle.cover.proofs.Servers.{near_servers, part_broken, unserved_at, asked_iff, unserved_first, served_here, unserved_here, unserved_end}
+use Rattle.cover.proofs.Servers.{near_servers, part_broken, asked_iff, unserved_first, served_here, unserved_here, unserved_end}
 use Rattle.cover.proofs.unserved.Goals as goal
 use Rattle.cover.proofs.unserved.Goals.{After-highest16-w}
 

@@ -1,16 +1,9 @@
-use mathlib.Core.Path.{◌∙◌}
-use Prim.Native.Nat.{◌-◌, ◌<◌}
+use Prim.Native.Nat.{◌-◌}
 use lib.Bits.{bit_and}
-use lib.Dec.{T}
-use borrow.Author.Rules.{rules}
-use Rattle.bounded.specs.Mask.{bit, without}
-use Rattle.bounded.proofs.Mask.{bit_without16}
-use Rattle.bounded.proofs.Members.{Sought, sought_next, left_highest}
+use Rattle.bounded.proofs.Members.{Sought}
 use Rattle.problem.specs.Held.{held}
 use Rattle.problem.specs.Masks.{state_of, sets}
-use Rattle.held.proofs.Laws.{live_value}
-use Rattle.cover.proofs.Laws.{part_out}
-use Rattle.cover.proofs.Servers.{near_servers, part_broken, unserved_at, asked_iff, unserved_first, served_here, unserved_here, unserved_end}
+use Rattle.cover.proofs.Servers.{unserved_at}
 use Rattle.cover.proofs.unserved.Given as goal
 
 abbrev pub invariant-loop-left : goal.invariant-loop-left

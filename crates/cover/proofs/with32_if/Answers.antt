@@ -1,6 +1,5 @@
 -- `cover::with32_if`. Assumes nothing.
 use mathlib.Core.Path.{◌∙◌}
-use borrow.Author.Rules.{rules}
 use Rattle.cover.proofs.with32_if.Goals as goal
 
 pub returns-then-t : goal.returns-then-t

@@ -1,8 +1,7 @@
 -- `lines::draw`: the lines of the variables passed are drawn. Assumes nothing.
-use borrow.Author.Rules.{rules}
 use Rattle.bounded.proofs.Mask.{bit_without32}
-use Rattle.bounded.proofs.Members.{Left, left_all, left_next, left_lowest}
-use Rattle.lines.proofs.Laws.{LinesDrawn, lines_none, lines_more, lines_all}
+use Rattle.bounded.proofs.Members.{left_all, left_next, left_lowest}
+use Rattle.lines.proofs.Laws.{lines_none, lines_more, lines_all}
 use Rattle.lines.proofs.draw.Goals as goal
 
 pub without32-rest-requires : goal.without32-rest-requires

@@ -1,7 +1,5 @@
-use borrow.Author.Rules.{rules}
-use Rattle.bounded.proofs.Mask.{bit_without32}
-use Rattle.bounded.proofs.Members.{Left, left_all, left_next, left_lowest}
-use Rattle.lines.proofs.Laws.{LinesDrawn, lines_none, lines_more, lines_all}
+use Rattle.bounded.proofs.Members.{Left}
+use Rattle.lines.proofs.Laws.{LinesDrawn}
 use Rattle.lines.proofs.draw.Given as goal
 
 abbrev pub invariant-loop-rest : goal.invariant-loop-rest

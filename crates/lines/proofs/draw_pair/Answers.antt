@@ -1,9 +1,6 @@
 -- `lines::draw_pair`: the words of the values so far are stored. Assumes nothing.
 use mathlib.Core.Path.{◌≡◌}
-use Prim.Native.Nat.{◌-◌, ◌≤◌}
 use native.Mathlib.Omega.{arith}
-use borrow.Author.Rules.{rules}
-use Rattle.lines.specs.Lines.{PairDrawn}
 use Rattle.lines.proofs.Laws.{pair_none, pair_more}
 use Rattle.lines.proofs.draw_pair.Goals as goal
 

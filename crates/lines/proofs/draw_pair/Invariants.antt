@@ -1,9 +1,5 @@
-use mathlib.Core.Path.{◌≡◌}
 use Prim.Native.Nat.{◌-◌, ◌≤◌}
-use native.Mathlib.Omega.{arith}
-use borrow.Author.Rules.{rules}
 use Rattle.lines.specs.Lines.{PairDrawn}
-use Rattle.lines.proofs.Laws.{pair_none, pair_more}
 use Rattle.lines.proofs.draw_pair.Given as goal
 
 abbrev pub invariant-loop-a : goal.invariant-loop-a

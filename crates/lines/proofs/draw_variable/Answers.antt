@@ -2,8 +2,7 @@
 use mathlib.Core.Path.{◌≡◌, sym}
 use borrow.Author.Rules.{rules}
 use Rattle.bounded.proofs.Mask.{bit_without32}
-use Rattle.bounded.proofs.Members.{Left, left_all, left_next, left_lowest, left_other}
-use Rattle.lines.specs.Lines.{DrawnTo}
+use Rattle.bounded.proofs.Members.{left_all, left_next, left_lowest, left_other}
 use Rattle.lines.proofs.Laws.{variable_none, variable_more}
 use Rattle.lines.proofs.draw_variable.Goals as goal
 

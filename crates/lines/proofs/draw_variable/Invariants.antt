@@ -1,9 +1,5 @@
-use mathlib.Core.Path.{◌≡◌, sym}
-use borrow.Author.Rules.{rules}
-use Rattle.bounded.proofs.Mask.{bit_without32}
-use Rattle.bounded.proofs.Members.{Left, left_all, left_next, left_lowest, left_other}
+use Rattle.bounded.proofs.Members.{Left}
 use Rattle.lines.specs.Lines.{DrawnTo}
-use Rattle.lines.proofs.Laws.{variable_none, variable_more}
 use Rattle.lines.proofs.draw_variable.Given as goal
 
 abbrev pub invariant-loop-rest : goal.invariant-loop-rest

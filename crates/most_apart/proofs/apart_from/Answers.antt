@@ -5,10 +5,9 @@ use lib.Bits.{bit_and}
 use borrow.Author.Rules.{rules}
 use Rattle.bounded.specs.Mask.{without}
 use Rattle.bounded.proofs.Mask.{bit_without32}
-use Rattle.bounded.proofs.Members.{Left, left_all, left_next, left_lowest, left_other}
-use Rattle.problem.specs.Held.{held}
+use Rattle.bounded.proofs.Members.{left_all, left_next, left_lowest, left_other}
 use Rattle.held.proofs.Laws.{domain_values}
-use Rattle.most_apart.proofs.Laws.{Sifted, sift_none, sift_more, sift_end}
+use Rattle.most_apart.proofs.Laws.{sift_none, sift_more, sift_end}
 use Rattle.most_apart.proofs.apart_from.Goals as goal
 use Rattle.most_apart.proofs.apart_from.Goals.{After-lowest32-j}
 

@@ -1,13 +1,6 @@
-use mathlib.Core.Logic.{◌≢◌}
-use Prim.Native.Nat.{◌<◌}
-use lib.Bits.{bit_and}
-use borrow.Author.Rules.{rules}
-use Rattle.bounded.specs.Mask.{without}
-use Rattle.bounded.proofs.Mask.{bit_without32}
-use Rattle.bounded.proofs.Members.{Left, left_all, left_next, left_lowest, left_other}
+use Rattle.bounded.proofs.Members.{Left}
 use Rattle.problem.specs.Held.{held}
-use Rattle.held.proofs.Laws.{domain_values}
-use Rattle.most_apart.proofs.Laws.{Sifted, sift_none, sift_more, sift_end}
+use Rattle.most_apart.proofs.Laws.{Sifted}
 use Rattle.most_apart.proofs.apart_from.Given as goal
 
 abbrev pub invariant-loop-rest : goal.invariant-loop-rest

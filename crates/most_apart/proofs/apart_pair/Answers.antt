@@ -1,11 +1,10 @@
 -- `most_apart::apart_pair`: the word so far has the values passed that are allowed at both. Assumes nothing.
 use mathlib.Core.Path.{◌≡◌, sym}
-use Prim.Native.Nat.{◌-◌, ◌≤◌}
 use native.Mathlib.Omega.{arith}
 use borrow.Author.Rules.{rules}
 use borrow.Author.Tests.{eqb-true}
 use Rattle.bounded.proofs.Mask.{one_shifted}
-use Rattle.most_apart.proofs.Laws.{Diagonal, diagonal_none, diagonal_more, diagonal_end}
+use Rattle.most_apart.proofs.Laws.{diagonal_none, diagonal_more, diagonal_end}
 use Rattle.most_apart.proofs.apart_pair.Goals as goal
 
 pub loop-a-preserved : goal.loop-a-preserved

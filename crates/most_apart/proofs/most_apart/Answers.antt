@@ -6,7 +6,7 @@ use lib.Dec.{T}
 use borrow.Author.Rules.{rules}
 use Rattle.bounded.specs.Mask.{bit}
 use Rattle.bounded.proofs.Mask.{bit_without32}
-use Rattle.bounded.proofs.Members.{Left, left_all, left_next, left_lowest}
+use Rattle.bounded.proofs.Members.{left_all, left_next, left_lowest}
 use Rattle.most_apart.proofs.Laws.{best_more}
 use Rattle.most_apart.proofs.most_apart.Goals as goal
 

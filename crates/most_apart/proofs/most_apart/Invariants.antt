@@ -1,12 +1,7 @@
-use mathlib.Core.Path.{◌≡◌, subst}
-use Prim.Native.Nat.{ℕ, ◌-◌, ◌%◌, ◌^◌, ◌<◌}
-use native.Mathlib.Omega.{arith}
+use Prim.Native.Nat.{◌-◌, ◌%◌}
 use lib.Dec.{T}
-use borrow.Author.Rules.{rules}
 use Rattle.bounded.specs.Mask.{bit}
-use Rattle.bounded.proofs.Mask.{bit_without32}
-use Rattle.bounded.proofs.Members.{Left, left_all, left_next, left_lowest}
-use Rattle.most_apart.proofs.Laws.{best_more}
+use Rattle.bounded.proofs.Members.{Left}
 use Rattle.most_apart.proofs.most_apart.Given as goal
 
 abbrev pub invariant-loop-left : goal.invariant-loop-left

@@ -1,10 +1,9 @@
 -- `most_apart::overfull`. Assumes nothing.
 use mathlib.Core.Path.{refl}
 use mathlib.Core.Bool.{false}
-use borrow.Author.Rules.{rules}
 use Rattle.bounded.proofs.Truth.{clash}
 use Rattle.bounded.proofs.Mask.{bit_without32}
-use Rattle.bounded.proofs.Members.{Left, left_all, left_next, left_lowest}
+use Rattle.bounded.proofs.Members.{left_all, left_next, left_lowest}
 use Rattle.most_apart.proofs.Laws.{pigeonhole_unsolved}
 use Rattle.most_apart.proofs.overfull.Goals as goal
 

@@ -1,13 +1,12 @@
 -- `most_apart::overfull_from`: the values of the variables taken are as many as these. Assumes nothing.
 use mathlib.Core.Path.{refl}
 use mathlib.Core.Bool.{false}
-use Prim.Native.Nat.{◌≤◌}
 use native.Mathlib.Omega.{arith}
 use lib.Count.{ones-le}
 use borrow.Author.Rules.{rules}
 use Rattle.bounded.proofs.Truth.{clash}
-use Rattle.bounded.proofs.Members.{Left, left_all}
-use Rattle.most_apart.proofs.Laws.{Takes, take_none, take_more, left_both, left_less, some_left, at_most, too_many}
+use Rattle.bounded.proofs.Members.{left_all}
+use Rattle.most_apart.proofs.Laws.{take_none, take_more, left_both, left_less, some_left, at_most, too_many}
 use Rattle.most_apart.proofs.overfull_from.Goals as goal
 
 pub loop-values-init : goal.loop-values-init

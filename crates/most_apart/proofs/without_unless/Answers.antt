@@ -1,6 +1,5 @@
 -- `most_apart::without_unless`. Assumes nothing.
 use mathlib.Core.Path.{◌∙◌}
-use borrow.Author.Rules.{rules}
 use Rattle.most_apart.proofs.without_unless.Goals as goal
 
 pub returns-else-b : goal.returns-else-b

@@ -5,7 +5,6 @@ use Rattle.problem.specs.Masks.{state_of}
 use Rattle.held.proofs.Laws.{bit_value}
 use Rattle.cover.proofs.Laws.{cover_word, break_word}
 use Rattle.bounded.proofs.Guard.{guard, guard_met, guard_left}
-use borrow.Author.Rules.{rules}
 use Rattle.neighbourhood.proofs.neighbourhood.Goals as goal
 
 pub first_break-requires : goal.first_break-requires

@@ -1,9 +1,8 @@
 -- `pigeonhole::apart_all`: an entry that is not yet written has no variable. Assumes nothing.
 use borrow.Author.Rules.{rules}
 use Rattle.bounded.proofs.Mask.{bit_without32}
-use Rattle.bounded.proofs.Members.{Left, left_all, left_next, left_lowest}
-use Rattle.problem.specs.Held.{held}
-use Rattle.pigeonhole.proofs.Laws.{RowsWritten, rows_written_none, rows_written_more}
+use Rattle.bounded.proofs.Members.{left_all, left_next, left_lowest}
+use Rattle.pigeonhole.proofs.Laws.{rows_written_none, rows_written_more}
 use Rattle.pigeonhole.proofs.apart_all.Goals as goal
 
 pub without32-rest-requires : goal.without32-rest-requires

@@ -1,8 +1,6 @@
-use borrow.Author.Rules.{rules}
-use Rattle.bounded.proofs.Mask.{bit_without32}
-use Rattle.bounded.proofs.Members.{Left, left_all, left_next, left_lowest}
+use Rattle.bounded.proofs.Members.{Left}
 use Rattle.problem.specs.Held.{held}
-use Rattle.pigeonhole.proofs.Laws.{RowsWritten, rows_written_none, rows_written_more}
+use Rattle.pigeonhole.proofs.Laws.{RowsWritten}
 use Rattle.pigeonhole.proofs.apart_all.Given as goal
 
 abbrev pub invariant-loop-rest : goal.invariant-loop-rest

@@ -1,9 +1,8 @@
 -- `pigeonhole::apart_from`: the variables passed that stayed are apart from i. Assumes nothing.
 use borrow.Author.Rules.{rules}
 use Rattle.bounded.proofs.Mask.{bit_without32}
-use Rattle.bounded.proofs.Members.{Left, left_all, left_next, left_lowest, left_other}
-use Rattle.problem.specs.Held.{held}
-use Rattle.pigeonhole.proofs.Laws.{Sifted, sift_none, sift_more, sift_end}
+use Rattle.bounded.proofs.Members.{left_all, left_next, left_lowest, left_other}
+use Rattle.pigeonhole.proofs.Laws.{sift_none, sift_more, sift_end}
 use Rattle.pigeonhole.proofs.apart_from.Goals as goal
 
 pub without32-rest-requires-in-loop-rest : goal.without32-rest-requires-in-loop-rest

@@ -1,8 +1,6 @@
-use borrow.Author.Rules.{rules}
-use Rattle.bounded.proofs.Mask.{bit_without32}
-use Rattle.bounded.proofs.Members.{Left, left_all, left_next, left_lowest, left_other}
+use Rattle.bounded.proofs.Members.{Left}
 use Rattle.problem.specs.Held.{held}
-use Rattle.pigeonhole.proofs.Laws.{Sifted, sift_none, sift_more, sift_end}
+use Rattle.pigeonhole.proofs.Laws.{Sifted}
 use Rattle.pigeonhole.proofs.apart_from.Given as goal
 
 abbrev pub invariant-loop-rest : goal.invariant-loop-rest

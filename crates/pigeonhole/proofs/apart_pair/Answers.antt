@@ -1,14 +1,13 @@
 -- `pigeonhole::apart_pair`: no value so far is allowed at both. Assumes nothing.
 use mathlib.Core.Path.{refl, sym, ap, ◌∙◌}
 use mathlib.Core.Bool.{false}
-use Prim.Native.Nat.{ℕ, ◌-◌, ◌≤◌}
+use Prim.Native.Nat.{ℕ}
 use native.Mathlib.Omega.{arith}
 use borrow.Author.Rules.{rules}
 use Rattle.bounded.specs.Mask.{bit}
 use Rattle.bounded.proofs.Truth.{clash}
-use Rattle.problem.specs.Held.{held}
 use Rattle.problem.proofs.HeldTable.{held_narrow, held_value_lem}
-use Rattle.pigeonhole.proofs.Laws.{ApartBelow, apart_none, below_more, below_end}
+use Rattle.pigeonhole.proofs.Laws.{apart_none, below_more, below_end}
 use Rattle.pigeonhole.proofs.apart_pair.Goals as goal
 
 pub loop-a-init : goal.loop-a-init

@@ -1,13 +1,6 @@
-use mathlib.Core.Path.{refl, sym, ap, ◌∙◌}
-use mathlib.Core.Bool.{false}
-use Prim.Native.Nat.{ℕ, ◌-◌, ◌≤◌}
-use native.Mathlib.Omega.{arith}
-use borrow.Author.Rules.{rules}
-use Rattle.bounded.specs.Mask.{bit}
-use Rattle.bounded.proofs.Truth.{clash}
+use Prim.Native.Nat.{◌-◌, ◌≤◌}
 use Rattle.problem.specs.Held.{held}
-use Rattle.problem.proofs.HeldTable.{held_narrow, held_value_lem}
-use Rattle.pigeonhole.proofs.Laws.{ApartBelow, apart_none, below_more, below_end}
+use Rattle.pigeonhole.proofs.Laws.{ApartBelow}
 use Rattle.pigeonhole.proofs.apart_pair.Given as goal
 
 abbrev pub invariant-loop-a : goal.invariant-loop-a

@@ -4,7 +4,7 @@ use mathlib.Core.Bool.{false}
 use borrow.Author.Rules.{rules}
 use Rattle.bounded.proofs.Truth.{clash}
 use Rattle.bounded.proofs.Mask.{bit_without32}
-use Rattle.bounded.proofs.Members.{Left, left_all, left_next, left_lowest}
+use Rattle.bounded.proofs.Members.{left_all, left_next, left_lowest}
 use Rattle.pigeonhole.proofs.Laws.{pigeonhole_unsolved}
 use Rattle.pigeonhole.proofs.overfull.Goals as goal
 

@@ -1,10 +1,4 @@
-use mathlib.Core.Path.{refl}
-use mathlib.Core.Bool.{false}
-use borrow.Author.Rules.{rules}
-use Rattle.bounded.proofs.Truth.{clash}
-use Rattle.bounded.proofs.Mask.{bit_without32}
-use Rattle.bounded.proofs.Members.{Left, left_all, left_next, left_lowest}
-use Rattle.pigeonhole.proofs.Laws.{pigeonhole_unsolved}
+use Rattle.bounded.proofs.Members.{Left}
 use Rattle.pigeonhole.proofs.overfull.Given as goal
 
 abbrev pub invariant-loop-rest : goal.invariant-loop-rest

@@ -1,6 +1,5 @@
 -- `pigeonhole::without_unless`. Assumes nothing.
 use mathlib.Core.Path.{◌∙◌}
-use borrow.Author.Rules.{rules}
 use Rattle.pigeonhole.proofs.without_unless.Goals as goal
 
 pub returns-else-b : goal.returns-else-b

@@ -1,6 +1,5 @@
 -- `snake::snake`. Assumes nothing.
 use mathlib.Core.Path.{sym, ◌∙◌}
-use borrow.Author.Rules.{rules}
 use Rattle.problem.specs.Problem.{snake}
 use Rattle.problem.specs.Masks.{state_of}
 use Rattle.snake.proofs.Laws.{tried_snake}

@@ -2,7 +2,6 @@
 use Rattle.held.proofs.Laws.{domain_values, word_among, domain_among}
 use Rattle.cover.proofs.Laws.{other_apart, others_out}
 use Rattle.snake.proofs.Laws.{other_at}
-use borrow.Author.Rules.{rules}
 use Rattle.snake.proofs.snake_at.Goals as goal
 
 pub row_among-good-requires : goal.row_among-good-requires

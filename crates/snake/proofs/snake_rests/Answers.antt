@@ -1,19 +1,14 @@
 -- `snake::snake_rests`: a loop over the neighbours of i; every variable where the rule fails is still left. Assumes nothing.
 use mathlib.Core.Path.{◌≡◌, refl, subst}
-use mathlib.Core.Bool.{Bool, true, not}
+use mathlib.Core.Bool.{Bool, true}
 use Prim.Native.Nat.{ℕ, ◌<◌}
 use lib.Bits.{bit_and, and_le_r}
 use lib.Dec.{T}
 use native.Mathlib.Nat.{lt_of_le_of_lt}
-use borrow.Author.Rules.{rules}
-use Rattle.bounded.specs.Quantifiers.{imp}
 use Rattle.bounded.specs.Mask.{bit, without, Highest}
 use Rattle.bounded.proofs.Truth.{T_true, and_iff}
 use Rattle.bounded.proofs.Mask.{bit_and_lem, bit_without32}
 use Rattle.bounded.proofs.Members.{Sought, sought_all, sought_next, sought_none, left_highest}
-use Rattle.problem.specs.Held.{held}
-use Rattle.problem.specs.Masks.{state_of, sets}
-use Rattle.snake.specs.Parts.{snake_at}
 use Rattle.held.proofs.Laws.{bit_value}
 use Rattle.snake.proofs.Laws.{snake_near, snake_passed, snake_all}
 use Rattle.snake.proofs.snake_rests.Goals as goal

@@ -1,6 +1,5 @@
 -- `snake::snake_servers`. Assumes nothing.
 use mathlib.Core.Path.{◌∙◌}
-use borrow.Author.Rules.{rules}
 use Rattle.held.proofs.Laws.{domain_values, word_among}
 use Rattle.cover.proofs.Laws.{thirds_out}
 use Rattle.snake.proofs.Laws.{servers_word}

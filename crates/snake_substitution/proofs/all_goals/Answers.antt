@@ -1,11 +1,11 @@
 -- `snake_substitution::all_goals`: the words so far are stored. Assumes nothing.
 use mathlib.Core.Path.{◌∙◌, ap}
 use mathlib.Core.Bool.{cond}
-use Prim.Native.Nat.{ℕ, ◌≤◌, ◌-◌}
+use Prim.Native.Nat.{ℕ}
 use native.Mathlib.Omega.{arith}
 use borrow.Author.Rules.{rules}
 use Rattle.bounded.specs.Mask.{bit}
-use Rattle.snake_substitution.proofs.Words.{Stored, stored_none, stored_more, others_of, all_stored}
+use Rattle.snake_substitution.proofs.Words.{stored_none, stored_more, all_stored}
 use Rattle.snake_substitution.proofs.all_goals.Goals as goal
 
 pub loop-b-preserved : goal.loop-b-preserved

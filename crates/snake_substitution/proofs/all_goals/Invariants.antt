@@ -1,10 +1,5 @@
-use mathlib.Core.Path.{◌∙◌, ap}
-use mathlib.Core.Bool.{cond}
-use Prim.Native.Nat.{ℕ, ◌≤◌, ◌-◌}
-use native.Mathlib.Omega.{arith}
-use borrow.Author.Rules.{rules}
-use Rattle.bounded.specs.Mask.{bit}
-use Rattle.snake_substitution.proofs.Words.{Stored, stored_none, stored_more, others_of, all_stored}
+use Prim.Native.Nat.{◌≤◌, ◌-◌}
+use Rattle.snake_substitution.proofs.Words.{Stored, others_of}
 use Rattle.snake_substitution.proofs.all_goals.Given as goal
 
 abbrev pub invariant-loop-b : goal.invariant-loop-b

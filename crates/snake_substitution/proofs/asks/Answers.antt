@@ -1,12 +1,8 @@
 -- `snake_substitution::asks`: the words so far are gathered. Assumes nothing.
-use mathlib.Core.Bool.{cond}
-use Prim.Native.Nat.{◌≤◌, ◌-◌}
 use native.Mathlib.Omega.{arith}
-use lib.ListN.{get_or}
 use borrow.Author.Rules.{rules}
 use borrow.Author.Tests.{not-false, eqb-true}
-use Rattle.bounded.specs.Mask.{bit}
-use Rattle.snake_substitution.proofs.Words.{Gathered, gathered_none, gathered_more, closed_gathered}
+use Rattle.snake_substitution.proofs.Words.{gathered_none, gathered_more, closed_gathered}
 use Rattle.snake_substitution.proofs.asks.Goals as goal
 
 pub loop-b-init : goal.loop-b-init

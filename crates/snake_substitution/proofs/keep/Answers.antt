@@ -1,11 +1,11 @@
 -- `snake_substitution::keep`: the words so far are stored. Assumes nothing.
 use mathlib.Core.Path.{◌≡◌}
-use Prim.Native.Nat.{◌≤◌, ◌-◌}
+use Prim.Native.Nat.{◌-◌}
 use native.Mathlib.Omega.{arith}
 use lib.Bits.{bit_and}
 use lib.ListN.{get_or}
 use borrow.Author.Rules.{rules}
-use Rattle.snake_substitution.proofs.Words.{Stored, stored_none, stored_more, limited_word, limit_stored}
+use Rattle.snake_substitution.proofs.Words.{stored_none, stored_more, limit_stored}
 use Rattle.snake_substitution.proofs.keep.Goals as goal
 
 pub loop-b-preserved : goal.loop-b-preserved

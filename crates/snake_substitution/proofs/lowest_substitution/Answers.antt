@@ -1,12 +1,6 @@
 -- `snake_substitution::lowest_substitution`: a loop over the words. Assumes nothing.
-use Prim.Native.Nat.{◌≤◌, ◌-◌}
-use mathlib.Core.Path.{◌≡◌, sym, ◌∙◌}
+use mathlib.Core.Path.{sym, ◌∙◌}
 use native.Mathlib.Omega.{arith}
-use lib.ListN.{get_or}
-use borrow.Author.Rules.{rules}
-use Rattle.problem.specs.Run.{first}
-use Rattle.problem.specs.declared.Next.TheVariants.{Nothing}
-use Rattle.snake_substitution.specs.Parts.{lowest_goal}
 use Rattle.problem.proofs.Search.{nothing_is, first_none, first_more, first_hit, first_end}
 use Rattle.snake_substitution.proofs.lowest_substitution.Goals as goal
 

@@ -1,12 +1,9 @@
 use Prim.Native.Nat.{◌≤◌, ◌-◌}
-use mathlib.Core.Path.{◌≡◌, sym, ◌∙◌}
-use native.Mathlib.Omega.{arith}
+use mathlib.Core.Path.{◌≡◌}
 use lib.ListN.{get_or}
-use borrow.Author.Rules.{rules}
 use Rattle.problem.specs.Run.{first}
 use Rattle.problem.specs.declared.Next.TheVariants.{Nothing}
 use Rattle.snake_substitution.specs.Parts.{lowest_goal}
-use Rattle.problem.proofs.Search.{nothing_is, first_none, first_more, first_hit, first_end}
 use Rattle.snake_substitution.proofs.lowest_substitution.Given as goal
 
 abbrev pub invariant-loop-b : goal.invariant-loop-b

@@ -1,15 +1,10 @@
 -- `snake_substitution::narrow_at`: the values that are not left were asked. Assumes nothing.
 use Prim.Native.Nat.{◌<◌}
 use lib.Dec.{T}
-use lib.ListN.{get_or}
-use borrow.Author.Rules.{rules}
 use Rattle.bounded.specs.Mask.{bit, without}
 use Rattle.bounded.proofs.Mask.{bit_without16}
-use Rattle.bounded.proofs.Members.{Left, left_all, left_next, left_highest}
-use Rattle.problem.specs.Held.{held}
-use Rattle.problem.specs.Masks.{state_of, sets}
-use Rattle.snake_substitution.specs.Parts.{Narrowed}
-use Rattle.snake_substitution.proofs.Goals.{goals_part, Past, values_first, values_next, values_end}
+use Rattle.bounded.proofs.Members.{left_all, left_next, left_highest}
+use Rattle.snake_substitution.proofs.Goals.{goals_part, values_first, values_next, values_end}
 use Rattle.snake_substitution.proofs.narrow_at.Goals as goal
 use Rattle.snake_substitution.proofs.narrow_at.Goals.{After-highest16-d}
 

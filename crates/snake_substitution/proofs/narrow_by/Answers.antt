@@ -1,8 +1,6 @@
 -- `snake_substitution::narrow_by`. Assumes nothing.
 use mathlib.Core.Path.{◌≡◌, sym}
 use mathlib.Core.Bool.{false}
-use borrow.Author.Rules.{rules}
-use borrow.Author.Tests.{not-true}
 use Rattle.bounded.specs.Mask.{bit}
 use Rattle.bounded.proofs.Truth.{T_true}
 use Rattle.held.proofs.Laws.{domain_values, bit_value}

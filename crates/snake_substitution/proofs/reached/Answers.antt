@@ -1,5 +1,4 @@
 -- `snake_substitution::reached`. Assumes nothing.
-use borrow.Author.Rules.{rules}
 use Rattle.snake_substitution.proofs.Goals.{reached_none}
 use Rattle.snake_substitution.proofs.reached.Goals as goal
 

@@ -5,7 +5,6 @@ use Rattle.problem.specs.Masks.{state_of}
 use Rattle.snake_substitution.specs.Parts.{substitution_at}
 use Rattle.held.proofs.Laws.{bit_value}
 use Rattle.bounded.proofs.Guard.{guard, guard_met, guard_left}
-use borrow.Author.Rules.{rules}
 use Rattle.snake_substitution.proofs.snake_substitution.Goals as goal
 
 pub substitution_others-requires : goal.substitution_others-requires

@@ -1,11 +1,8 @@
 -- `snake_substitution::some_goal`: the words so far are gathered. Assumes nothing.
 use mathlib.Core.Path.{refl}
-use Prim.Native.Nat.{◌≤◌, ◌-◌}
 use native.Mathlib.Omega.{arith}
-use lib.ListN.{get_or}
-use borrow.Author.Rules.{rules}
 use borrow.Author.Tests.{not-false, eqb-true}
-use Rattle.snake_substitution.proofs.Words.{Gathered, gathered_none, gathered_more, none_gathered}
+use Rattle.snake_substitution.proofs.Words.{gathered_none, gathered_more, none_gathered}
 use Rattle.snake_substitution.proofs.some_goal.Goals as goal
 
 pub loop-b-init : goal.loop-b-init

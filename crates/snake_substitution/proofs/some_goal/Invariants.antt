@@ -1,10 +1,6 @@
-use mathlib.Core.Path.{refl}
 use Prim.Native.Nat.{◌≤◌, ◌-◌}
-use native.Mathlib.Omega.{arith}
 use lib.ListN.{get_or}
-use borrow.Author.Rules.{rules}
-use borrow.Author.Tests.{not-false, eqb-true}
-use Rattle.snake_substitution.proofs.Words.{Gathered, gathered_none, gathered_more, none_gathered}
+use Rattle.snake_substitution.proofs.Words.{Gathered}
 use Rattle.snake_substitution.proofs.some_goal.Given as goal
 
 abbrev pub invariant-loop-b : goal.invariant-loop-b

@@ -5,7 +5,6 @@ use Rattle.cover.specs.Words.{others}
 use Rattle.cover.proofs.Laws.{other_apart, others_out}
 use Rattle.snake_substitution.proofs.Laws.{unserved_test, substitution_word}
 use Rattle.held.proofs.Laws.{domain_values, word_among}
-use borrow.Author.Rules.{rules}
 use Rattle.snake_substitution.proofs.substitution_at.Goals as goal
 
 pub row_among-good-requires : goal.row_among-good-requires

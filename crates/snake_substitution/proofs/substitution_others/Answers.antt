@@ -6,17 +6,13 @@ use Prim.Native.Nat.{ℕ, ◌<◌}
 use lib.Bits.{bit_and, and_le_r}
 use lib.Dec.{T}
 use native.Mathlib.Nat.{lt_of_le_of_lt}
-use borrow.Author.Rules.{rules}
-use borrow.Author.Tests.{not-true, not-false}
-use Rattle.bounded.specs.Quantifiers.{imp, lowest}
+use borrow.Author.Tests.{not-false}
+use Rattle.bounded.specs.Quantifiers.{lowest}
 use Rattle.bounded.specs.Mask.{bit}
 use Rattle.bounded.proofs.Truth.{T_true, T_false, and_iff}
 use Rattle.bounded.proofs.Mask.{bit_and_lem, bit_without32}
 use Rattle.bounded.proofs.Members.{Sought, sought_all, sought_next, sought_none, left_lowest}
 use Rattle.bounded.proofs.Loops.{all_intro, all_fail}
-use Rattle.problem.specs.Held.{held}
-use Rattle.problem.specs.Masks.{state_of, sets}
-use Rattle.snake_substitution.specs.Parts.{substitution_at}
 use Rattle.cover.proofs.Laws.{other_by}
 use Rattle.snake_substitution.proofs.Laws.{substitution_near}
 use Rattle.snake_substitution.proofs.substitution_others.Goals as goal

@@ -1,5 +1,4 @@
 -- `snake_substitution::substitution_rests`: all goals at first, and those that are left. Assumes nothing.
-use borrow.Author.Rules.{rules}
 use Rattle.snake_substitution.proofs.Goals.{all_within, all_tried}
 use Rattle.snake_substitution.proofs.substitution_rests.Goals as goal
 

@@ -4,7 +4,6 @@ use borrow.Author.Tests.{eqb-false, not-true}
 use Rattle.bounded.proofs.Truth.{both, neither}
 use Rattle.held.proofs.Laws.{domain_values}
 use Rattle.steps.proofs.Steps.{domain_gone, domain_word, domain_free}
-use borrow.Author.Rules.{rules}
 use Rattle.steps.proofs.domain_after.Goals as goal
 
 pub returns-then-j-i : goal.returns-then-j-i

@@ -1,13 +1,10 @@
 -- `steps::eliminate`: a loop that fills the domains. Assumes nothing.
-use Prim.Native.Nat.{◌≤◌, ◌-◌}
 use mathlib.Core.Path.{◌≡◌, refl, sym, ◌∙◌}
 use native.Mathlib.Omega.{arith}
 use lib.ListN.{length}
 use borrow.Author.Rules.{rules}
-use Rattle.bounded.specs.Table.{filled}
 use Rattle.bounded.proofs.Table.{filled_none, filled_more, filled_end}
-use Rattle.problem.specs.Held.{held}
-use Rattle.problem.specs.Masks.{state_of, masks_of}
+use Rattle.problem.specs.Masks.{masks_of}
 use Rattle.steps.specs.Words.{domain_after}
 use Rattle.steps.proofs.Steps.{active_after}
 use Rattle.steps.proofs.eliminate.Goals as goal

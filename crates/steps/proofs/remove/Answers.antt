@@ -1,6 +1,5 @@
 -- `steps::remove`. Assumes nothing.
 use Rattle.steps.proofs.Steps.{remove_masks}
-use borrow.Author.Rules.{rules}
 use Rattle.steps.proofs.remove.Goals as goal
 
 pub returns : goal.returns

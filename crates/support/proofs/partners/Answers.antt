@@ -1,13 +1,13 @@
 -- `support::partners`: the union so far has the values with a support among those passed. Assumes nothing.
 use mathlib.Core.Path.{◌≡◌, sym, ap, ◌∙◌}
 use mathlib.Core.Bool.{cond}
-use Prim.Native.Nat.{ℕ, ◌+◌, ◌-◌, ◌≤◌}
+use Prim.Native.Nat.{ℕ, ◌+◌}
 use native.Mathlib.Omega.{arith}
 use lib.ListN.{get_or}
 use borrow.Author.Rules.{rules}
 use Rattle.bounded.specs.Mask.{bit}
-use Rattle.problem.specs.Held.{rows_at, held}
-use Rattle.support.proofs.Laws.{Gathered, gather_none, gather_more, gathered}
+use Rattle.problem.specs.Held.{rows_at}
+use Rattle.support.proofs.Laws.{gather_none, gather_more, gathered}
 use Rattle.support.proofs.partners.Goals as goal
 use Rattle.support.proofs.partners.Goals.{After-where16-x}
 

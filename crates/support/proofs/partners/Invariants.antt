@@ -1,12 +1,6 @@
-use mathlib.Core.Path.{◌≡◌, sym, ap, ◌∙◌}
-use mathlib.Core.Bool.{cond}
-use Prim.Native.Nat.{ℕ, ◌+◌, ◌-◌, ◌≤◌}
-use native.Mathlib.Omega.{arith}
-use lib.ListN.{get_or}
-use borrow.Author.Rules.{rules}
-use Rattle.bounded.specs.Mask.{bit}
-use Rattle.problem.specs.Held.{rows_at, held}
-use Rattle.support.proofs.Laws.{Gathered, gather_none, gather_more, gathered}
+use Prim.Native.Nat.{◌-◌, ◌≤◌}
+use Rattle.problem.specs.Held.{held}
+use Rattle.support.proofs.Laws.{Gathered}
 use Rattle.support.proofs.partners.Given as goal
 
 abbrev pub invariant-loop-a : goal.invariant-loop-a

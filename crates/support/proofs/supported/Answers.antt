@@ -9,9 +9,9 @@ use Rattle.bounded.specs.Quantifiers.{lowest}
 use Rattle.bounded.specs.Mask.{bit, without}
 use Rattle.bounded.proofs.Mask.{bit_without32}
 use Rattle.bounded.proofs.Members.{Left, left_all, left_next, left_lowest, left_other}
-use Rattle.problem.specs.Masks.{state_of, sets}
+use Rattle.problem.specs.Masks.{state_of}
 use Rattle.held.proofs.Laws.{domain_values}
-use Rattle.support.proofs.Laws.{Kept, kept_active, kept_first, kept_next, kept_end}
+use Rattle.support.proofs.Laws.{kept_active, kept_first, kept_next, kept_end}
 use Rattle.support.proofs.supported.Goals as goal
 use Rattle.support.proofs.supported.Goals.{After-lowest32-k}
 

@@ -1,16 +1,6 @@
-use mathlib.Core.Path.{◌≡◌, sym, subst}
-use mathlib.Core.Logic.{◌≢◌}
-use Prim.Native.Nat.{ℕ, ◌<◌}
-use lib.Bits.{bit_and}
-use lib.Dec.{T}
-use borrow.Author.Rules.{rules}
-use Rattle.bounded.specs.Quantifiers.{lowest}
-use Rattle.bounded.specs.Mask.{bit, without}
-use Rattle.bounded.proofs.Mask.{bit_without32}
-use Rattle.bounded.proofs.Members.{Left, left_all, left_next, left_lowest, left_other}
-use Rattle.problem.specs.Masks.{state_of, sets}
-use Rattle.held.proofs.Laws.{domain_values}
-use Rattle.support.proofs.Laws.{Kept, kept_active, kept_first, kept_next, kept_end}
+use Rattle.bounded.proofs.Members.{Left}
+use Rattle.problem.specs.Masks.{sets}
+use Rattle.support.proofs.Laws.{Kept}
 use Rattle.support.proofs.supported.Given as goal
 
 abbrev pub invariant-loop-rest : goal.invariant-loop-rest

@@ -3,7 +3,6 @@ use mathlib.Core.Path.{sym, ◌∙◌}
 use Rattle.problem.specs.Problem.{triangle}
 use Rattle.problem.specs.Masks.{state_of}
 use Rattle.bounded.proofs.Guard.{guard, guard_left}
-use borrow.Author.Rules.{rules}
 use Rattle.triangle.proofs.Laws.{tried_triangle}
 use Rattle.triangle.proofs.triangle.Goals as goal
 

@@ -1,6 +1,5 @@
 -- `triangle::triangle_servers`. Assumes nothing.
 use mathlib.Core.Path.{sym}
-use borrow.Author.Rules.{rules}
 use Rattle.held.proofs.Laws.{domain_values, word_among}
 use Rattle.cover.proofs.Laws.{thirds_out}
 use Rattle.triangle.proofs.Laws.{servers_mask}

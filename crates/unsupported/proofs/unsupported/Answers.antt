@@ -4,7 +4,6 @@ use Rattle.problem.specs.Problem.{unsupported}
 use Rattle.problem.specs.Masks.{state_of}
 use Rattle.held.proofs.Laws.{bit_value}
 use Rattle.bounded.proofs.Guard.{guard, guard_met, guard_left}
-use borrow.Author.Rules.{rules}
 use Rattle.unsupported.proofs.unsupported.Goals as goal
 
 pub unsupported_at-requires : goal.unsupported_at-requires

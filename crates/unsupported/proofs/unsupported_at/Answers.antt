@@ -1,7 +1,6 @@
 -- `unsupported::unsupported_at`: no common member of two words. Assumes nothing.
 use Rattle.held.proofs.Laws.{domain_values}
 use Rattle.unsupported.proofs.Laws.{unsupported_word}
-use borrow.Author.Rules.{rules}
 use Rattle.unsupported.proofs.unsupported_at.Goals as goal
 
 pub row_among-requires : goal.row_among-requires

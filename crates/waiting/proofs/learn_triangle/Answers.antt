@@ -1,5 +1,4 @@
 -- `waiting::learn_triangle`: the value is stored, and the test entered. Assumes nothing.
-use borrow.Author.Rules.{rules}
 use Rattle.waiting.proofs.Words.{triangle_learned}
 use Rattle.waiting.proofs.learn_triangle.Goals as goal
 

@@ -1,5 +1,4 @@
 -- `waiting::pending_of`: the word of the row. Assumes nothing.
-use borrow.Author.Rules.{rules}
 use Rattle.waiting.proofs.pending_of.Goals as goal
 
 pub returns : goal.returns

@@ -1,5 +1,4 @@
 -- `waiting::pending_triangles`: the two words of i. Assumes nothing.
-use borrow.Author.Rules.{rules}
 use Rattle.waiting.proofs.Words.{triangles_joined}
 use Rattle.waiting.proofs.pending_triangles.Goals as goal
 

@@ -1,9 +1,6 @@
 -- `waiting::wake`: the rows passed are woken. Assumes nothing.
-use Prim.Native.Nat.{◌≤◌, ◌-◌}
 use native.Mathlib.Omega.{arith}
-use borrow.Author.Rules.{rules}
-use Rattle.waiting.specs.Waiting.{rows}
-use Rattle.waiting.proofs.Words.{Waking, waking_none, waking_more, waking_end}
+use Rattle.waiting.proofs.Words.{waking_none, waking_more, waking_end}
 use Rattle.waiting.proofs.wake.Goals as goal
 
 pub loop-row-init : goal.loop-row-init

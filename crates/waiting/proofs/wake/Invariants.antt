@@ -1,8 +1,6 @@
 use Prim.Native.Nat.{◌≤◌, ◌-◌}
-use native.Mathlib.Omega.{arith}
-use borrow.Author.Rules.{rules}
 use Rattle.waiting.specs.Waiting.{rows}
-use Rattle.waiting.proofs.Words.{Waking, waking_none, waking_more, waking_end}
+use Rattle.waiting.proofs.Words.{Waking}
 use Rattle.waiting.proofs.wake.Given as goal
 
 abbrev pub invariant-loop-row : goal.invariant-loop-row

@@ -1,8 +1,6 @@
 -- `waiting::wake_triangles`: the triangles of the variables passed are woken. Assumes nothing.
-use Prim.Native.Nat.{◌≤◌, ◌-◌}
 use native.Mathlib.Omega.{arith}
-use borrow.Author.Rules.{rules}
-use Rattle.waiting.proofs.Words.{TrianglesWaking, triangles_waking_none, triangles_waking_more, triangles_waking_end}
+use Rattle.waiting.proofs.Words.{triangles_waking_none, triangles_waking_more, triangles_waking_end}
 use Rattle.waiting.proofs.wake_triangles.Goals as goal
 
 pub loop-i-init : goal.loop-i-init

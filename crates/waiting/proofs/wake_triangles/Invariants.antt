@@ -1,7 +1,5 @@
 use Prim.Native.Nat.{◌≤◌, ◌-◌}
-use native.Mathlib.Omega.{arith}
-use borrow.Author.Rules.{rules}
-use Rattle.waiting.proofs.Words.{TrianglesWaking, triangles_waking_none, triangles_waking_more, triangles_waking_end}
+use Rattle.waiting.proofs.Words.{TrianglesWaking}
 use Rattle.waiting.proofs.wake_triangles.Given as goal
 
 abbrev pub invariant-loop-i : goal.invariant-loop-i

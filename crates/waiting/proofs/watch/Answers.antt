@@ -5,7 +5,7 @@ use borrow.Author.Rules.{rules}
 use Rattle.bounded.specs.Mask.{bit, without}
 use Rattle.bounded.proofs.Mask.{bit_without32}
 use Rattle.bounded.proofs.Members.{left_lowest}
-use Rattle.waiting.proofs.Words.{Watching, watching_none, watching_more, watching_end}
+use Rattle.waiting.proofs.Words.{watching_none, watching_more, watching_end}
 use Rattle.waiting.proofs.watch.Goals as goal
 use Rattle.waiting.proofs.watch.Goals.{After-lowest32-l}
 

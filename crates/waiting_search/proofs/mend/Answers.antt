@@ -1,6 +1,5 @@
 -- `waiting_search::mend`: each arm by itself. Assumes nothing.
 use mathlib.Core.Path.{refl, subst}
-use borrow.Author.Rules.{rules}
 use Rattle.problem.specs.Masks.{sets}
 use Rattle.waiting_search.specs.Known.{Mendable}
 use Rattle.waiting_search.proofs.mend.Goals as goal

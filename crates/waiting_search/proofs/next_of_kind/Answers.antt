@@ -1,15 +1,8 @@
 -- `waiting_search::next_of_kind`: a loop over the variables. Assumes nothing.
-use mathlib.Core.Path.{◌≡◌, sym, ◌∙◌}
-use Prim.Native.Nat.{◌≤◌, ◌-◌}
+use mathlib.Core.Path.{sym, ◌∙◌}
 use native.Mathlib.Omega.{arith}
 use borrow.Author.Rules.{rules}
-use Rattle.problem.specs.Run.{first}
-use Rattle.problem.specs.Held.{held}
-use Rattle.problem.specs.Masks.{state_of, sets}
-use Rattle.problem.specs.declared.Next.TheVariants.{Nothing}
 use Rattle.problem.proofs.Search.{nothing_is, first_none, first_more, first_hit, first_end}
-use Rattle.waiting.specs.Waiting.{Waits}
-use Rattle.search_order.specs.Lowest.{step_from}
 use Rattle.search_order.proofs.Lowest.{lowest_from}
 use Rattle.waiting_search.proofs.next_of_kind.Goals as goal
 

@@ -1,15 +1,11 @@
-use mathlib.Core.Path.{◌≡◌, sym, ◌∙◌}
+use mathlib.Core.Path.{◌≡◌}
 use Prim.Native.Nat.{◌≤◌, ◌-◌}
-use native.Mathlib.Omega.{arith}
-use borrow.Author.Rules.{rules}
 use Rattle.problem.specs.Run.{first}
 use Rattle.problem.specs.Held.{held}
 use Rattle.problem.specs.Masks.{state_of, sets}
 use Rattle.problem.specs.declared.Next.TheVariants.{Nothing}
-use Rattle.problem.proofs.Search.{nothing_is, first_none, first_more, first_hit, first_end}
 use Rattle.waiting.specs.Waiting.{Waits}
 use Rattle.search_order.specs.Lowest.{step_from}
-use Rattle.search_order.proofs.Lowest.{lowest_from}
 use Rattle.waiting_search.proofs.next_of_kind.Given as goal
 
 abbrev pub invariant-loop-i : goal.invariant-loop-i

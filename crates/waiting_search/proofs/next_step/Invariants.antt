@@ -1,16 +1,10 @@
 use Prim.Native.Nat.{◌≤◌, ◌-◌}
-use mathlib.Core.Path.{◌≡◌, sym, ◌∙◌}
-use native.Mathlib.Omega.{arith}
-use borrow.Author.Rules.{rules}
-use borrow.Author.Tests.{not-true, not-false}
+use mathlib.Core.Path.{◌≡◌}
 use Rattle.problem.specs.Run.{first, next_of_kind}
 use Rattle.problem.specs.Held.{held}
 use Rattle.problem.specs.Masks.{state_of, sets}
 use Rattle.problem.specs.declared.Next.TheVariants.{Nothing}
-use Rattle.problem.proofs.Run.{next_open, next_shut}
-use Rattle.problem.proofs.Search.{nothing_is, first_more, first_hit, first_end}
 use Rattle.waiting.specs.Waiting.{Waits}
-use Rattle.waiting_search.proofs.InOrder.{kinds_none}
 use Rattle.waiting_search.proofs.next_step.Given as goal
 
 abbrev pub invariant-loop-kind : goal.invariant-loop-kind

@@ -1,6 +1,5 @@
 -- `waiting_search::step_from`: each kind by itself, and the numbers that no kind has. Assumes nothing.
 use native.Mathlib.Omega.{arith}
-use borrow.Author.Rules.{rules}
 use Rattle.search_order.proofs.Lowest.{no_kind}
 use Rattle.waiting_search.proofs.step_from.Goals as goal
 

@@ -1,10 +1,7 @@
 -- `waiting_unsupported::first_unsupported`: a loop that fills the words. Assumes nothing.
-use Prim.Native.Nat.{◌≤◌, ◌-◌}
 use native.Mathlib.Omega.{arith}
 use borrow.Author.Rules.{rules}
-use Rattle.problem.specs.Held.{held}
-use Rattle.problem.specs.Masks.{state_of, sets}
-use Rattle.waiting_unsupported.proofs.Words.{Filling, filling_none, filling_more, filling_end}
+use Rattle.waiting_unsupported.proofs.Words.{filling_none, filling_more, filling_end}
 use Rattle.waiting_unsupported.proofs.first_unsupported.Goals as goal
 
 pub loop-i-preserved : goal.loop-i-preserved

@@ -1,9 +1,7 @@
 use Prim.Native.Nat.{◌≤◌, ◌-◌}
-use native.Mathlib.Omega.{arith}
-use borrow.Author.Rules.{rules}
 use Rattle.problem.specs.Held.{held}
 use Rattle.problem.specs.Masks.{state_of, sets}
-use Rattle.waiting_unsupported.proofs.Words.{Filling, filling_none, filling_more, filling_end}
+use Rattle.waiting_unsupported.proofs.Words.{Filling}
 use Rattle.waiting_unsupported.proofs.first_unsupported.Given as goal
 
 abbrev pub invariant-loop-i : goal.invariant-loop-i

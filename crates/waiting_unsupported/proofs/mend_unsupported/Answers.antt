@@ -5,12 +5,10 @@ use Prim.Native.Nat.{◌<◌}
 use lib.Dec.{T}
 use borrow.Author.Rules.{rules}
 use Rattle.bounded.specs.Mask.{bit, without}
-use Rattle.bounded.proofs.Members.{Left, left_all, left_next}
-use Rattle.problem.specs.Held.{held}
-use Rattle.problem.specs.Masks.{state_of, sets}
+use Rattle.bounded.proofs.Members.{left_all, left_next}
 use Rattle.held.specs.Ready.{Values}
 use Rattle.held.proofs.Laws.{domain_values, part_values}
-use Rattle.waiting_unsupported.proofs.Words.{Mending, at_lowest, mended_empty, mending_first, mending_next, mending_end}
+use Rattle.waiting_unsupported.proofs.Words.{at_lowest, mended_empty, mending_first, mending_next, mending_end}
 use Rattle.waiting_unsupported.proofs.mend_unsupported.Goals as goal
 use Rattle.waiting_unsupported.proofs.mend_unsupported.Goals.{After-lowest32-i, After-unknown}
 

@@ -1,15 +1,7 @@
-use mathlib.Core.Path.{sym, subst}
-use mathlib.Core.Logic.{◌≢◌}
-use Prim.Native.Nat.{◌<◌}
-use lib.Dec.{T}
-use borrow.Author.Rules.{rules}
-use Rattle.bounded.specs.Mask.{bit, without}
-use Rattle.bounded.proofs.Members.{Left, left_all, left_next}
+use Rattle.bounded.proofs.Members.{Left}
 use Rattle.problem.specs.Held.{held}
 use Rattle.problem.specs.Masks.{state_of, sets}
-use Rattle.held.specs.Ready.{Values}
-use Rattle.held.proofs.Laws.{domain_values, part_values}
-use Rattle.waiting_unsupported.proofs.Words.{Mending, at_lowest, mended_empty, mending_first, mending_next, mending_end}
+use Rattle.waiting_unsupported.proofs.Words.{Mending}
 use Rattle.waiting_unsupported.proofs.mend_unsupported.Given as goal
 
 abbrev pub invariant-loop-left : goal.invariant-loop-left

@@ -5,11 +5,9 @@ use Prim.Native.Nat.{◌<◌}
 use lib.Dec.{T}
 use borrow.Author.Rules.{rules}
 use Rattle.bounded.specs.Mask.{bit, without}
-use Rattle.bounded.proofs.Members.{Left, left_all, left_next}
-use Rattle.problem.specs.Held.{held}
-use Rattle.problem.specs.Masks.{state_of, sets}
+use Rattle.bounded.proofs.Members.{left_all, left_next}
 use Rattle.held.proofs.Laws.{domain_values}
-use Rattle.waiting_unsupported.proofs.Words.{Seen, at_lowest, seen_first, seen_next, seen_end}
+use Rattle.waiting_unsupported.proofs.Words.{at_lowest, seen_first, seen_next, seen_end}
 use Rattle.waiting_unsupported.proofs.unsupported_of.Goals as goal
 use Rattle.waiting_unsupported.proofs.unsupported_of.Goals.{After-lowest32-k}
 

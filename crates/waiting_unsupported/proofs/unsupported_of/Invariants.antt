@@ -1,14 +1,7 @@
-use mathlib.Core.Path.{sym}
-use mathlib.Core.Logic.{◌≢◌}
-use Prim.Native.Nat.{◌<◌}
-use lib.Dec.{T}
-use borrow.Author.Rules.{rules}
-use Rattle.bounded.specs.Mask.{bit, without}
-use Rattle.bounded.proofs.Members.{Left, left_all, left_next}
+use Rattle.bounded.proofs.Members.{Left}
 use Rattle.problem.specs.Held.{held}
 use Rattle.problem.specs.Masks.{state_of, sets}
-use Rattle.held.proofs.Laws.{domain_values}
-use Rattle.waiting_unsupported.proofs.Words.{Seen, at_lowest, seen_first, seen_next, seen_end}
+use Rattle.waiting_unsupported.proofs.Words.{Seen}
 use Rattle.waiting_unsupported.proofs.unsupported_of.Given as goal
 
 abbrev pub invariant-loop-rest : goal.invariant-loop-rest

@@ -1,17 +1,11 @@
 use Prim.Native.Nat.{◌≤◌, ◌-◌}
-use mathlib.Core.Path.{◌≡◌, refl, sym, ◌∙◌}
-use native.Mathlib.Omega.{arith}
-use borrow.Author.Rules.{rules}
-use borrow.Author.Tests.{not-true}
+use mathlib.Core.Path.{◌≡◌}
 use Rattle.problem.specs.Problem.{unsupported}
 use Rattle.problem.specs.Run.{step_if, first}
 use Rattle.problem.specs.Held.{held}
 use Rattle.problem.specs.Masks.{state_of, sets}
 use Rattle.problem.specs.declared.Next.TheVariants.{Nothing}
 use Rattle.problem.specs.declared.Record.TheVariants.{Unsupported}
-use Rattle.search_order.specs.Lowest.{step_at}
-use Rattle.problem.proofs.Search.{step_if_on, step_if_off, first_none, first_more, first_hit, first_end}
-use Rattle.waiting_unsupported.proofs.Search.{value_off}
 use Rattle.waiting_unsupported.proofs.unsupported_value.Given as goal
 
 abbrev pub invariant-loop-k : goal.invariant-loop-k

@@ -1,20 +1,12 @@
-use mathlib.Core.Path.{◌≡◌}
-use mathlib.Core.Bool.{true}
-use Prim.Native.Nat.{◌<◌}
-use native.Mathlib.Omega.{arith}
 use lib.ListN.{get_or}
-use borrow.Author.Rules.{rules}
-use Rattle.bounded.specs.Mask.{bit, without}
 use Rattle.problem.specs.Held.{held}
 use Rattle.problem.specs.Masks.{state_of, sets}
-use Rattle.held.proofs.Laws.{bit_value}
 use Rattle.waiting.specs.Waiting.{Waits}
-use Rattle.search_order.proofs.Lowest.{Seeking, seeking_hit, seeking_end}
-use Rattle.waiting_variable.proofs.Trying.{value_turn, neighbourhood_made, neighbourhood_found, values_first, values_next}
+use Rattle.search_order.proofs.Lowest.{Seeking}
 use Rattle.waiting_variable.proofs.neighbourhood_variable.Given as goal
 
 abbrev pub invariant-loop-left : goal.invariant-loop-left
-invariant-loop-left l =     Seeking (held l.t) (state_of (sets l.active l.on)) 4 l.i (get_or l.on l.i 0) l.left × Waits (held l.t) (state_of (sets l.active l.on)) l.pending l.waiting
+invariant-loop-left l = Seeking (held l.t) (state_of (sets l.active l.on)) 4 l.i (get_or l.on l.i 0) l.left × Waits (held l.t) (state_of (sets l.active l.on)) l.pending l.waiting
 
 abbrev pub decreases-loop-left : goal.decreases-loop-left
 decreases-loop-left l = l.left

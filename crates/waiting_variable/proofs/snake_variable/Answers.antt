@@ -6,10 +6,7 @@ use native.Mathlib.Omega.{arith}
 use lib.ListN.{get_or}
 use borrow.Author.Rules.{rules}
 use Rattle.bounded.specs.Mask.{bit, without}
-use Rattle.problem.specs.Held.{held}
-use Rattle.problem.specs.Masks.{state_of, sets}
-use Rattle.waiting.specs.Waiting.{Waits}
-use Rattle.search_order.proofs.Lowest.{Seeking, seeking_hit, seeking_end}
+use Rattle.search_order.proofs.Lowest.{seeking_hit, seeking_end}
 use Rattle.waiting_variable.proofs.Trying.{value_turn, snake_made, snake_found, values_first, values_next}
 use Rattle.waiting_variable.proofs.snake_variable.Goals as goal
 use Rattle.waiting_variable.proofs.snake_variable.Goals.{After-lowest16-v}

@@ -1,7 +1,7 @@
 -- `weights::emptied`. Assumes nothing.
 use Rattle.std.proofs.Common.{rules}
 use Rattle.bounded.proofs.Mask.{bit_without32}
-use Rattle.bounded.proofs.Members.{Left, left_all, left_next, left_lowest}
+use Rattle.bounded.proofs.Members.{left_all, left_next, left_lowest}
 use Rattle.weights.proofs.emptied.Goals as goal
 
 pub offset_bounds-on-j : goal.offset_bounds-on-j

@@ -1,6 +1,4 @@
-use Rattle.std.proofs.Common.{rules}
-use Rattle.bounded.proofs.Mask.{bit_without32}
-use Rattle.bounded.proofs.Members.{Left, left_all, left_next, left_lowest}
+use Rattle.bounded.proofs.Members.{Left}
 use Rattle.weights.proofs.emptied.Given as goal
 
 abbrev pub invariant-loop-rest : goal.invariant-loop-rest

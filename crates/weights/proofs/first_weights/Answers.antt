@@ -1,5 +1,5 @@
 -- `weights::first_weights`. Assumes nothing.
-use Rattle.std.proofs.Common.{◌-◌, ◌≤◌, arith, rules}
+use Rattle.std.proofs.Common.{arith}
 use Rattle.weights.proofs.first_weights.Goals as goal
 
 pub loop-i-init : goal.loop-i-init

@@ -1,4 +1,4 @@
-use Rattle.std.proofs.Common.{◌-◌, ◌≤◌, arith, rules}
+use Rattle.std.proofs.Common.{◌-◌, ◌≤◌}
 use Rattle.weights.proofs.first_weights.Given as goal
 
 abbrev pub invariant-loop-i : goal.invariant-loop-i

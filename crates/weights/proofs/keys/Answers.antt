@@ -1,5 +1,5 @@
 -- `weights::keys`. Assumes nothing.
-use Rattle.std.proofs.Common.{◌-◌, ◌≤◌, arith, rules}
+use Rattle.std.proofs.Common.{arith}
 use Rattle.weights.proofs.keys.Goals as goal
 
 pub loop-j-init : goal.loop-j-init

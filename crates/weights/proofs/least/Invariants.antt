@@ -1,4 +1,4 @@
-use Rattle.std.proofs.Common.{◌-◌, ◌≤◌, arith, rules}
+use Rattle.std.proofs.Common.{◌-◌, ◌≤◌}
 use Rattle.weights.proofs.least.Given as goal
 
 abbrev pub invariant-loop-j : goal.invariant-loop-j

@@ -1,5 +1,5 @@
 -- `weights::marked`. Assumes nothing.
-use Rattle.std.proofs.Common.{◌-◌, ◌≤◌, arith, rules}
+use Rattle.std.proofs.Common.{arith}
 use Rattle.weights.proofs.marked.Goals as goal
 
 pub loop-j-init : goal.loop-j-init

@@ -1,5 +1,5 @@
 -- `weights::powers`. Assumes nothing.
-use Rattle.std.proofs.Common.{◌-◌, ◌≤◌, arith, rules}
+use Rattle.std.proofs.Common.{arith}
 use Rattle.weights.proofs.powers.Goals as goal
 
 pub loop-u-init : goal.loop-u-init

@@ -1,4 +1,4 @@
-use Rattle.std.proofs.Common.{◌-◌, ◌≤◌, arith, rules}
+use Rattle.std.proofs.Common.{◌-◌, ◌≤◌}
 use Rattle.weights.proofs.powers.Given as goal
 
 abbrev pub invariant-loop-u : goal.invariant-loop-u

@@ -1,5 +1,5 @@
 -- `weights::put_costs`. Assumes nothing.
-use Rattle.std.proofs.Common.{◌-◌, ◌≤◌, arith, rules}
+use Rattle.std.proofs.Common.{arith}
 use Rattle.weights.proofs.put_costs.Goals as goal
 
 pub loop-i-init : goal.loop-i-init
