@@ -2,6 +2,7 @@
 // into, it is settled whether any plan goes on from it, by the plan that is known or by a question (crate any_plan). So the search never goes
 // back, and asks at most one question a value.
 #![tactic(auto)]
+
 ghost use Rattle.std.specs.Prelude.{◌≡◌, length};
 ghost use Rattle.problem.specs.Held.{held, RowTable};
 ghost use Rattle.problem.specs.Masks.{state_of, masks_of, sets};

@@ -18,7 +18,7 @@ use Rattle.problem.specs.Problem.{Problem, State}
 use Rattle.problem.specs.Held.{held}
 use Rattle.problem.specs.Masks.{state_of, sets}
 use Rattle.problem.specs.declared.Masks.{Masks}
-use Rattle.problem.specs.Sentences.{Active, Live, Allowed, Solution}
+use Rattle.problem.specs.Sentences.{Active, Live, Solution}
 use Rattle.held.specs.Ready.{Ready}
 use Rattle.support.specs.Words.{supported_by, partners_of}
 use Rattle.first_plan.specs.Steps.{KeepsSupported, Pruned, Emptied}

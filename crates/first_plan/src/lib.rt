@@ -1,6 +1,7 @@
 // The first plan of a state, lowest variable first and lowest value first. The order fixes the answer and not the work: on its way down the
 // search keeps the values that are left, and turns back where a variable has none.
 #![tactic(auto)]
+
 ghost use Rattle.std.specs.Prelude.{◌≡◌, true, ◌≢◌, ◌<◌, length};
 ghost use Rattle.bounded.specs.Mask.{bit};
 ghost use Rattle.problem.specs.Problem.{remove as removed};

@@ -1,5 +1,6 @@
 // docs/FORMAT.md, "Taking out by hand": one hand call, its refusals in their order and its snake step.
 #![tactic(auto)]
+
 ghost use Rattle.hand.specs.Call.{hand_call};
 ghost use Rattle.std.specs.Prelude.{◌*◌, ◌≡◌, true, ◌<◌, ◌≤◌, ltb};
 ghost use Rattle.bounded.specs.Quantifiers.{imp, all_below, lowest};

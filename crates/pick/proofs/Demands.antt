@@ -9,8 +9,7 @@ use lib.Dec.{T}
 use lib.ListN.{length, take, drop}
 use lib.Seq.{take-append_seam}
 use Rattle.bounded.proofs.Truth.{T_true, T_false, lt_dec, eq_dec}
-use Rattle.problem.specs.Problem.{Problem, full, size_sum}
-use Rattle.problem.specs.Run.{run}
+use Rattle.problem.specs.Problem.{Problem, size_sum}
 use Rattle.problem.specs.Held.{Bounded}
 use Rattle.problem.specs.PutBack.{solves, solves_whole, plan_of}
 use Rattle.problem.specs.declared.End.{End}

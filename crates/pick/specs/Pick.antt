@@ -1,5 +1,5 @@
 -- docs/FORMAT.md, "Picking a plan", as a job: lent a problem, a trace buffer and a buffer for the plan; as a job, a sheet and these.
-use Rattle.std.specs.Prelude.{Bool, true, false, not, cond, List, ℕ, eqb, length, replicate, take}
+use Rattle.std.specs.Prelude.{Bool, true, false, cond, List, ℕ, eqb, length, replicate, take}
 use Rattle.problem.specs.Problem.{Problem, State, full}
 use Rattle.problem.specs.Run.{run, after_trace, end_of}
 use Rattle.problem.specs.Masks.{masks_of, empty_masks}

@@ -1,5 +1,6 @@
 // Picking a plan, as a job: the run, the first plan of what it leaves, and that put back.
 #![tactic(auto)]
+
 ghost use Rattle.std.specs.Prelude.{◌≡◌, [], ◌≤◌, ◌<◌, ◌+◌, ◌*◌, length};
 ghost use Rattle.boundary.specs.State.{state_length};
 ghost use Rattle.pick.specs.Call.{done_number, crossed_number, crossed_state, PickFits, pick_call};

@@ -1,5 +1,6 @@
 // docs/FORMAT.md, "Taking out by hand": the start, by sweeps over a filled table until one changes nothing.
 #![tactic(auto)]
+
 ghost use Rattle.hand.specs.Call.{start_call};
 ghost use Rattle.std.specs.Prelude.{◌≡◌, ◌<◌};
 ghost use Rattle.problem.specs.Problem.{none_empty, max_variables};

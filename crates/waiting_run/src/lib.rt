@@ -1,5 +1,6 @@
 // The run of the format: step by step to its end, with its trace in a lent buffer. Variables are the format's items, values its settings.
 #![tactic(auto)]
+
 ghost use Rattle.run.specs.Call.{run_call};
 ghost use Rattle.std.specs.Prelude.{◌≡◌, [], ◌≤◌, ◌+◌, ◌*◌, length, set};
 ghost use Rattle.problem.specs.Problem.{size_sum};

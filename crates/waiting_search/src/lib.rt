@@ -1,6 +1,7 @@
 // The search of the engine that waits: the next step in the order that the format requires, the lowest kind that holds anywhere, then the
 // lowest fields; and what is known of the state that it leads to.
 #![tactic(auto)]
+
 ghost use Rattle.std.specs.Prelude.{◌≡◌, true, ◌<◌, length};
 ghost use Rattle.bounded.specs.Mask.{bit};
 ghost use Rattle.problem.specs.Problem.{none_empty};

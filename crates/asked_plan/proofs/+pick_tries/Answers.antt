@@ -1,8 +1,7 @@
 -- `asked_plan::pick` and `asked_plan::tries`, which call each other. Assumes nothing.
-use Prim.Native.Nat.{◌+◌, ◌*◌, ◌<◌}
 use mathlib.Core.Path.{◌∙◌}
 use native.Mathlib.Omega.{arith}
-use lib.ListN.{get_or, length-set}
+use lib.ListN.{length-set}
 use borrow.Author.Rules.{rules}
 use Rattle.asked_plan.proofs.Questions.{next_ready, next_drawn}
 use Rattle.asked_plan.proofs.Branches.{pick_done, value_lt, value_live, fewer, taken_known, taken, left_ready, left_drawn, no_more, less, still_next, left_known, passed}

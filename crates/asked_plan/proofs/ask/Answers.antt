@@ -1,7 +1,5 @@
 -- `asked_plan::ask`: a question of the domains is one of the state. Assumes nothing.
 use mathlib.Core.Path.{sym, ◌∙◌}
-use borrow.Author.Rules.{rules}
-use borrow.Author.Tests.{not-true, not-false}
 use Rattle.asked_plan.proofs.Questions.{question_ready, empty_answered, no_answered, yes_answered}
 use Rattle.asked_plan.proofs.ask.Goals as goal
 

@@ -1,12 +1,10 @@
 -- `asked_plan::choose`: the domains so far are met with the line. Assumes nothing.
-use mathlib.Core.Path.{◌≡◌, refl, ◌∙◌}
-use Prim.Native.Nat.{◌-◌, ◌≤◌}
+use mathlib.Core.Path.{refl, ◌∙◌}
 use native.Mathlib.Omega.{arith}
 use borrow.Author.Rules.{rules}
 use Rattle.problem.specs.Masks.{masks_of}
 use Rattle.held.proofs.Laws.{live_value}
-use Rattle.lines.specs.Lines.{line_start}
-use Rattle.any_plan.proofs.Laws.{MetTo, met_none, met_more}
+use Rattle.any_plan.proofs.Laws.{met_none, met_more}
 use Rattle.asked_plan.proofs.Choices.{chosen_all, choose_rest}
 use Rattle.asked_plan.proofs.choose.Goals as goal
 

@@ -1,12 +1,7 @@
-use mathlib.Core.Path.{◌≡◌, refl, ◌∙◌}
+use mathlib.Core.Path.{◌≡◌}
 use Prim.Native.Nat.{◌-◌, ◌≤◌}
-use native.Mathlib.Omega.{arith}
-use borrow.Author.Rules.{rules}
-use Rattle.problem.specs.Masks.{masks_of}
-use Rattle.held.proofs.Laws.{live_value}
 use Rattle.lines.specs.Lines.{line_start}
-use Rattle.any_plan.proofs.Laws.{MetTo, met_none, met_more}
-use Rattle.asked_plan.proofs.Choices.{chosen_all, choose_rest}
+use Rattle.any_plan.proofs.Laws.{MetTo}
 use Rattle.asked_plan.proofs.choose.Given as goal
 
 abbrev pub invariant-loop-j : goal.invariant-loop-j

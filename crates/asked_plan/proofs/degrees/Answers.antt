@@ -1,5 +1,4 @@
 -- `asked_plan::degrees`: 32 variables, one by one. Assumes nothing.
-use Prim.Native.Nat.{◌-◌, ◌≤◌}
 use native.Mathlib.Nat.{lt_of_le_of_lt}
 use lib.Bits.{bit_and, and_le_l}
 use lib.Count.{ones-le}

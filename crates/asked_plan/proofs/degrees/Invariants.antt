@@ -1,8 +1,4 @@
 use Prim.Native.Nat.{◌-◌, ◌≤◌}
-use native.Mathlib.Nat.{lt_of_le_of_lt}
-use lib.Bits.{bit_and, and_le_l}
-use lib.Count.{ones-le}
-use borrow.Author.Rules.{rules}
 use Rattle.asked_plan.proofs.degrees.Given as goal
 
 abbrev pub invariant-loop-i : goal.invariant-loop-i

@@ -1,7 +1,6 @@
 -- `asked_plan::first_asked`. Assumes nothing.
 use mathlib.Core.Path.{refl}
 use borrow.Author.Rules.{rules}
-use borrow.Author.Tests.{not-true, not-false}
 use Rattle.asked_plan.proofs.Branches.{unsolved_first}
 use Rattle.asked_plan.proofs.first_asked.Goals as goal
 

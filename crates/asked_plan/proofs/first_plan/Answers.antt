@@ -1,5 +1,4 @@
 -- `asked_plan::first_plan`. Assumes nothing.
-use borrow.Author.Rules.{rules}
 use Rattle.asked_plan.proofs.Branches.{unsolved_first, none_active}
 use Rattle.asked_plan.proofs.first_plan.Goals as goal
 

@@ -1,7 +1,6 @@
 -- `asked_plan::goes_on`: the known plan tells, or a question of the state with the choice made. Assumes nothing.
 use mathlib.Core.Path.{sym, ◌∙◌}
 use borrow.Author.Rules.{rules}
-use borrow.Author.Tests.{not-true, not-false}
 use Rattle.bounded.proofs.Mask.{one_shifted}
 use Rattle.held.proofs.Laws.{live_value}
 use Rattle.asked_plan.proofs.Questions.{next_ready, next_drawn, known_goes_on, none_goes_on, found_goes_on}

@@ -1,10 +1,10 @@
 -- `first_plan::pick` and `first_plan::tries`, which call each other. Assumes nothing.
-use Prim.Native.Nat.{ℕ, ◌+◌, ◌*◌, ◌<◌}
+use Prim.Native.Nat.{ℕ, ◌<◌}
 use mathlib.Core.Path.{◌≡◌, sym, ap, ◌∙◌}
 use mathlib.Core.Bool.{Bool}
 use mathlib.Core.Logic.{◌≢◌}
 use native.Mathlib.Omega.{arith}
-use lib.ListN.{length, get_or, length-set}
+use lib.ListN.{length, length-set}
 use borrow.Author.Rules.{rules}
 use borrow.Author.Tests.{not-true}
 use Rattle.problem.specs.Held.{held}
@@ -50,10 +50,10 @@ tries-returns-then-not-rest t c =
     let e = c.lowest16-v.ensures in
     let lt : a.i < length a.plan.now = omega (arith, p.1.variable, p.2) in
     let x : ((q : ℕ → ℕ) → Solution (held a.t.now.now) (state_of (sets a.active a.on.now)) q → q a.i ≢ c.lowest16-v.result) × (c.if-o.plan ≡ a.plan.now) =
-        elim c.if-o.branch [
-          tries-then-o+else-pick w ↦ (missed p.0 _ _ p.1 d e O a.plan.now p.2 _ w.pick.ensures w.if-pick.false, w.plan-is ∙ put_back _ _ a.plan.now _ _ O.narrowed.ready lt w.pick.ensures w.if-pick.false)
-        | tries-else-o w ↦ (shut p.0 _ _ p.1 d e O w.if-o.false, w.plan-is)
-        ] in
+    elim c.if-o.branch [
+      | tries-then-o+else-pick w ↦ (missed p.0 _ _ p.1 d e O a.plan.now p.2 _ w.pick.ensures w.if-pick.false, w.plan-is ∙ put_back _ _ a.plan.now _ _ O.narrowed.ready lt w.pick.ensures w.if-pick.false)
+      | tries-else-o w ↦ (shut p.0 _ _ p.1 d e O w.if-o.false, w.plan-is)
+    ] in
     all_shut p.0 _ _ p.1 d e c.refute-rest.ensures x.0 a.plan.now _ x.1 (not-true _ c.if-not-rest.true)
 
 pub tries-tries-requires : goal.tries-tries-requires
@@ -65,10 +65,10 @@ tries-tries-requires t c =
     let e = c.lowest16-v.ensures in
     let lt : a.i < length a.plan.now = omega (arith, p.1.variable, p.2) in
     let x : c.if-o.plan ≡ a.plan.now =
-        elim c.if-o.branch [
-          tries-then-o+else-pick w ↦ w.plan-is ∙ put_back _ _ a.plan.now _ _ O.narrowed.ready lt w.pick.ensures w.if-pick.false
-        | tries-else-o w ↦ w.plan-is
-        ] in
+    elim c.if-o.branch [
+      | tries-then-o+else-pick w ↦ w.plan-is ∙ put_back _ _ a.plan.now _ _ O.narrowed.ready lt w.pick.ensures w.if-pick.false
+      | tries-else-o w ↦ w.plan-is
+    ] in
     let U = c.refute-rest.ensures in
     let l = less p.0 _ _ p.1 d e U in
     let m = no_more p.0 _ _ p.1 d e U in
@@ -83,8 +83,8 @@ tries-returns t c =
     let e = c.lowest16-v.ensures in
     let lt : a.i < length a.plan.now = omega (arith, p.1.variable, p.2) in
     let x : ((q : ℕ → ℕ) → Solution (held a.t.now.now) (state_of (sets a.active a.on.now)) q → q a.i ≢ c.lowest16-v.result) × (c.if-o.plan ≡ a.plan.now) =
-        elim c.if-o.branch [
-          tries-then-o+else-pick w ↦ (missed p.0 _ _ p.1 d e O a.plan.now p.2 _ w.pick.ensures w.if-pick.false, w.plan-is ∙ put_back _ _ a.plan.now _ _ O.narrowed.ready lt w.pick.ensures w.if-pick.false)
-        | tries-else-o w ↦ (shut p.0 _ _ p.1 d e O w.if-o.false, w.plan-is)
-        ] in
+    elim c.if-o.branch [
+      | tries-then-o+else-pick w ↦ (missed p.0 _ _ p.1 d e O a.plan.now p.2 _ w.pick.ensures w.if-pick.false, w.plan-is ∙ put_back _ _ a.plan.now _ _ O.narrowed.ready lt w.pick.ensures w.if-pick.false)
+      | tries-else-o w ↦ (shut p.0 _ _ p.1 d e O w.if-o.false, w.plan-is)
+    ] in
     on_with p.0 _ _ p.1 d e c.refute-rest.ensures x.0 a.plan.now _ x.1 _ c.tries.ensures

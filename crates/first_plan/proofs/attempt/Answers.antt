@@ -1,5 +1,4 @@
 -- `first_plan::attempt`. Assumes nothing.
-use borrow.Author.Rules.{rules}
 use Rattle.held.proofs.After.{ready_held}
 use Rattle.first_plan.proofs.Prune.{choose_fits}
 use Rattle.first_plan.proofs.Branches.{opens_state}

@@ -2,10 +2,10 @@
 use mathlib.Core.Path.{◌∙◌}
 use borrow.Author.Rules.{rules}
 use Rattle.bounded.proofs.Mask.{bit_without32}
-use Rattle.bounded.proofs.Members.{Left, left_all, left_next, left_lowest, left_other}
+use Rattle.bounded.proofs.Members.{left_all, left_next, left_lowest, left_other}
 use Rattle.problem.specs.Masks.{masks_of}
 use Rattle.held.proofs.Laws.{live_value, domain_values}
-use Rattle.first_plan.proofs.Choices.{Passed, passed_none, passed_more, passed_all, choose_rest}
+use Rattle.first_plan.proofs.Choices.{passed_none, passed_more, passed_all, choose_rest}
 use Rattle.first_plan.proofs.choose.Goals as goal
 
 pub without32-active-requires : goal.without32-active-requires

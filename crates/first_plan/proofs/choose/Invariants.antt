@@ -1,10 +1,5 @@
-use mathlib.Core.Path.{◌∙◌}
-use borrow.Author.Rules.{rules}
-use Rattle.bounded.proofs.Mask.{bit_without32}
-use Rattle.bounded.proofs.Members.{Left, left_all, left_next, left_lowest, left_other}
-use Rattle.problem.specs.Masks.{masks_of}
-use Rattle.held.proofs.Laws.{live_value, domain_values}
-use Rattle.first_plan.proofs.Choices.{Passed, passed_none, passed_more, passed_all, choose_rest}
+use Rattle.bounded.proofs.Members.{Left}
+use Rattle.first_plan.proofs.Choices.{Passed}
 use Rattle.first_plan.proofs.choose.Given as goal
 
 abbrev pub invariant-loop-rest : goal.invariant-loop-rest

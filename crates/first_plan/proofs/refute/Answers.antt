@@ -1,5 +1,4 @@
 -- `first_plan::refute`. Assumes nothing.
-use borrow.Author.Rules.{rules}
 use Rattle.problem.proofs.Reflect.{remove_fits}
 use Rattle.held.proofs.After.{ready_held}
 use Rattle.first_plan.proofs.Branches.{opens_state}

@@ -6,10 +6,8 @@ use lib.Bits.{bit_and}
 use borrow.Author.Rules.{rules}
 use Rattle.bounded.proofs.Truth.{clash}
 use Rattle.bounded.proofs.Mask.{bit_without32}
-use Rattle.bounded.proofs.Members.{Left, left_all, left_next, left_lowest, left_other}
-use Rattle.problem.specs.Masks.{state_of, sets}
+use Rattle.bounded.proofs.Members.{left_all, left_next, left_lowest, left_other}
 use Rattle.held.proofs.Laws.{domain_values}
-use Rattle.first_plan.specs.Steps.{Pruned}
 use Rattle.first_plan.proofs.Supports.{union_supports, narrowed_same, swept, swept_empty, swept_active, some_emptied}
 use Rattle.first_plan.proofs.spread.Goals as goal
 

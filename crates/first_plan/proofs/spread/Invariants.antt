@@ -1,15 +1,6 @@
-use Prim.Native.Nat.{◌<◌, ◌^◌}
-use mathlib.Core.Path.{refl}
-use mathlib.Core.Bool.{false}
-use lib.Bits.{bit_and}
-use borrow.Author.Rules.{rules}
-use Rattle.bounded.proofs.Truth.{clash}
-use Rattle.bounded.proofs.Mask.{bit_without32}
-use Rattle.bounded.proofs.Members.{Left, left_all, left_next, left_lowest, left_other}
+use Rattle.bounded.proofs.Members.{Left}
 use Rattle.problem.specs.Masks.{state_of, sets}
-use Rattle.held.proofs.Laws.{domain_values}
 use Rattle.first_plan.specs.Steps.{Pruned}
-use Rattle.first_plan.proofs.Supports.{union_supports, narrowed_same, swept, swept_empty, swept_active, some_emptied}
 use Rattle.first_plan.proofs.spread.Given as goal
 
 abbrev pub invariant-loop-rest : goal.invariant-loop-rest

@@ -1,10 +1,8 @@
 -- `hand_call::call_fitting`: the refusals in their order. Assumes nothing.
 use mathlib.Core.Path.{sym, ap, ◌∙◌}
-use borrow.Author.Tests.{not-true, not-false}
 use Rattle.problem.specs.Held.{held}
 use Rattle.hand.specs.Hand.{call_answer}
 use Rattle.hand_call.proofs.Calls.{active_below, ready_item, ready_emptied}
-use borrow.Author.Rules.{rules}
 use Rattle.hand_call.proofs.call_fitting.Goals as goal
 
 pub returns-then-not-named : goal.returns-then-not-named

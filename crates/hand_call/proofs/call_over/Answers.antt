@@ -3,7 +3,6 @@ use mathlib.Core.Path.{sym, ap, ◌∙◌}
 use lib.ListN.{get_or}
 use mir.Val.{Fits}
 use mir.Syntax.{w16}
-use borrow.Author.Tests.{not-true, not-false}
 use Rattle.bounded.proofs.Truth.{T_of}
 use Rattle.problem.specs.Held.{held}
 use Rattle.problem.specs.Masks.{state_of, Proper}
@@ -22,12 +21,14 @@ ready c p =
     record { table = c.requires; proper = p; fits = (fits_iff (held c.args.t.now) c.args.st.masks p).0 (T_of e) }
 
 pub fits-requires : goal.fits-requires
-fits-requires c =
-    (c.requires, record {
-      active_lt = search rules;
-      length_is = search rules;
-      domain_lt = λ i l. let h : Fits w16 (get_or c.args.st.masks.domains i 0) = search rules in h.fits;
-    })
+fits-requires c = (
+  c.requires,
+  record {
+    active_lt = search rules;
+    length_is = search rules;
+    domain_lt = λ i l. let h : Fits w16 (get_or c.args.st.masks.domains i 0) = search rules in h.fits;
+  },
+)
 
 pub returns-then-not-fits : goal.returns-then-not-fits
 returns-then-not-fits c =

@@ -6,7 +6,6 @@ use Rattle.problem.specs.Masks.{state_of}
 use Rattle.hand.specs.Hand.{call_answer}
 use Rattle.hand_call.specs.Parts.{call_eliminated}
 use Rattle.hand_call.proofs.Calls.{ready_none, ready_done}
-use borrow.Author.Rules.{rules}
 use Rattle.hand_call.proofs.call_snake.Goals as goal
 
 pub returns-then-v-lt16 : goal.returns-then-v-lt16

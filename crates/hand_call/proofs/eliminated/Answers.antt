@@ -1,5 +1,4 @@
 -- `hand_call::eliminated`. Assumes nothing.
-use borrow.Author.Rules.{rules}
 use Rattle.hand_call.proofs.eliminated.Goals as goal
 
 pub returns : goal.returns

@@ -1,15 +1,10 @@
 use Prim.Native.Nat.{◌≤◌, ◌-◌}
-use mathlib.Core.Path.{◌≡◌, sym, ◌∙◌}
+use mathlib.Core.Path.{◌≡◌}
 use mathlib.Core.Bool.{true}
-use borrow.Author.Tests.{not-true, not-false}
 use Rattle.bounded.specs.Quantifiers.{all_below}
-use Rattle.bounded.proofs.Loops.{all_none, all_more, all_fail, all_end}
 use Rattle.problem.specs.Held.{held}
 use Rattle.problem.specs.Masks.{state_of, sets}
 use Rattle.hand_call.specs.Parts.{fits_at}
-use Rattle.hand_call.proofs.Laws.{fits_all}
-use borrow.Author.Rules.{rules}
-use native.Mathlib.Omega.{arith}
 use Rattle.hand_call.proofs.fits.Given as goal
 
 abbrev pub invariant-loop-i : goal.invariant-loop-i

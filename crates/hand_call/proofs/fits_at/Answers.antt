@@ -10,7 +10,6 @@ use Rattle.problem.specs.Held.{held}
 use Rattle.problem.specs.Masks.{sets}
 use Rattle.problem.proofs.HeldTable.{held_narrow}
 use Rattle.hand_call.proofs.Laws.{fits_active, fits_idle}
-use borrow.Author.Rules.{rules}
 use native.Mathlib.Omega.{arith}
 use Rattle.hand_call.proofs.fits_at.Goals as goal
 

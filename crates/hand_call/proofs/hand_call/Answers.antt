@@ -4,7 +4,6 @@ use Rattle.problem.specs.Problem.{Problem}
 use Rattle.hand.specs.Hand.{call_over}
 use Rattle.jobs.proofs.Opened.{table_refused, table_rows, table_job}
 use Rattle.hand.proofs.Opened.{call_refused_lem, call_kept}
-use borrow.Author.Rules.{rules}
 use Rattle.hand_call.proofs.hand_call.Goals as goal
 
 pub returns-in-Refused : goal.returns-in-Refused

@@ -3,7 +3,6 @@ use mathlib.Core.Path.{sym, ap, ◌∙◌}
 use native.Mathlib.Omega.{arith}
 use Rattle.hand.specs.Call.{HandCall}
 use Rattle.hand.proofs.Call.{call_small, hand_bad, hand_reads, hand_says}
-use borrow.Author.Rules.{rules}
 use Rattle.hand_call.proofs.hand_call_bytes.Goals as goal
 
 pub returns-then-state-ne-HAND_STATE_LENGTH : goal.returns-then-state-ne-HAND_STATE_LENGTH

@@ -1,11 +1,6 @@
 -- `hand_call::lowest_snake`: none so far. Assumes nothing.
-use Prim.Native.Nat.{◌≤◌, ◌-◌}
-use mathlib.Core.Path.{◌≡◌, sym, ◌∙◌}
-use Rattle.bounded.specs.Quantifiers.{lowest}
+use mathlib.Core.Path.{sym, ◌∙◌}
 use Rattle.bounded.proofs.Loops.{lowest_none, lowest_more, lowest_hit, lowest_end}
-use Rattle.problem.specs.Problem.{snake}
-use Rattle.problem.specs.Held.{held}
-use Rattle.problem.specs.Masks.{state_of, sets}
 use borrow.Author.Rules.{rules}
 use native.Mathlib.Omega.{arith}
 use Rattle.hand_call.proofs.lowest_snake.Goals as goal

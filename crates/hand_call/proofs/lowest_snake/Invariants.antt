@@ -1,12 +1,9 @@
 use Prim.Native.Nat.{◌≤◌, ◌-◌}
-use mathlib.Core.Path.{◌≡◌, sym, ◌∙◌}
+use mathlib.Core.Path.{◌≡◌}
 use Rattle.bounded.specs.Quantifiers.{lowest}
-use Rattle.bounded.proofs.Loops.{lowest_none, lowest_more, lowest_hit, lowest_end}
 use Rattle.problem.specs.Problem.{snake}
 use Rattle.problem.specs.Held.{held}
 use Rattle.problem.specs.Masks.{state_of, sets}
-use borrow.Author.Rules.{rules}
-use native.Mathlib.Omega.{arith}
 use Rattle.hand_call.proofs.lowest_snake.Given as goal
 
 abbrev pub invariant-loop-v : goal.invariant-loop-v

@@ -4,7 +4,6 @@ use Rattle.problem.specs.Problem.{Problem}
 use Rattle.jobs.proofs.Opened.{table_refused, table_rows, table_job}
 use Rattle.pick.specs.Pick.{PickResult, pick_over}
 use Rattle.pick.proofs.Causes.{pick_sheet_refused, pick_kept}
-use borrow.Author.Rules.{rules}
 use Rattle.pick.proofs.pick.Goals as goal
 
 pub returns-in-Refused : goal.returns-in-Refused

@@ -3,7 +3,6 @@ use mathlib.Core.Path.{sym, ap, ◌∙◌}
 use native.Mathlib.Omega.{arith}
 use Rattle.pick.specs.Call.{PickCall}
 use Rattle.pick.proofs.Call.{pick_bad, pick_says, pick_fits}
-use borrow.Author.Rules.{rules}
 use Rattle.pick.proofs.pick_call.Goals as goal
 
 pub returns-then-state-ne-STATE_LENGTH : goal.returns-then-state-ne-STATE_LENGTH

@@ -7,7 +7,6 @@ use Rattle.problem.specs.Problem.{size_sum}
 use Rattle.problem.specs.Held.{held}
 use Rattle.pick.specs.Pick.{PickResult}
 use Rattle.pick.proofs.Causes.{pick_buffer_over, pick_length_over, pick_accepted_over}
-use borrow.Author.Rules.{rules}
 use Rattle.pick.proofs.pick_over.Goals as goal
 
 pub returns-then-trace-size_sum : goal.returns-then-trace-size_sum

@@ -3,7 +3,6 @@ use mathlib.Core.Path.{◌∙◌, ap}
 use Rattle.problem.specs.Held.{held}
 use Rattle.pick.specs.Pick.{PickResult}
 use Rattle.pick.proofs.Job.{not_refused, state_left, trace_room, pick_trace_left, trace_count, picked_done}
-use borrow.Author.Rules.{rules}
 use Rattle.pick.proofs.pick_sized.Goals as goal
 
 pub slice_bounds-put_first-end : goal.slice_bounds-put_first-end

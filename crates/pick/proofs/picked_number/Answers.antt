@@ -1,7 +1,6 @@
 -- `pick::picked_number`: its numbers fit. Assumes nothing.
 use mathlib.Core.Path.{sym, ap, subst, ◌∙◌}
 use Rattle.pick.specs.Call.{crossed_number, PickFits}
-use borrow.Author.Rules.{rules}
 use Rattle.pick.proofs.picked_number.Goals as goal
 
 pub done_number-requires : goal.done_number-requires

@@ -4,7 +4,6 @@ use borrow.Author.Tests.{not-true, not-false}
 use lib.Seq.{length-take-le}
 use Rattle.pick.proofs.Left.{left_ready}
 use Rattle.pick.proofs.Job.{found_room, put_none, put_some}
-use borrow.Author.Rules.{rules}
 use Rattle.pick.proofs.put_first.Goals as goal
 
 pub first_plan-found-requires : goal.first_plan-found-requires

@@ -2,7 +2,6 @@
 use mathlib.Core.Path.{sym, ap, ◌∙◌}
 use Rattle.pick.specs.declared.PickOutcome.{PickOutcome}
 use Rattle.pick.specs.Call.{crossed_state}
-use borrow.Author.Rules.{rules}
 use Rattle.pick.proofs.put_picked_state.Goals as goal
 
 pub returns-in-Plan : goal.returns-in-Plan

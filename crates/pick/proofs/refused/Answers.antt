@@ -1,6 +1,5 @@
 -- `pick::refused`. Assumes nothing.
 use Rattle.pick.specs.declared.PickOutcome.TheVariants.{Refused}
-use borrow.Author.Rules.{rules}
 use Rattle.pick.proofs.refused.Goals as goal
 
 pub returns : goal.returns

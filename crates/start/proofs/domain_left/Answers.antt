@@ -1,7 +1,6 @@
 -- `start::domain_left`. Assumes nothing.
 use mathlib.Core.Path.{sym, ◌∙◌}
 use Rattle.start.proofs.Sweeps.{emptied_left}
-use borrow.Author.Rules.{rules}
 use Rattle.start.proofs.domain_left.Goals as goal
 
 pub supported-requires : goal.supported-requires

@@ -1,11 +1,6 @@
 -- `start::same_domains`: a loop over the variables. Assumes nothing.
-use Prim.Native.Nat.{◌≤◌, ◌-◌}
-use mathlib.Core.Path.{◌≡◌, sym}
-use mathlib.Core.Bool.{true}
-use lib.Dec.{eqb}
-use lib.ListN.{get_or}
+use mathlib.Core.Path.{sym}
 use borrow.Author.Tests.{ne_eqb, eq-eqb}
-use Rattle.bounded.specs.Quantifiers.{all_below}
 use Rattle.bounded.proofs.Loops.{all_none, all_more, all_fail, all_end}
 use Rattle.start.specs.Parts.{same_domains}
 use borrow.Author.Rules.{rules}

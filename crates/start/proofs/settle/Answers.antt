@@ -1,11 +1,5 @@
 -- `start::settle`: the state in hand has all of the start on, and a sweep that changes no domain has come to it. Assumes nothing.
-use mathlib.Core.Path.{◌≡◌, sym, ◌∙◌, subst}
-use borrow.Author.Tests.{not-true, not-false}
-use borrow.Author.Rules.{rules}
-use Rattle.problem.specs.Problem.{live_count, max_variables}
-use Rattle.problem.specs.Held.{held}
-use Rattle.problem.specs.Masks.{state_of, masks_of}
-use Rattle.start.specs.Parts.{prune_below}
+use mathlib.Core.Path.{sym, ◌∙◌, subst}
 use Rattle.start.proofs.Sweeps.{Above, above_full, above_next, above_end, above_less}
 use Rattle.start.proofs.settle.Goals as goal
 use Rattle.start.proofs.settle.Goals.{After-full_masks-kept}

@@ -1,11 +1,9 @@
-use mathlib.Core.Path.{◌≡◌, sym, ◌∙◌, subst}
-use borrow.Author.Tests.{not-true, not-false}
-use borrow.Author.Rules.{rules}
+use mathlib.Core.Path.{◌≡◌}
 use Rattle.problem.specs.Problem.{live_count, max_variables}
 use Rattle.problem.specs.Held.{held}
 use Rattle.problem.specs.Masks.{state_of, masks_of}
 use Rattle.start.specs.Parts.{prune_below}
-use Rattle.start.proofs.Sweeps.{Above, above_full, above_next, above_end, above_less}
+use Rattle.start.proofs.Sweeps.{Above}
 use Rattle.start.proofs.settle.Given as goal
 
 abbrev pub invariant-loop-kept : goal.invariant-loop-kept

@@ -3,7 +3,6 @@ use mathlib.Core.Path.{sym, ◌∙◌}
 use Rattle.hand.specs.Hand.{start_over}
 use Rattle.jobs.proofs.Opened.{table_refused, table_rows, table_job}
 use Rattle.hand.proofs.Opened.{start_refused_lem, start_kept}
-use borrow.Author.Rules.{rules}
 use Rattle.start.proofs.start.Goals as goal
 
 pub returns-in-Refused : goal.returns-in-Refused

@@ -3,7 +3,6 @@ use mathlib.Core.Path.{ap}
 use Rattle.problem.specs.declared.Masks.{Masks}
 use Rattle.hand.specs.declared.StartAnswer.{StartAnswer}
 use Rattle.hand.specs.declared.StartOutcome.TheVariants.{Started}
-use borrow.Author.Rules.{rules}
 use Rattle.start.proofs.start_over.Goals as goal
 
 pub returns : goal.returns

@@ -1,6 +1,5 @@
 -- `start::sweep`: the state in hand is that of the items passed, and the flag says of it that no item in is emptied. Assumes nothing.
-use Prim.Native.Nat.{◌≤◌, ◌-◌}
-use Rattle.start.proofs.Sweeps.{Swept, swept_first, swept_next, swept_end}
+use Rattle.start.proofs.Sweeps.{swept_first, swept_next, swept_end}
 use borrow.Author.Rules.{rules}
 use native.Mathlib.Omega.{arith}
 use Rattle.start.proofs.sweep.Goals as goal

@@ -1,10 +1,9 @@
 -- `waiting_run::end_of`. Assumes nothing.
 use mathlib.Core.Path.{sym, ap, ◌∙◌}
 use mathlib.Core.Bool.{not}
-use borrow.Author.Tests.{not-true, not-false, eq-eqb, ne_eqb}
+use borrow.Author.Tests.{eq-eqb, ne_eqb}
 use Rattle.problem.proofs.Run.{end_impossible, end_rest, end_solved}
 use Rattle.waiting_run.proofs.States.{some_active}
-use borrow.Author.Rules.{rules}
 use Rattle.waiting_run.proofs.end_of.Goals as goal
 
 pub returns-then-not-none_empty : goal.returns-then-not-none_empty

@@ -1,6 +1,5 @@
 -- `waiting_run::refused`. Assumes nothing.
 use Rattle.run.specs.declared.RunOutcome.TheVariants.{Refused}
-use borrow.Author.Rules.{rules}
 use Rattle.waiting_run.proofs.refused.Goals as goal
 
 pub returns : goal.returns

@@ -3,7 +3,6 @@ use mathlib.Core.Path.{refl, sym, ap, ◌∙◌}
 use native.Mathlib.Omega.{arith}
 use Rattle.run.specs.Call.{RunCall}
 use Rattle.run.proofs.Call.{run_bad, run_says, run_fits}
-use borrow.Author.Rules.{rules}
 use Rattle.waiting_run.proofs.run_call.Goals as goal
 
 pub returns-then-state-ne-STATE_LENGTH : goal.returns-then-state-ne-STATE_LENGTH

@@ -4,7 +4,6 @@ use native.Mathlib.Omega.{arith}
 use Rattle.problem.specs.Held.{held}
 use Rattle.run.specs.Run.{RunResult}
 use Rattle.run.proofs.Opened.{run_buffer_refused_over, run_accepted_over}
-use borrow.Author.Rules.{rules}
 use Rattle.waiting_run.proofs.run_over.Goals as goal
 
 pub returns-then-b-size_sum : goal.returns-then-b-size_sum

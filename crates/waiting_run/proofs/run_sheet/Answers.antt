@@ -4,7 +4,6 @@ use Rattle.problem.specs.Problem.{Problem}
 use Rattle.run.specs.Run.{RunResult, run_over}
 use Rattle.jobs.proofs.Opened.{table_refused, table_rows, table_job}
 use Rattle.run.proofs.Opened.{run_sheet_refused, run_kept}
-use borrow.Author.Rules.{rules}
 use Rattle.waiting_run.proofs.run_sheet.Goals as goal
 
 pub returns-in-Refused : goal.returns-in-Refused

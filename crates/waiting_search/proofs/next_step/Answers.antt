@@ -25,7 +25,7 @@ pub loop-kind-smaller : goal.loop-kind-smaller
 loop-kind-smaller c = omega arith
 
 pub loop-kind-preserved : goal.loop-kind-preserved
-loop-kind-preserved c = let e = c.next_of_kind-found.ensures in ( omega arith, omega arith, first_more _ _ c.loop-kind.invariant.2 (sym e.is ∙ nothing_is _ (sym c.is_step.ensures ∙ c.if-is_step.false)), e.waits, )
+loop-kind-preserved c = let e = c.next_of_kind-found.ensures in (omega arith, omega arith, first_more _ _ c.loop-kind.invariant.2 (sym e.is ∙ nothing_is _ (sym c.is_step.ensures ∙ c.if-is_step.false)), e.waits)
 
 pub returns : goal.returns
 returns c = record { is = sym (next_open _ _ (sym c.none_empty-lasts.ensures ∙ c.if-not-lasts.false) ∙ first_end _ 6 _ (omega arith) c.loop-kind.invariant.2); waits = c.loop-kind.invariant.3 }
