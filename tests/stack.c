@@ -10,7 +10,7 @@
 #include "longest.h"
 
 /* A call that used less than LEAST bytes was not made. */
-enum { STACK = 1 << 20, PATTERN = 0xa5, LEAST = 64, ITEMS = ZOMUWEDLI_MAX_ITEMS, SETTINGS = ZOMUWEDLI_MAX_SETTINGS };
+enum { STACK = 1 << 20, PATTERN = 0xa5, LEAST = 32, ITEMS = ZOMUWEDLI_MAX_ITEMS, SETTINGS = ZOMUWEDLI_MAX_SETTINGS };
 
 /* ---- The sheets: 32 items of 16 settings, without a block, or with a block for each pair that a relation bars something of; and 32 items
  * whose run takes slides, in version 2 too, where the rows have one byte. */
