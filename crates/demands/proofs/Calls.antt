@@ -3,12 +3,12 @@
 use mathlib.Core.Path.{◌≡◌, refl, sym, ap, ◌∙◌, subst}
 use mathlib.Core.List.{List}
 use mathlib.Core.Logic.{◌↔◌}
-use Prim.Native.Nat.{ℕ, ◌+◌, ◌*◌, ◌/◌, ◌%◌, ◌≤◌}
+use Prim.Native.Nat.{ℕ, ◌/◌, ◌%◌, ◌≤◌}
 use native.Mathlib.Omega.{arith}
 use lib.Dec.{T}
 use lib.ListN.{length, take, replicate, length-replicate}
 use lib.Seq.{take-append_seam}
-use Rattle.problem.specs.Problem.{Problem, State, full, size_sum}
+use Rattle.problem.specs.Problem.{Problem, State, full}
 use Rattle.problem.specs.Masks.{state_of}
 use Rattle.problem.specs.Run.{run, after_trace, end_of}
 use Rattle.problem.specs.PutBack.{solves_whole, plan_of}
@@ -16,7 +16,7 @@ use Rattle.problem.specs.declared.End.{End}
 use Rattle.problem.specs.declared.End.TheVariants as end·
 use Rattle.problem.specs.declared.Record.{Record}
 use Rattle.problem.specs.Sentences.{Solvable}
-use Rattle.sheet.specs.Sheet.{layout, variables_of, Keeps}
+use Rattle.sheet.specs.Sheet.{layout, variables_of}
 use Rattle.sheet.specs.Relation.{problem_of}
 use Rattle.run.specs.Numbers.{end_number}
 use Rattle.run.specs.Run.{run_job}
@@ -31,7 +31,6 @@ use Rattle.run.proofs.Worked.{run_worked, run_left}
 use Rattle.run.specs.Causes.{Worked}
 use Rattle.putting_back.proofs.Demands.{put_back_accepted, put_back_plan, run_put_back}
 use Rattle.putting_back.proofs.Ends.{impossible_none, solved_fits}
-use Rattle.boundary.specs.State.{state_length, masks_in}
 use Rattle.run.specs.Call.{trace_left, sheet_left, Asked, RunCall, run_call}
 use Rattle.put_back.specs.Call.{put_back_call}
 use Rattle.run.proofs.Call.{run_small, run_says, run_unpacked, run_taken, run_state}

@@ -1,8 +1,7 @@
 -- Demand 2. Assumes nothing.
-use mathlib.Core.Path.{◌≡◌, refl, ap, ◌∙◌}
+use mathlib.Core.Path.{◌≡◌, refl, ap}
 use mathlib.Core.List.{List, [], ◌∷◌}
 use mathlib.Core.Logic.{◌⊎◌, inl, inr}
-use Prim.Native.Nat.{ℕ}
 use lib.Dec.{T}
 use Rattle.bounded.specs.Quantifiers as bounded
 use Rattle.bounded.specs.Mask as mask
@@ -33,7 +32,7 @@ use Rattle.put_back.specs.PutBack.{PutBackResult}
 use Rattle.run.proofs.Worked.{run_worked, run_left}
 use Rattle.putting_back.proofs.Demands.{put_back_accepted, put_back_accepts, put_back_plan}
 use Rattle.putting_back.proofs.Call.{lawful_put_back}
-use Rattle.demands.specs.Left.{sheet_problem, full_sheet, run_records, left_by_run}
+use Rattle.demands.specs.Left.{sheet_problem, full_sheet}
 use Rattle.demands.specs.Demand2.{Demand2}
 use Rattle.demands.proofs.Calls.{trace_left_lem, sheet_left_lem, run_keeps_plan, run_then_put_back}
 

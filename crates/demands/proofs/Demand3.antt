@@ -1,7 +1,7 @@
 -- Demand 3. Assumes nothing.
 use Rattle.hand.proofs.HandOrder.{order_does_not_matter, start_meets}
 use Rattle.hand.proofs.Demands.{same_bytes, start_then_calls}
-use Rattle.demands.specs.Demand3.{Begins, Demand3}
+use Rattle.demands.specs.Demand3.{Demand3}
 
 pub demand_3 : Demand3
 demand_3 =

@@ -1,5 +1,6 @@
 // The whole text that plan_sheet prints for a sheet, written to the front of a lent buffer: the run's text and the plan's line.
 #![tactic(auto)]
+
 ghost use Rattle.std.specs.Prelude.{◌≡◌, ◌+◌, ◌*◌, ◌≤◌, length, replicate};
 ghost use Rattle.sheet.specs.Sheet.{layout, Keeps};
 ghost use Rattle.sheet.specs.Relation.{problem_of};

@@ -1,7 +1,6 @@
 -- `plan_report::plan_report`: by the room in the buffer. Assumes nothing.
 use native.Mathlib.Omega.{arith}
 use Rattle.report.proofs.Text.{text_short, text_whole}
-use borrow.Author.Rules.{rules}
 use Rattle.plan_report.proofs.plan_report.Goals as goal
 
 pub returns-then-out-lt33024 : goal.returns-then-out-lt33024

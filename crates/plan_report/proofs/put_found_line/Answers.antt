@@ -1,6 +1,5 @@
 -- `plan_report::put_found_line`: by whether there is a plan. Assumes nothing.
 use native.Mathlib.Omega.{arith}
-use borrow.Author.Rules.{rules}
 use Rattle.plan_report.proofs.put_found_line.Goals as goal
 
 pub returns-then-found : goal.returns-then-found

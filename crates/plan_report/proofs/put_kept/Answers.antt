@@ -2,7 +2,6 @@
 use mathlib.Core.Bool.{true, false}
 use native.Mathlib.Omega.{arith}
 use Rattle.plan_report.proofs.Text.{not_refused, picks}
-use borrow.Author.Rules.{rules}
 use Rattle.plan_report.proofs.put_kept.Goals as goal
 
 pub put_picked-requires : goal.put_picked-requires

@@ -3,7 +3,6 @@ use Prim.Native.Nat.{◌≤◌}
 use native.Mathlib.Omega.{arith}
 use lib.ListN.{length}
 use Rattle.plan_report.proofs.Text.{picked_put}
-use borrow.Author.Rules.{rules}
 use Rattle.plan_report.proofs.put_picked.Goals as goal
 
 pub put_run-p-requires : goal.put_run-p-requires

@@ -3,7 +3,6 @@ use Prim.Native.Nat.{◌≤◌}
 use native.Mathlib.Omega.{arith}
 use lib.ListN.{length}
 use Rattle.fields.proofs.Laws.{after}
-use borrow.Author.Rules.{rules}
 use Rattle.plan_report.proofs.put_plan_line.Goals as goal
 
 pub returns : goal.returns

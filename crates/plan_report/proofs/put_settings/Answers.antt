@@ -1,9 +1,6 @@
 -- `plan_report::put_settings`: the settings' fields, written one by one. Assumes nothing.
-use Prim.Native.Nat.{◌-◌}
 use native.Mathlib.Omega.{arith}
-use lib.ListN.{length, drop}
-use Rattle.fields.specs.Print.{fields_text}
-use Rattle.fields.proofs.Putting.{Putting, putting_start, kept_length, piece_room, putting_next, all_put, one_field, no_field}
+use Rattle.fields.proofs.Putting.{putting_start, kept_length, piece_room, putting_next, all_put, one_field, no_field}
 use Rattle.plan_report.proofs.put_settings.Goals as goal
 
 pub loop-k-init : goal.loop-k-init

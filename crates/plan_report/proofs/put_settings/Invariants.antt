@@ -1,8 +1,7 @@
 use Prim.Native.Nat.{◌-◌}
-use native.Mathlib.Omega.{arith}
 use lib.ListN.{length, drop}
 use Rattle.fields.specs.Print.{fields_text}
-use Rattle.fields.proofs.Putting.{Putting, putting_start, kept_length, piece_room, putting_next, all_put, one_field, no_field}
+use Rattle.fields.proofs.Putting.{Putting}
 use Rattle.plan_report.proofs.put_settings.Given as goal
 
 abbrev pub invariant-loop-k : goal.invariant-loop-k

@@ -9,7 +9,6 @@ use Rattle.sheet.proofs.Accepted.{keeps}
 use Rattle.fields.specs.Print.{refused_line}
 use Rattle.buffers.specs.Written.{written}
 use Rattle.plan_report.proofs.Text.{refused_lines, few_items, blank_plan}
-use borrow.Author.Rules.{rules}
 use Rattle.plan_report.proofs.put_sheet.Goals as goal
 
 pub slice_bounds-plan-end : goal.slice_bounds-plan-end
