@@ -11,7 +11,7 @@ ghost use Rattle.cases.specs.Counts.{IsPrefixLen};
 use colour::Coloured;
 use moved::Moved;
 use std::io;
-use std::io::{BufWriter, Input, Read, Write};
+use std::io::{Input, Read, Write};
 
 // A line `colo CHANNELS LENGTH SIZE HEAD TAIL`: the sheet of a colouring file. The channels are 16 digits, the bytes of the buffer four. The
 // file has SIZE bytes, eight digits: those of HEAD, and then those of TAIL again and again.
@@ -165,7 +165,6 @@ fn run<R: Read, W: Write>(input: &mut R, answers: &mut W, text: &mut [u8]) -> io
             return last(answers, text, held);
         }
         held = piece(answers, text, n)?;
-        answers.flush()?;
         turns -= 1;
     }
     Ok(())
@@ -173,7 +172,5 @@ fn run<R: Read, W: Write>(input: &mut R, answers: &mut W, text: &mut [u8]) -> io
 
 fn main(rt: HostRuntime) -> io::Result<()> {
     let mut text = [0u8; 65536];
-    let mut answers = BufWriter::new(rt.alloc(), io::writer(&rt))?;
-    run(&mut rt.reader(), &mut answers, &mut text)?;
-    answers.flush()
+    run(&mut rt.reader(), &mut io::writer(&rt), &mut text)
 }

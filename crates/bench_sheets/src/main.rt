@@ -15,7 +15,7 @@ use put_back::{PutBackOutcome, PutBackRefusal};
 use run::{RunAnswer, RunOutcome};
 use sheet::SheetRead;
 use std::io;
-use std::io::{BufWriter, Input, Read, Write};
+use std::io::{Input, Read, Write};
 
 // A line `read SHEET`.
 fn do_read<W: Write>(answers: &mut W, fields: &[u8]) -> io::Result<()> {
@@ -319,7 +319,6 @@ fn run<R: Read, W: Write>(input: &mut R, answers: &mut W, text: &mut [u8]) -> io
             return last(answers, text, held);
         }
         held = piece(answers, text, n)?;
-        answers.flush()?;
         turns -= 1;
     }
     Ok(())
@@ -327,7 +326,5 @@ fn run<R: Read, W: Write>(input: &mut R, answers: &mut W, text: &mut [u8]) -> io
 
 fn main(rt: HostRuntime) -> io::Result<()> {
     let mut text = [0u8; 65536];
-    let mut answers = BufWriter::new(rt.alloc(), io::writer(&rt))?;
-    run(&mut rt.reader(), &mut answers, &mut text)?;
-    answers.flush()
+    run(&mut rt.reader(), &mut io::writer(&rt), &mut text)
 }
