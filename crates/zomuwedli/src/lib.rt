@@ -1,5 +1,6 @@
 // What C and Rust call: every job over numbers and byte slices, as one number. Each function is that of a crate below, exported.
 #![tactic(auto)]
+
 ghost use Rattle.std.specs.Prelude.{◌≡◌};
 ghost use Rattle.read.specs.Read.{read_call};
 ghost use Rattle.run.specs.Call.{run_call};
