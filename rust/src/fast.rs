@@ -3,8 +3,8 @@
 //!
 //! Two things save most of the work, and neither changes the trace. The sixteen values of an item are asked together, in loops of constant
 //! length which the compiler makes vectors of (`Table::serving`). And a test that failed rests on a few items only: since sets only shrink,
-//! it fails until one of them changes, and is not made again before (`Reduction::pending`, `waiting`). The search for a plan keeps every set
-//! arc consistent, four items to a word (`Search`). A move goes over the sheet's bytes once, and fills no table (`Workspace::move_sheet`).
+//! it fails until one of them changes, and is not made again before (`Reduction::pending`, `waiting`). The search for a plan asks in an order
+//! of its own, and has all items in a few vectors (`Search`). A move goes over the sheet's bytes once, and fills no table (`Workspace::move_sheet`).
 //!
 //! What this was before, with a mark for each two values in place of these words, is kept as the fixed peer (peer.rs).
 
@@ -285,6 +285,12 @@ impl Table {
     #[inline(always)]
     fn allowed_with(&self, some: u16, set: u16, i: usize, l: usize) -> u16 {
         self.rows[i][l].iter().zip(&self.bits).fold(0, |all, (row, bit)| all | if set & !row == 0 { *bit } else { 0 }) & some
+    }
+
+    /// The values that i and j are allowed to have both.
+    #[inline(always)]
+    fn allowed_equal(&self, i: usize, j: usize) -> u16 {
+        self.rows[i][j].iter().zip(&self.bits).fold(0, |all, (row, bit)| all | row & bit)
     }
 
     /// The values of i, of the good ones, that cover w, a value of j, at each of these items but i; and the items at which one failed. Where
@@ -744,174 +750,289 @@ impl Reduction {
 
 // ---- The search ---------------------------------------------------------------------------------------------------------------------
 
-/// The values still open at each item, sixteen bits for each and four items in a word: what is done for each item is done for four at once,
-/// or for eight where the compiler finds it. An item out has all its bits, so that its set never changes and is never empty.
-type Sets = [u64; MAX_ITEMS / 4];
+/// The values still open at each item, a word for each, so that what is done for every item the compiler does for eight at once. An item out
+/// has one value, which every line allows: it is never open, and never empty.
+type Sets = [u16; MAX_ITEMS];
 
-/// One bit in each of the four sets of a word, the lowest or the highest.
-const LOWEST: u64 = 0x0001_0001_0001_0001;
-const HIGHEST: u64 = LOWEST << 15;
-
-fn set_of(sets: &Sets, i: usize) -> u16 {
-    (sets[i / 4] >> (i % 4 * 16)) as u16
+fn is_one(set: u16) -> bool {
+    set & set.wrapping_sub(1) == 0
 }
 
-fn is_open(set: u16) -> bool {
-    set & (set - 1) != 0
+fn lowest_of(set: u16) -> u16 {
+    set & set.wrapping_neg()
 }
 
-/// The highest bit of each set of a word that is not empty: any lower bit carries into it when these are added.
-fn not_empty(word: u64) -> u64 {
-    (((word & !HIGHEST) + !HIGHEST) | word) & HIGHEST
+/// How many values a set has. Not `count_ones`, which eight words at once do not have on every machine.
+#[inline(always)]
+fn count_of(set: u16) -> u16 {
+    let twos = set.wrapping_sub(set >> 1 & 0x5555);
+    let fours = (twos & 0x3333).wrapping_add(twos >> 2 & 0x3333);
+    let eights = fours.wrapping_add(fours >> 4) & 0x0f0f;
+    eights.wrapping_add(eights >> 8) & 0x1f
 }
 
-/// Four items, a bit for each, from the highest bits of their sets: one product moves them side by side.
-fn items_of(highest: u64) -> u32 {
-    const TOGETHER: u64 = 1 << 48 | 1 << 33 | 1 << 18 | 1 << 3;
-    ((highest >> 15).wrapping_mul(TOGETHER) >> 48) as u32 & 15
+/// Where a search is: the sets, and the items with one value that were met with all others. Where all were met, the sets are a plan.
+#[derive(Clone, Copy)]
+struct Place {
+    sets: Sets,
+    met: u32,
 }
 
-/// Whether some items that must all differ are more than the values that they have together: then there is no plan, and no search would see
-/// it in time. From each item on, those are taken, lowest first, that allow no equal value with any taken before.
-fn crowded(table: &Table, state: &State) -> bool {
-    let State { items, settings } = state;
-    let apart = |i: usize, j: usize| j != i && values(settings[i] & settings[j]).all(|a| table.rows[i][j][a] >> a & 1 == 0);
-    let far: [u32; MAX_ITEMS] = std::array::from_fn(|i| match has(*items, i) {
-        true => members(*items).filter(|&j| apart(i, j)).fold(0, |far, j| far | 1 << j),
-        false => 0,
-    });
-    members(*items).any(|first| {
-        let (mut rest, mut together, mut count) = (far[first], settings[first], 1);
-        while rest != 0 && count <= together.count_ones() {
-            let j = rest.trailing_zeros() as usize;
-            (rest, together, count) = (rest & far[j], together | settings[j], count + 1);
-        }
-        count > together.count_ones()
-    })
-}
+/// After so many tries for one value in vain, it is worth a look whether some items are too many.
+const PATIENCE: u64 = 300;
+/// What a value costs at most: sixteen of them are a number of fifteen bits.
+const DEAREST: u16 = 2047;
+/// What a value of the heaviest item costs at least, so that the costs tell heavy items apart.
+const CHEAPEST: u64 = 32;
 
-/// The search for the first plan of a state. It asks whether there is any plan with the values fixed so far, and looks for it in the order
-/// that serves it best; what is answered is the first plan all the same.
+/// The search for the first plan of a state. It goes item by item and value by value, and before it goes into one it settles whether any plan
+/// goes on from there, so that it never goes back. That is a question, a search of its own whose order is free: what is answered is the first
+/// plan all the same.
 struct Search {
-    /// The items in.
-    left: u32,
-    /// `rows[i][a]`: what is allowed with value a of i at each other item in; at i itself a alone.
-    rows: [[Sets; MAX_SETTINGS]; MAX_ITEMS],
-    /// How often a set was emptied by or at an item: the search goes where it failed before. Nothing that is answered rests on it.
-    weights: [u32; MAX_ITEMS],
+    /// `lines[i][a]`: what is allowed with value a of i at each item; at i itself a alone.
+    lines: [[Sets; MAX_SETTINGS]; MAX_ITEMS],
+    /// The items that i must differ from: they allow no equal value.
+    far: [u32; MAX_ITEMS],
+    /// `swaps[a]`: the values that can change places with a at all items, and nothing else changes; as the channels of a colouring can.
+    swaps: [u16; MAX_SETTINGS],
+    /// 1 for each item in.
+    inside: Sets,
+    /// How many values were tried.
+    tries: u64,
+    /// With how many items in an item is linked, and one more for each failure at it: a question goes where it or one before it failed. They
+    /// stay from question to question of one pick. Nothing that is answered rests on them.
+    weights: [u64; MAX_ITEMS],
+    /// What each value of an item costs: the scale by the weight, as far as there is room. The scale grows with the weights.
+    costs: [u16; MAX_ITEMS],
+    scale: u64,
+    /// As in `Table`.
+    bits: [u16; MAX_SETTINGS],
 }
 
 impl Search {
     fn new() -> Search {
-        Search { left: 0, rows: [[[0; MAX_ITEMS / 4]; MAX_SETTINGS]; MAX_ITEMS], weights: [1; MAX_ITEMS] }
+        Search {
+            lines: [[[0; MAX_ITEMS]; MAX_SETTINGS]; MAX_ITEMS],
+            far: [0; MAX_ITEMS],
+            swaps: [0; MAX_SETTINGS],
+            inside: [0; MAX_ITEMS],
+            tries: 0,
+            weights: [1; MAX_ITEMS],
+            costs: [DEAREST; MAX_ITEMS],
+            scale: DEAREST.into(),
+            bits: std::array::from_fn(|a| 1 << a),
+        }
     }
 
     /// The first plan of a state in which every value has its supports, as that of a run has, and no item is emptied: a set of one value for
-    /// each item in. Items are fixed in their order, each at the lowest value with which there is a plan still. The plan that was found last
-    /// answers the question by itself where it has that value.
+    /// each item. The plan that was found last answers the question by itself where it has the value that is asked for.
     fn first_plan(&mut self, table: &Table, state: &State) -> Option<Sets> {
-        let mut sets = self.begin(table, state);
-        let mut known = self.any_plan(sets)?;
+        let mut place = self.begin(table, state);
+        let mut known = place;
+        if self.crowded(&place) || !self.any_plan(&mut known) {
+            return None;
+        }
         for i in members(state.items) {
-            while is_open(set_of(&sets, i)) {
-                let a = set_of(&sets, i).trailing_zeros() as usize;
-                let fixed = self.fix(&sets, i, a);
-                let has_it = set_of(&known, i) >> a & 1 == 1;
-                let found = if has_it { Some(known) } else { fixed.and_then(|fixed| self.any_plan(fixed)) };
-                match (found, fixed) {
-                    (Some(found), Some(fixed)) => (known, sets) = (found, fixed),
-                    // The plan that is known stays in the sets, so none is emptied.
-                    _ => sets = self.without(&sets, i, a).expect("the plan that was found last"),
+            while !is_one(place.sets[i]) {
+                let value = lowest_of(place.sets[i]);
+                let mut fixed = place;
+                let fits = self.fix(&mut fixed, i, value);
+                let mut found = fixed;
+                if known.sets[i] == value {
+                    place = fixed;
+                } else if fits && self.any_plan(&mut found) {
+                    (place, known) = (fixed, found);
+                } else {
+                    // The plan that is known stays, so that no set is emptied.
+                    self.take_off(&mut place, i, value);
                 }
             }
         }
-        Some(sets)
+        Some(known.sets)
     }
 
-    /// Takes the rows of the items in over, and answers their sets.
-    fn begin(&mut self, table: &Table, state: &State) -> Sets {
-        let out: [u16; MAX_ITEMS] = std::array::from_fn(|i| if has(state.items, i) { 0 } else { u16::MAX });
-        let packed = |lanes: [u16; MAX_ITEMS]| -> Sets {
-            std::array::from_fn(|word| (0..4).fold(0, |four, lane| four | u64::from(lanes[4 * word + lane]) << (16 * lane)))
-        };
-        self.left = state.items;
-        self.weights = [1; MAX_ITEMS];
-        for i in members(state.items) {
-            for a in values(state.settings[i]) {
-                let mut lanes = std::array::from_fn(|j| table.rows[i][j][a] | out[j]);
-                lanes[i] = 1 << a;
-                self.rows[i][a] = packed(lanes);
+    /// Takes the rows of the items in over. An item that has one value from the start bars nothing that is left.
+    fn begin(&mut self, table: &Table, state: &State) -> Place {
+        let State { items, settings } = state;
+        let out: Sets = std::array::from_fn(|i| if has(*items, i) { 0 } else { u16::MAX });
+        (self.scale, self.far) = (DEAREST.into(), [0; MAX_ITEMS]);
+        self.inside = std::array::from_fn(|i| u16::from(has(*items, i)));
+        for i in members(*items) {
+            self.weights[i] = u64::from((table.neighbours[i] & items).count_ones()).max(1);
+            self.costs[i] = self.cost(i);
+            for a in values(settings[i]) {
+                self.lines[i][a] = std::array::from_fn(|j| table.rows[i][j][a] & settings[j] | out[j]);
+                self.lines[i][a][i] = 1 << a;
+            }
+            for j in members(items & (u32::MAX << i) << 1) {
+                let apart = u32::from(settings[i] & settings[j] & table.allowed_equal(i, j) == 0);
+                self.far[i] |= apart << j;
+                self.far[j] |= apart << i;
             }
         }
-        packed(std::array::from_fn(|i| state.settings[i] | out[i]))
+        let sets = std::array::from_fn(|i| if has(*items, i) { settings[i] } else { 1 });
+        self.find_swaps(*items, &sets);
+        Place { sets, met: self.items(&sets, is_one) }
     }
 
-    /// Some plan within these sets: the item with the fewest values for its weight is branched on, the lowest value first.
-    fn any_plan(&mut self, mut sets: Sets) -> Option<Sets> {
-        let cost = |i: &usize| set_of(&sets, *i).count_ones() * 65_536 / self.weights[*i];
-        // Where each has one value and all have their supports, they are a plan.
-        let Some(i) = members(self.left).filter(|&i| is_open(set_of(&sets, i))).min_by_key(cost) else {
-            return Some(sets);
-        };
-        loop {
-            let a = set_of(&sets, i).trailing_zeros() as usize;
-            if let Some(found) = self.fix(&sets, i, a).and_then(|fixed| self.any_plan(fixed)) {
-                return Some(found);
+    /// Values that change places with a third one change places with each other, so that each is tried with one of those that do.
+    fn find_swaps(&mut self, items: u32, sets: &Sets) {
+        self.swaps = [0; MAX_SETTINGS];
+        let mut firsts = 0;
+        for b in 0..MAX_SETTINGS {
+            match values(firsts).find(|&a| !self.told_apart(sets, a, b) && self.can_swap(items, sets, a, b)) {
+                None => firsts |= 1 << b,
+                Some(a) => {
+                    let others = self.swaps[a] | 1 << a;
+                    values(others).for_each(|other| self.swaps[other] |= 1 << b);
+                    self.swaps[b] = others;
+                }
             }
-            sets = self.without(&sets, i, a)?;
         }
     }
 
-    /// The sets with value a alone at i, and what has no support then taken off; nothing where a set is emptied.
-    fn fix(&mut self, sets: &Sets, i: usize, a: usize) -> Option<Sets> {
-        let mut fixed = *sets;
-        let changed = narrow(&mut fixed, &self.rows[i][a], i, &mut self.weights)?;
-        self.settle(fixed, changed & !(1 << i))
+    /// Whether a line of the one is the other's with these two bits exchanged, for each item that has both.
+    fn can_swap(&self, items: u32, sets: &Sets, a: usize, b: usize) -> bool {
+        members(items).filter(|&i| sets[i] >> a & 1 == 1).all(|i| {
+            let differ = |(x, y): (&u16, &u16)| {
+                let unlike = (x >> a ^ x >> b) & 1;
+                x ^ unlike << a ^ unlike << b ^ y
+            };
+            self.lines[i][a].iter().zip(&self.lines[i][b]).map(differ).fold(0, |all, differ| all | differ) == 0
+        })
     }
 
-    /// The same with value a off at i.
-    fn without(&mut self, sets: &Sets, i: usize, a: usize) -> Option<Sets> {
-        let mut fewer = *sets;
-        fewer[i / 4] &= !(1 << (i % 4 * 16 + a));
-        if set_of(&fewer, i) == 0 {
-            return None;
-        }
-        self.settle(fewer, 1 << i)
+    /// Whether some item has one of these two values and not the other.
+    fn told_apart(&self, sets: &Sets, a: usize, b: usize) -> bool {
+        sets.iter().zip(&self.inside).fold(0, |all, (set, inside)| all | (set >> a ^ set >> b) & inside) != 0
     }
 
-    /// Takes off what has no support at an item that changed, from these items on, until nothing changes.
-    fn settle(&mut self, mut sets: Sets, mut changed: u32) -> Option<Sets> {
-        while changed != 0 {
-            let k = changed.trailing_zeros() as usize;
-            changed &= changed - 1;
-            let mut supported = [0; MAX_ITEMS / 4];
-            for a in values(set_of(&sets, k)) {
-                supported.iter_mut().zip(&self.rows[k][a]).for_each(|(all, row)| *all |= row);
+    /// Whether some items that must all differ are more than the values that they have together: then there is no plan, and trying values would
+    /// not show it in time. From each item on, those are taken that must differ from all taken before: first the one that must differ from
+    /// most of those left, since others end the taking, and that adds few values. It stops where all that are left are too few.
+    fn crowded(&self, place: &Place) -> bool {
+        let (open, sets) = (!place.met, &place.sets);
+        members(open).any(|first| {
+            let (mut rest, mut together, mut count) = (self.far[first] & open, sets[first], 1);
+            while count <= together.count_ones() && count + rest.count_ones() > together.count_ones() {
+                let gain = |j: &usize| (self.far[*j] & rest).count_ones() as i32 - 2 * (sets[*j] & !together).count_ones() as i32;
+                // The last of the greatest, which is the lowest item.
+                let Some(j) = falling(rest).max_by_key(gain) else { break };
+                (rest, together, count) = (rest & self.far[j], together | sets[j], count + 1);
             }
-            changed |= narrow(&mut sets, &supported, k, &mut self.weights)?;
-        }
-        Some(sets)
+            count > together.count_ones()
+        })
     }
-}
 
-/// Leaves of the sets what is supported at item k too: the items that lose a value, or nothing where one is emptied, which weighs.
-#[inline(always)]
-fn narrow(sets: &mut Sets, supported: &Sets, k: usize, weights: &mut [u32; MAX_ITEMS]) -> Option<u32> {
-    let mut changed = 0;
-    for (word, (set, supported)) in sets.iter_mut().zip(supported).enumerate() {
-        let lost = *set & !supported;
-        if lost != 0 {
-            *set &= supported;
-            let emptied = not_empty(*set) ^ HIGHEST;
-            if emptied != 0 {
-                weights[k] += 1;
-                weights[4 * word + items_of(emptied).trailing_zeros() as usize] += 1;
-                return None;
+    /// Goes on to some plan, where there is one. After each value that is refuted the next item is chosen anew, for the weights tell more by
+    /// then; but where the value failed at once, they hardly do.
+    fn any_plan(&mut self, place: &mut Place) -> bool {
+        let mut i = self.next_item(&place.sets);
+        while place.met != u32::MAX {
+            let value = lowest_of(place.sets[i]);
+            let before = self.tries;
+            self.tries += 1;
+            let mut fixed = *place;
+            let fits = self.fix(&mut fixed, i, value);
+            if fits && self.any_plan(&mut fixed) {
+                *place = fixed;
+                return true;
             }
-            changed |= items_of(not_empty(lost)) << (4 * word);
+            if (self.tries - before > PATIENCE && self.crowded(place)) || !self.take_off(place, i, value) {
+                return false;
+            }
+            if fits || is_one(place.sets[i]) {
+                i = self.next_item(&place.sets);
+            }
+        }
+        true
+    }
+
+    /// Leaves this value alone at i: whether no set is emptied.
+    fn fix(&mut self, place: &mut Place, i: usize, value: u16) -> bool {
+        place.sets[i] = value;
+        self.settle(place, i)
+    }
+
+    /// Takes off a value of i that was refuted, and those with it that can change places with it and that no set tells from it: whether no set
+    /// is emptied.
+    fn take_off(&mut self, place: &mut Place, i: usize, value: u16) -> bool {
+        let a = value.trailing_zeros() as usize % MAX_SETTINGS;
+        let alike = values(self.swaps[a]).filter(|&b| !self.told_apart(&place.sets, a, b)).fold(value, |all, b| all | 1 << b);
+        place.sets[i] &= !alike;
+        !is_one(place.sets[i]) || (place.sets[i] != 0 && self.settle(place, i))
+    }
+
+    // The next three are not inlined, so that each is compiled as if it were alone.
+
+    /// Takes off what is barred with an item that has one value, from i on, until each of these was met: whether no set is emptied. Keeping
+    /// all values supported would take fewer tries, and more time.
+    #[inline(never)]
+    fn settle(&mut self, place: &mut Place, i: usize) -> bool {
+        let mut rest = 1_u32 << i;
+        while rest != 0 {
+            let k = rest.trailing_zeros() as usize % MAX_ITEMS;
+            let line = &self.lines[k][place.sets[k].trailing_zeros() as usize % MAX_SETTINGS];
+            place.sets.iter_mut().zip(line).for_each(|(set, allowed)| *set &= allowed);
+            place.met |= 1 << k;
+            if place.sets.contains(&0) {
+                self.failed(&place.sets, k);
+                return false;
+            }
+            rest = self.items(&place.sets, is_one) & !place.met;
+        }
+        true
+    }
+
+    /// Weighs the item that emptied some, and the lowest of these.
+    #[inline(never)]
+    fn failed(&mut self, sets: &Sets, k: usize) {
+        let emptied = sets.iter().position(|set| *set == 0).unwrap_or(k);
+        for i in [k, emptied] {
+            self.weights[i] += 1;
+            self.costs[i] = self.cost(i);
+            if self.weights[i] > self.scale / CHEAPEST {
+                self.grow();
+            }
         }
     }
-    Some(changed)
+
+    #[cold]
+    fn grow(&mut self) {
+        self.scale *= 2;
+        self.costs = std::array::from_fn(|i| self.cost(i));
+    }
+
+    fn cost(&self, i: usize) -> u16 {
+        (self.scale / self.weights[i]).min(DEAREST.into()) as u16
+    }
+
+    /// The open item that costs least, the lowest of them.
+    #[inline(never)]
+    fn next_item(&self, sets: &Sets) -> usize {
+        let mut costs = [0; MAX_ITEMS];
+        for (cost, (set, each)) in costs.iter_mut().zip(sets.iter().zip(&self.costs)) {
+            *cost = count_of(*set).wrapping_mul(*each) | if is_one(*set) { i16::MAX as u16 } else { 0 };
+        }
+        // Signed numbers, of which eight at once have a least one on every machine; first of two halves, and of halves of these.
+        let (mut halves, mut quarters) = ([0; MAX_ITEMS / 2], [0; MAX_ITEMS / 4]);
+        for i in 0..MAX_ITEMS / 2 {
+            halves[i] = (costs[i] as i16).min(costs[i + MAX_ITEMS / 2] as i16);
+        }
+        for i in 0..MAX_ITEMS / 4 {
+            quarters[i] = halves[i].min(halves[i + MAX_ITEMS / 4]);
+        }
+        let least = quarters.iter().fold(i16::MAX, |least, cost| least.min(*cost)) as u16;
+        self.items(&costs, |cost| cost == least).trailing_zeros() as usize % MAX_ITEMS
+    }
+
+    /// The items whose word is such.
+    #[inline(always)]
+    fn items(&self, words: &[u16; MAX_ITEMS], such: impl Fn(u16) -> bool) -> u32 {
+        let gather = |words: &[u16]| words.iter().zip(&self.bits).fold(0, |all, (word, bit)| all | if such(*word) { *bit } else { 0 });
+        let (low, high) = words.split_at(MAX_SETTINGS);
+        u32::from(gather(low)) | u32::from(gather(high)) << MAX_SETTINGS
+    }
 }
 
 // ---- The jobs -----------------------------------------------------------------------------------------------------------------------
@@ -997,10 +1118,9 @@ impl Workspace {
         });
         state.copy_from_slice(&self.reduction.state.to_bytes());
         let left = &self.reduction.state;
-        let none = self.reduction.emptied || crowded(&self.table, left);
-        let first = if none { None } else { self.search.first_plan(&self.table, left) };
+        let first = if self.reduction.emptied { None } else { self.search.first_plan(&self.table, left) };
         if let Some(sets) = first {
-            let value = |i: usize| if has(left.items, i) { set_of(&sets, i).trailing_zeros() as u8 } else { OUT };
+            let value = |i: usize| if has(left.items, i) { sets[i].trailing_zeros() as u8 } else { OUT };
             plan.iter_mut().enumerate().for_each(|(i, byte)| *byte = value(i));
             steps.iter().rev().for_each(|(before, step)| self.table.undo(before, *step, plan));
         }
@@ -1182,7 +1302,7 @@ fn first_rows(bytes: &[u8]) -> [u8; ROWS] {
 fn judged(rows: &[u8; ROWS], length: usize, width: usize, all: u16) -> (bool, bool) {
     // A row of two bytes, its first one lowest; or two rows of one.
     let pair = if width == 2 { all.swap_bytes() } else { all << 8 | all };
-    let all = u64::from(pair) * LOWEST;
+    let all = u64::from(pair) * 0x0001_0001_0001_0001;
     let (mut beyond, mut barred) = (0, 0);
     for (bytes, counted) in rows.chunks_exact(8).zip(FIRST[length]) {
         let word = u64::from_le_bytes(bytes.try_into().expect("eight bytes"));

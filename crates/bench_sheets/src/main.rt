@@ -5,7 +5,7 @@
 // A longer line ends the program with a line that says so, and that no file stdout has. The last line may end without a newline.
 #![tactic(auto)]
 
-ghost use Rattle.std.specs.Prelude.{◌≤◌, length, IfOk};
+ghost use Rattle.std.specs.Prelude.{◌≡◌, ◌≤◌, length, IfOk, OnErr};
 ghost use Rattle.cases.specs.Counts.{IsPrefixLen};
 
 use hand::{CallAnswer, CallOutcome, HandState, StartAnswer, StartOutcome};
@@ -292,7 +292,8 @@ fn lines<W: Write>(answers: &mut W, text: &[u8]) -> io::Result<()> {
 // The lines that end in the first n bytes. What is left of them goes to the front: how many bytes these are.
 fn piece<W: Write>(answers: &mut W, text: &mut [u8], n: usize) -> io::Result<usize>
     requires { n ≤ length text.old }
-    ensures { IfOk result (λ k. k ≤ length text.new) }
+    ensures ok { IfOk result (λ k. k ≤ length text.new) }
+    ensures err { OnErr result (length text.new ≡ length text.old) }
 {
     let end = cases::lines_end(text, n);
     lines(answers, &text[..end])?;

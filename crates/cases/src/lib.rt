@@ -2,7 +2,7 @@
 // digits. And what an answer is written with: words, numbers, bytes and states. A line ends with a newline, or where the input ends.
 #![tactic(auto)]
 
-ghost use Rattle.std.specs.Prelude.{suc, ◌<◌, ◌≤◌, min, length, IfOk};
+ghost use Rattle.std.specs.Prelude.{◌≡◌, suc, ◌<◌, ◌≤◌, min, length, IfOk, OnErr};
 ghost use Rattle.std.specs.Io.{ReadsAtMost};
 ghost use Rattle.cases.specs.Counts.{IsPrefixLen};
 
@@ -16,7 +16,8 @@ use std::io::{Read, Write};
 // the text is full.
 pub fn read_on<R: Read>(input: &mut R, text: &mut [u8], held: usize) -> io::Result<usize>
     requires { held ≤ length text.old }
-    ensures { IfOk result (λ n. (held ≤ n) × (n ≤ length text.new)) }
+    ensures ok { IfOk result (λ n. (held ≤ n) × (n ≤ length text.new)) }
+    ensures err { OnErr result (length text.new ≡ length text.old) }
 {
     let n = read_full(input, &mut text[held..])?;
     Ok(held + n)

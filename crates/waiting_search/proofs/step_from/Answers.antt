@@ -6,17 +6,5 @@ use Rattle.waiting_search.proofs.step_from.Goals as goal
 pub returns-in-1 : goal.returns-in-1
 returns-in-1 c = record { is = rw c.in-1.is c.unsupported_variable.ensures; waits = c.requires.2 }
 
-pub returns-in-2 : goal.returns-in-2
-returns-in-2 c = let e = c.snake_variable.ensures in record { is = rw c.in-2.is e.is; waits = e.waits }
-
-pub returns-in-3 : goal.returns-in-3
-returns-in-3 c = let e = c.triangle_variable.ensures in record { is = rw c.in-3.is e.is; waits = e.waits }
-
-pub returns-in-4 : goal.returns-in-4
-returns-in-4 c = let e = c.neighbourhood_variable.ensures in record { is = rw c.in-4.is e.is; waits = e.waits }
-
-pub returns-in-5 : goal.returns-in-5
-returns-in-5 c = let e = c.substitution_variable.ensures in record { is = rw c.in-5.is e.is; waits = e.waits }
-
 pub returns-in_default : goal.returns-in_default
 returns-in_default c = record { is = no_kind _ _ c.args.kind _ (λ e. omega arith) (λ e. omega arith) (λ e. omega arith) (λ e. omega arith) (λ e. omega arith); waits = c.requires.2 }
