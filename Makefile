@@ -28,8 +28,9 @@ INSTALLED = "$(DESTDIR)$(INCLUDEDIR)/zomuwedli.h" "$(DESTDIR)$(LIBDIR)/libzomuwe
 all: $(ARCHIVE)
 
 # rt looks at the sources itself, and takes minutes; after a change to crates/: make -B target/staticlib/libzomuwedli.a
+# For any x86-64 processor: rt's own choice asks for instructions that those before 2009 lack.
 $(ARCHIVE):
-	cd crates/zomuwedli && rt lib
+	cd crates/zomuwedli && rt lib --cpu=x86-64
 	@mkdir -p $(@D)
 	cp crates/zomuwedli/out/libzomuwedli.a $@
 

@@ -12,23 +12,25 @@ use Rattle.hand.specs.Hand.{call_answer}
 use Rattle.problem.proofs.OneCall.{call_misfit}
 use borrow.Author.Rules.{rules}
 use Rattle.hand_call.proofs.call_over.Goals as goal
-use Rattle.hand_call.proofs.call_over.Goals.{Else-not-fits}
+use Rattle.hand_call.proofs.call_over.Goals.{Start, Else-not-fits}
 
--- what the struct's own types say, and past the test of 11
+-- what the struct's own types say
+proper : (c : Start) → Proper c.args.st.masks
+proper c =
+    record {
+      active_lt = search rules;
+      length_is = search rules;
+      domain_lt = λ i l. let h : Fits w16 (get_or c.args.st.masks.domains i 0) = search rules in h.fits;
+    }
+
+-- past the test of 11
 ready : (c : Else-not-fits) → Proper c.args.st.masks → Ready c.args.t.now c.args.st.masks
 ready c p =
     let e = sym c.fits.ensures ∙ c.if-not-fits.false in
     record { table = c.requires; proper = p; fits = (fits_iff (held c.args.t.now) c.args.st.masks p).0 (T_of e) }
 
 pub fits-requires : goal.fits-requires
-fits-requires c = (
-  c.requires,
-  record {
-    active_lt = search rules;
-    length_is = search rules;
-    domain_lt = λ i l. let h : Fits w16 (get_or c.args.st.masks.domains i 0) = search rules in h.fits;
-  },
-)
+fits-requires c = (c.requires, proper (goal.at.fits-requires c).Start)
 
 pub returns-then-not-fits : goal.returns-then-not-fits
 returns-then-not-fits c =
@@ -38,18 +40,9 @@ returns-then-not-fits c =
     c.refused_call.ensures ∙ sym (ap (call_answer P a.st a.i) (call_misfit P (state_of a.st.masks) a.i e))
 
 pub none_empty-requires : goal.none_empty-requires
-none_empty-requires c =
-    ready (goal.at.none_empty-requires c).Else-not-fits record {
-      active_lt = search rules;
-      length_is = search rules;
-      domain_lt = λ i l. let h : Fits w16 (get_or c.args.st.masks.domains i 0) = search rules in h.fits;
-    }
+none_empty-requires c = let at = goal.at.none_empty-requires c in ready at.Else-not-fits (proper at.Start)
 
 pub call_fitting-requires : goal.call_fitting-requires
 call_fitting-requires c =
-    let p : Proper c.args.st.masks = record {
-      active_lt = search rules;
-      length_is = search rules;
-      domain_lt = λ i l. let h : Fits w16 (get_or c.args.st.masks.domains i 0) = search rules in h.fits;
-    } in
-    (ready (goal.at.call_fitting-requires c).Else-not-fits p, c.is_active.ensures, c.none_empty.ensures)
+    let at = goal.at.call_fitting-requires c in
+    (ready at.Else-not-fits (proper at.Start), c.is_active.ensures, c.none_empty.ensures)
