@@ -104,7 +104,7 @@ class Tree:
 
 def declarations(path, text):
     if path.endswith(".rt"):
-        found = re.findall(r"\b(?:fn|struct|enum|const|static|type)\s+(\w+)", text)
+        found = re.findall(r"\b(?:fn|struct|enum|trait|const|static|type)\s+(\w+)", text)
         return set(found) | set(re.findall(r"^\s+([A-Z]\w*)[,({ ]", text, re.M))
     if not path.endswith(".antt"):
         return set()

@@ -4,9 +4,8 @@ use mathlib.Core.Path.{◌≡◌, refl, sym, ap, ◌∙◌}
 use mathlib.Core.List.{List, [], ◌∷◌}
 use Prim.Native.Nat.{ℕ}
 use Rattle.problem.specs.Problem.{Problem}
-use Rattle.sheet.specs.Sheet.{layout, variables_of, blocks_of, read_sheet, Keeps}
+use Rattle.sheet.specs.Sheet.{layout, variables_of, blocks_of, read_sheet, Keeps, accepted}
 use Rattle.sheet.specs.declared.SheetRefusal.{SheetRefusal}
-use Rattle.sheet.specs.declared.SheetRead.TheVariants.{Accepted}
 use Rattle.jobs.specs.WithSheet.{with_sheet}
 use Rattle.run.specs.Run.{run_job}
 use Rattle.hand.specs.Hand.{start_job, call_job, calls_job}
@@ -31,7 +30,7 @@ module _ (s : List ℕ) (K : Keeps layout s) where
 
   -- the read check: as many items and blocks
   pub read_alike : read_sheet layout (moved_bytes s) ≡ read_sheet layout s
-  read_alike = move_keeps s K ∙ (λ i. Accepted (variables i) (blocks i)) ∙ sym K
+  read_alike = move_keeps s K ∙ (λ i. accepted (variables i) (blocks i)) ∙ sym K
     where
       variables : variables_of (moved_bytes s) ≡ variables_of s
       variables = sym (variables_of_lem (moved_bytes s)) ∙ ap (λ (P : Problem). P.n) (move_same s K) ∙ variables_of_lem s

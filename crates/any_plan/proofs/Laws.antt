@@ -11,6 +11,8 @@ use lib.Dec.{T, eqb}
 use lib.ListN.{length, get_or, set, length-set}
 use lib.Seq.{get_or-set_same, get_or-set_other}
 use borrow.Author.Tests.{eqb-true, eqb-false, not-true, not-false}
+use Rattle.std.specs.Prelude.{None, Some}
+use Rattle.std.proofs.lemmas.Option.{none-some, same_Some}
 use Rattle.bounded.specs.Quantifiers.{lowest, any_below}
 use Rattle.bounded.specs.Mask.{bit}
 use Rattle.bounded.proofs.Truth.{T_true, T_of, T_not, T_ext, clash, and_iff, not_iff, eqb_iff, eq_dec, neither}
@@ -23,6 +25,10 @@ use Rattle.any_plan.specs.Question.{Sets, Queried, PlanWithin, lowest_of, AnyPla
 use Rattle.any_plan.specs.Steps.{without_lowest, Pruned, Settled, met_at, emptied_at, Met, Next, barred_at, LineAgrees}
 
 -- ---- a set
+
+-- 32 words are 32 sets of values
+pub typed_sets : {on : List ℕ} → length on ≡ 32 → ((j : ℕ) → get_or on j 0 < 65536) → Sets on
+typed_sets l f = record { long = l; small = λ j h. f j }
 
 -- a set with a value has its lowest
 pub lowest_in : {on : List ℕ} → Sets on → (j : ℕ) → Queried on j → (lowest_of on j < 16) × T (bit (get_or on j 0) (lowest_of on j))
@@ -242,9 +248,9 @@ module _ {lines on : List ℕ} (S : Sets on) where
       }
 
 -- one does not
-module _ {on : List ℕ} (S : Sets on) (N : Next on 32) where
+module _ {on : List ℕ} (S : Sets on) (N : Next on None) where
   one : (i : ℕ) → Queried on i → (c : ℕ) → T (bit (get_or on i 0) c) → c ≡ lowest_of on i
-  one i b c t = only (get_or on i 0) c (S.small i b.0) (N.none (omega arith) i b.0) t
+  one i b c t = only (get_or on i 0) c (S.small i b.0) (N.none refl i b.0) t
 
   module _ {lines : List ℕ} (k : ℕ) (a : Queried on k) (j : ℕ) (l : j < 32) (h : barred_at lines on (line_start k (lowest_of on k)) j ≡ true) where
     q_line : (q : ℕ → ℕ) → PlanWithin lines on q → (c : ℕ) → T (bit (get_or on j 0) c) → T (bit (line_word lines k (lowest_of on k) j) c)
@@ -267,6 +273,12 @@ module _ {on : List ℕ} (S : Sets on) (N : Next on 32) where
         }
 
 -- ---- the next variable
+
+pub next_some : {on : List ℕ} {i : ℕ} → i < 32 → without_lowest (get_or on i 0) ≢ 0 → Next on (Some i)
+next_some {on} {i} l d = record { some = λ j e. subst (λ (k : ℕ). (k < 32) × (without_lowest (get_or on k 0) ≢ 0)) (same_Some i j e) (l, d); none = λ e. absurd (none-some i (sym e)) }
+
+pub next_none : {on : List ℕ} → ((j : ℕ) → j < 32 → without_lowest (get_or on j 0) ≡ 0) → Next on None
+next_none f = record { some = λ i e. absurd (none-some i e); none = λ e. f }
 
 -- no variable so far has more than one value
 pub record ClosedBelow (on : List ℕ) (n : ℕ) : Type 0 where

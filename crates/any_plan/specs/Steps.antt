@@ -1,9 +1,9 @@
 -- What the parts of the search for any plan rely on and promise.
-use Rattle.std.specs.Prelude.{◌≡◌, Bool, true, false, not, ◌&&◌, List, ◌≢◌, ℕ, ◌+◌, ◌≤◌, ◌<◌, T, eqb, length, get_or}
+use Rattle.std.specs.Prelude.{◌≡◌, Bool, true, false, not, ◌&&◌, List, Option, None, Some, ◌≢◌, ℕ, ◌+◌, ◌<◌, T, eqb, length, get_or}
 use Rattle.std.specs.Int.Bits.{bit_and}
 use Rattle.bounded.specs.Quantifiers.{lowest, any_below, count_below}
 use Rattle.bounded.specs.Mask.{bit, without}
-use Rattle.lines.specs.Lines.{lines_length, line_start}
+use Rattle.lines.specs.Lines.{line_start}
 use Rattle.any_plan.specs.Question.{Sets, Queried, PlanWithin}
 
 -- what is left of a set without its lowest value: nothing where it has at most one
@@ -16,11 +16,6 @@ open_at on j = not (eqb (without_lowest (get_or on j 0)) 0)
 
 abbrev pub open_count : List ℕ → ℕ
 open_count on = count_below 32 (open_at on)
-
--- the lines and the sets that a question is about
-pub record Posed (lines on : List ℕ) : Type 0 where
-  pub full : length lines ≡ lines_length
-  pub sets : Sets on
 
 -- of the sets `on` these are left: no new value, no set emptied, every plan kept
 pub record Pruned (lines on left : List ℕ) : Type 0 where
@@ -48,10 +43,10 @@ pub record Met (lines on : List ℕ) (p : ℕ) (dead : Bool) (left : List ℕ) :
   pub each : (j : ℕ) → j < 32 → get_or left j 0 ≡ met_at lines on p j
   pub emptied : dead ≡ any_below 32 (emptied_at lines on p)
 
--- i has more than one value; or i is 32, and no variable has
-pub record Next (on : List ℕ) (i : ℕ) : Type 0 where
-  pub some : i < 32 → without_lowest (get_or on i 0) ≢ 0
-  pub none : 32 ≤ i → (j : ℕ) → j < 32 → without_lowest (get_or on j 0) ≡ 0
+-- a variable that has more than one value; or none, and no variable has
+pub record Next (on : List ℕ) (r : Option ℕ) : Type 0 where
+  pub some : (i : ℕ) → r ≡ Some i → (i < 32) × (without_lowest (get_or on i 0) ≢ 0)
+  pub none : r ≡ None → (j : ℕ) → j < 32 → without_lowest (get_or on j 0) ≡ 0
 
 -- a set has a value that the line at p does not have
 abbrev pub barred_at : (lines on : List ℕ) (p j : ℕ) → Bool

@@ -1,52 +1,44 @@
 -- What the search in code concludes at the next variable, once it is settled whether a plan goes on from its lowest value. Assumes nothing.
 use mathlib.Core.Path.{◌≡◌, refl, sym, ap, subst, ◌∙◌, fun_ext}
-use mathlib.Core.Bool.{Bool, true, false}
 use mathlib.Core.List.{List}
 use mathlib.Core.Logic.{◌≢◌}
 use Prim.Native.Nat.{ℕ, ◌≤◌, ◌<◌}
 use native.Mathlib.Omega.{arith}
 use lib.Dec.{T}
 use lib.ListN.{length, get_or, set}
+use Rattle.std.specs.Prelude.{Option, None, Some}
 use Rattle.bounded.specs.Quantifiers.{lowest}
 use Rattle.bounded.specs.Mask.{bit}
 use Rattle.bounded.proofs.Truth.{T_not}
 use Rattle.bounded.proofs.Quantifiers.{lowest_least, lowest_passes}
 use Rattle.bounded.proofs.Mask.{bit_none, member_some}
 use Rattle.bounded.proofs.Members.{lowest_member, part_le, part_lt}
-use Rattle.problem.specs.Problem.{Problem, State, remove}
+use Rattle.problem.specs.Problem.{State, remove}
 use Rattle.problem.specs.Held.{held}
 use Rattle.problem.specs.Masks.{state_of, masks_of}
 use Rattle.problem.specs.declared.Masks.{Masks}
 use Rattle.problem.proofs.Reflect.{remove_live, remove_fits}
-use Rattle.problem.specs.Sentences.{Active, Live, Fits, Solvable}
+use Rattle.problem.specs.Sentences.{Active, Live}
 use Rattle.problem.proofs.HeldTable.{held_few}
 use Rattle.held.specs.Ready.{Ready}
-use Rattle.held.proofs.Laws.{active_32}
 use Rattle.held.proofs.After.{state_held, ready_held}
 use Rattle.lines.specs.Lines.{Drawn}
 use Rattle.lines.proofs.Laws.{drawn_less}
 use Rattle.any_plan.specs.Question.{lowest_of}
-use Rattle.first_plan.specs.First.{found, none, first_plan}
-use Rattle.asked_plan.specs.Steps.{choose, NextChoice, Knows, GoesOn}
+use Rattle.first_plan.specs.First.{found, first_plan}
+use Rattle.first_plan.specs.Steps.{choose, NextChoice}
+use Rattle.asked_plan.specs.Steps.{Knows, GoesOn}
 use Rattle.first_plan.specs.declared.Found.{Found}
-use Rattle.asked_plan.proofs.Prune.{first_unsolved, remove_keeps, first_refuted, first_done, first_taken, choose_active}
+use Rattle.first_plan.proofs.Prune.{remove_keeps, first_refuted, first_done, first_taken, choose_active}
 use Rattle.asked_plan.proofs.Questions.{next_says, next_ready, next_keeps}
 
 -- ---- the ends
-
--- a state without a plan
-pub unsolved_first : {P : Problem} {s : State} → Fits P s → (Solvable P s → ⊥) → (w : List ℕ) → none w ≡ first_plan P s w
-unsolved_first F h w = sym (first_unsolved F (λ q A. h (q, A)) w)
 
 module _ {t : List ℕ} {m : Masks} (R : Ready t m) where
   -- no variable is active
   pub none_active : m.active ≡ 0 → (w : List ℕ) → found w ≡ first_plan (held t) (state_of m) w
   unfolding state_of
   none_active e w = sym (first_done R.fits (λ j h. T_not (ap (λ (x : ℕ). bit x j) e ∙ bit_none j) h) w)
-
-  pub pick_done : (i : ℕ) → i ≡ lowest 32 (bit m.active) → 32 ≤ i → (w : List ℕ) → found w ≡ first_plan (held t) (state_of m) w
-  unfolding state_of
-  pick_done i e l w = sym (first_done R.fits (λ j h. let k : j < 32 = active_32 R j h in lowest_least 32 (bit m.active) j (omega arith) h) w)
 
 -- ---- the next variable
 
@@ -90,8 +82,8 @@ module _ {t : List ℕ} {m : Masks} (R : Ready t m) (i v : ℕ) (X : NextChoice 
           kept : (c : ℕ) → T (bit next.active c) → Active (state_of m) c × (c ≢ i)
           kept c h = (choose_active R.fits i v c).0 (subst T (ap (λ (s : State). s.active c) says) h)
 
-      pub taken_known : {r : Bool} {after : List ℕ} → GoesOn (held t) (state_of m) i v r after → r ≡ true → Knows (held t) (state_of next) after
-      taken_known {after = after} G y = record { long = G.knows.long; plan = next_keeps R i v value_live is (lowest_of after) (G.yes y) G.knows.plan }
+      pub taken_known : {r : Option Masks} {after : List ℕ} → GoesOn (held t) (state_of m) i v r after → r ≡ Some next → Knows (held t) (state_of next) after
+      taken_known {after = after} G y = record { long = G.knows.long; plan = next_keeps R i v value_live is (lowest_of after) (G.yes next y).1 G.knows.plan }
 
       -- the first plan with it is the first
       pub taken : (w x : List ℕ) → length w ≡ 32 → found x ≡ first_plan (held t) (state_of next) (set w i v) → found x ≡ first_plan (held t) (state_of m) w
@@ -130,7 +122,7 @@ module _ {t : List ℕ} {m : Masks} (R : Ready t m) (i v : ℕ) (X : NextChoice 
       unfolding state_of
       still_next = record { variable = X.variable; lowest = X.lowest ∙ ap (lowest 32) (fun_ext (λ j. sym (same j))) }
 
-      module _ {r : Bool} {after : List ℕ} (G : GoesOn (held t) (state_of m) i v r after) (n : r ≡ false) where
+      module _ {r : Option Masks} {after : List ℕ} (G : GoesOn (held t) (state_of m) i v r after) (n : r ≡ None) where
         pub left_known : Knows (held t) (state_of rest) after
         left_known = record { long = G.knows.long; plan = rw left_says (remove_keeps R.fits i v (lowest_of after) (G.no n (lowest_of after) G.knows.plan) G.knows.plan) }
 

@@ -3,45 +3,29 @@ use mathlib.Core.Path.{◌≡◌, sym, ap, subst, ◌∙◌}
 use mathlib.Core.List.{List}
 use mathlib.Core.Logic.{◌⊎◌, inl, inr, ◌≢◌}
 use Prim.Native.Nat.{ℕ, ◌<◌, ◌≤◌}
-use native.Mathlib.Nat.{lt_of_le_of_lt}
 use native.Mathlib.Omega.{arith}
-use lib.Bits.{bit_and, and_le_l}
+use lib.Bits.{bit_and}
 use lib.Dec.{T}
 use lib.ListN.{get_or, set, length-set}
 use lib.Seq.{get_or-set_same, get_or-set_other, ext_get_or}
-use Rattle.bounded.specs.Mask.{bit, mask_of, without}
+use Rattle.bounded.specs.Mask.{bit}
 use Rattle.bounded.specs.Table.{tab}
-use Rattle.bounded.proofs.Truth.{T_false, T_ext, and_iff, eq_dec}
-use Rattle.bounded.proofs.Mask.{bit_and_lem, bit_none, bit_without32, mask_is}
+use Rattle.bounded.proofs.Truth.{T_ext, and_iff, eq_dec}
+use Rattle.bounded.proofs.Mask.{bit_and_lem, mask_is}
 use Rattle.bounded.proofs.Table.{length_tab, get_d_tab}
 use Rattle.problem.specs.Held.{held}
 use Rattle.problem.specs.Masks.{state_of}
 use Rattle.problem.specs.declared.Masks.{Masks}
-use Rattle.problem.specs.Sentences.{Active, Live}
+use Rattle.problem.specs.Sentences.{Live}
 use Rattle.held.specs.Ready.{Ready}
 use Rattle.held.proofs.Laws.{word_lt}
 use Rattle.lines.specs.Lines.{line_start, line_word, Drawn}
 use Rattle.any_plan.proofs.Laws.{MetTo}
-use Rattle.asked_plan.specs.Steps.{choose}
-use Rattle.asked_plan.proofs.Prune.{choose_active, choose_live}
-
--- the set of k in the state with the choice made
-abbrev chosen : List ℕ → Masks → (i v k : ℕ) → ℕ
-chosen t m i v k = mask_of 16 ((choose (held t) (state_of m) i v).live k)
+use Rattle.first_plan.specs.Steps.{choose}
+use Rattle.first_plan.proofs.Choices.{chosen, no_word}
+use Rattle.first_plan.proofs.Prune.{choose_active, choose_live}
 
 module _ {t : List ℕ} {m : Masks} (R : Ready t m) (i v : ℕ) where
-  -- i itself, and a variable that is not active
-  no_word : (k : ℕ) → (Active (choose (held t) (state_of m) i v) k → ⊥) → 0 ≡ chosen t m i v k
-  no_word k n =
-      mask_is 16 0 ((choose (held t) (state_of m) i v).live k) (omega arith)
-      (λ c j. bit_none c ∙ sym (T_false _ (λ h. let x = (choose_live R.fits i v k c).0 h in n ((choose_active R.fits i v k).1 (R.fits.live_active k c x.0, x.1.0)))))
-
-  pub choose_rest : i < 32 → without 32 m.active i ≡ mask_of 32 (choose (held t) (state_of m) i v).active
-  unfolding choose state_of
-  choose_rest p =
-      mask_is 32 (without 32 m.active i) (choose (held t) (state_of m) i v).active (lt_of_le_of_lt (and_le_l m.active _) R.proper.active_lt)
-      (λ c k. bit_without32 m.active i c p k)
-
   -- another variable: what is left of its set by the line of v
   module _ {lines : List ℕ} (o : Live (state_of m) i v) (D : Drawn (held t) (state_of m) lines) where
     line_word_lem : (j : ℕ) → j < 32 → j ≢ i → bit_and (get_or m.domains j 0) (line_word lines i v j) ≡ chosen t m i v j
@@ -63,5 +47,5 @@ module _ {t : List ℕ} {m : Masks} (R : Ready t m) (i v : ℕ) where
         (λ j h. let k : j < 32 = omega (arith, length-set on i 0, M.long) in at j k (eq_dec j i) ∙ sym (get_d_tab 32 (chosen t m i v) j 0 k))
       where
         at : (j : ℕ) → j < 32 → (j ≡ i) ⊎ (j ≢ i) → get_or (set on i 0) j 0 ≡ chosen t m i v j
-        at j k (inl e) = ap (λ (x : ℕ). get_or (set on i 0) x 0) e ∙ get_or-set_same on i 0 0 (omega (arith, M.long)) ∙ no_word j (λ h. ((choose_active R.fits i v j).0 h).1 e)
+        at j k (inl e) = ap (λ (x : ℕ). get_or (set on i 0) x 0) e ∙ get_or-set_same on i 0 0 (omega (arith, M.long)) ∙ no_word R i v j (λ h. ((choose_active R.fits i v j).0 h).1 e)
         at j k (inr d) = get_or-set_other on i j 0 0 d ∙ M.done j (omega arith) ∙ line_word_lem j k d

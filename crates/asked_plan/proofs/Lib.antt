@@ -1,4 +1,3 @@
 mod Branches
 mod Choices
-mod Prune
 mod Questions

@@ -9,9 +9,11 @@ use native.Mathlib.Omega.{arith}
 use lib.Dec.{T}
 use lib.ListN.{length, get_or, set, length-set}
 use lib.Seq.{get_or-set_same, get_or-set_other}
+use Rattle.std.specs.Prelude.{Option, None, Some}
+use Rattle.std.proofs.lemmas.Option.{none-some, same_Some}
 use Rattle.bounded.specs.Quantifiers.{lowest}
 use Rattle.bounded.specs.Mask.{bit}
-use Rattle.bounded.proofs.Truth.{T_not, T_of, clash, eqb_iff, eq_dec}
+use Rattle.bounded.proofs.Truth.{T_not, T_of, eqb_iff, eq_dec}
 use Rattle.bounded.proofs.Quantifiers.{lowest_unique}
 use Rattle.bounded.proofs.Mask.{bit_single, member_some}
 use Rattle.bounded.proofs.Members.{lowest_member}
@@ -27,9 +29,9 @@ use Rattle.held.proofs.After.{state_held, ready_held}
 use Rattle.lines.specs.Lines.{line_word, Drawn}
 use Rattle.lines.proofs.Laws.{drawn_less}
 use Rattle.any_plan.specs.Question.{Queried, PlanWithin, lowest_of, AnyPlan}
-use Rattle.any_plan.specs.Steps as question
-use Rattle.asked_plan.specs.Steps.{choose, Knows, Answered, GoesOn}
-use Rattle.asked_plan.proofs.Prune.{choose_active, choose_live, choose_fits, choose_keeps, choose_back}
+use Rattle.first_plan.specs.Steps.{choose}
+use Rattle.asked_plan.specs.Steps.{Knows, Answered, GoesOn}
+use Rattle.first_plan.proofs.Prune.{choose_active, choose_live, choose_fits, choose_keeps, choose_back}
 
 -- ---- a question of a state
 
@@ -45,14 +47,10 @@ module _ {t : List ℕ} {m : Masks} (R : Ready t m) where
   live_asked j c o = (active_32 R j (R.fits.live_active j c o), member_some (get_or m.domains j 0) c o)
 
   -- an active variable without a value: no plan
-  pub empty_answered : none_empty (held t) (state_of m) ≡ false → (known : List ℕ) → Answered (held t) (state_of m) known false known
-  empty_answered e known =
-      record { yes = λ f. absurd (clash {b = false} f refl); no = λ _. (refl, λ q A. T_not e ((none_empty_iff R.fits).1 (λ j h. (q j, A.live j h)))) }
+  pub empty_answered : none_empty (held t) (state_of m) ≡ false → Answered (held t) (state_of m) None
+  empty_answered e = record { yes = λ k f. absurd (none-some k f); no = λ _ q A. T_not e ((none_empty_iff R.fits).1 (λ j h. (q j, A.live j h))) }
 
   module _ {lines : List ℕ} (D : Drawn (held t) (state_of m) lines) where
-    pub question_ready : question.Posed lines m.domains
-    question_ready = record { full = D.long; sets = record { long = R.proper.length_is; small = R.proper.domain_lt } }
-
     -- a plan of the state is one within its domains
     solution_within : (q : ℕ → ℕ) → Solution (held t) (state_of m) q → PlanWithin lines m.domains q
     unfolding state_of
@@ -77,14 +75,14 @@ module _ {t : List ℕ} {m : Masks} (R : Ready t m) where
         live j h = W.among j (asked j h)
 
     -- what the question answers
-    pub no_answered : {left : List ℕ} {r : Bool} → AnyPlan lines m.domains r left → r ≡ false → (known : List ℕ) → Answered (held t) (state_of m) known false known
-    no_answered O e known = record { yes = λ f. absurd (clash {b = false} f refl); no = λ _. (refl, λ q A. O.no e q (solution_within q A)) }
+    pub no_answered : {left : List ℕ} {r : Bool} → AnyPlan lines m.domains r left → r ≡ false → Answered (held t) (state_of m) None
+    no_answered O e = record { yes = λ k f. absurd (none-some k f); no = λ _ q A. O.no e q (solution_within q A) }
 
-    pub yes_answered : {left : List ℕ} {r : Bool} → none_empty (held t) (state_of m) ≡ true → AnyPlan lines m.domains r left → r ≡ true → (known : List ℕ) → Answered (held t) (state_of m) known true left
-    yes_answered {left} n O e known =
+    pub yes_answered : {left : List ℕ} {r : Bool} → none_empty (held t) (state_of m) ≡ true → AnyPlan lines m.domains r left → r ≡ true → Answered (held t) (state_of m) (Some left)
+    yes_answered {left} n O e =
         record {
-          yes = λ _. record { long = O.sets.long; plan = within_solution ((none_empty_iff R.fits).0 (T_of n)) (lowest_of left) (O.yes e) };
-          no = λ f. absurd (clash {b = true} refl f);
+          yes = λ k f. subst (Knows (held t) (state_of m)) (same_Some left k f) (record { long = O.sets.long; plan = within_solution ((none_empty_iff R.fits).0 (T_of n)) (lowest_of left) (O.yes e) });
+          no = λ f. absurd (none-some left (sym f));
         }
 
 -- ---- a question of the state with a choice made
@@ -94,8 +92,9 @@ solution_same : {P : Problem} {s : State} {q p : ℕ → ℕ} → ((j : ℕ) →
 solution_same e A = record { live = λ j h. rw (e j h) (A.live j h); ok = λ j k hj hk d. rw (e j hj, e k hk) (A.ok j k hj hk d) }
 
 -- the known plan has v at i
-pub known_goes_on : {P : Problem} {s : State} {known : List ℕ} {i v : ℕ} → Knows P s known → lowest_of known i ≡ v → GoesOn P s i v true known
-known_goes_on K g = record { knows = K; yes = λ _. g; no = λ f. absurd (clash {b = true} refl f) }
+pub known_goes_on : {P : Problem} {s : State} {known : List ℕ} {i v : ℕ} {next : Masks} → next ≡ masks_of (choose P s i v) → Knows P s known → lowest_of known i ≡ v → GoesOn P s i v (Some next) known
+known_goes_on {P} {s} {i = i} {v} {next} e K g =
+    record { knows = K; yes = λ m f. (sym (same_Some next m f) ∙ e, g); no = λ f. absurd (none-some next (sym f)) }
 
 -- v alone is written at i: it is the lowest there, and nothing else changes
 written_own : (known : List ℕ) (i v : ℕ) → i < length known → v < 16 → lowest_of (set known i (2 ^ v)) i ≡ v
@@ -123,21 +122,15 @@ module _ {t : List ℕ} {m : Masks} (R : Ready t m) (i v : ℕ) (o : Live (state
   next_keeps q g A = rw next_says (choose_keeps R.fits i v o q g A)
 
   -- no plan has v at i
-  pub none_goes_on : {known after : List ℕ} {r : Bool} → Knows (held t) (state_of m) known → Answered (held t) (state_of next) known r after → r ≡ false → GoesOn (held t) (state_of m) i v false after
-  none_goes_on K A f =
-      let x = A.no f in
-      record {
-        knows = subst (Knows (held t) (state_of m)) (sym x.0) K;
-        yes = λ g. absurd (clash {b = false} g refl);
-        no = λ _ q S g. x.1 q (next_keeps q g S);
-      }
+  pub none_goes_on : {known : List ℕ} {r : Option (List ℕ)} → Knows (held t) (state_of m) known → Answered (held t) (state_of next) r → r ≡ None → GoesOn (held t) (state_of m) i v None known
+  none_goes_on K A f = record { knows = K; yes = λ k g. absurd (none-some k g); no = λ _ q S g. A.no f q (next_keeps q g S) }
 
   -- the question found one
-  pub found_goes_on : {known after : List ℕ} {r : Bool} → Answered (held t) (state_of next) known r after → r ≡ true → GoesOn (held t) (state_of m) i v true (set after i (2 ^ v))
-  found_goes_on {after = after} A f = known_goes_on (record { long = length-set after i (2 ^ v) ∙ K.long; plan = plan }) own
+  pub found_goes_on : {after : List ℕ} {r : Option (List ℕ)} → Answered (held t) (state_of next) r → r ≡ Some after → GoesOn (held t) (state_of m) i v (Some next) (set after i (2 ^ v))
+  found_goes_on {after = after} A f = known_goes_on e (record { long = length-set after i (2 ^ v) ∙ K.long; plan = plan }) own
     where
       K : Knows (held t) (state_of next) after
-      K = A.yes f
+      K = A.yes after f
 
       own : lowest_of (set after i (2 ^ v)) i ≡ v
       own = let l = live_value R i v o in written_own after i v (omega (arith, K.long, l.variable)) l.value

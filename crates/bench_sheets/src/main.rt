@@ -1,21 +1,17 @@
 // Runs the bench cases: each line of standard input is a job and its input as hexadecimal digits, and each answer is one line.
 // A line that starts with # is passed over. What is written is compared with the file stdout.
 //
-// The input is read in pieces into 65,536 bytes, so a line has at most that many, its newline included; the longest case has half of it.
-// A longer line ends the program with a line that says so, and that no file stdout has. The last line may end without a newline.
+// How the input is read, and what ends the program, is `cases::run`'s: the longest case is half of the longest line that it takes.
 #![tactic(auto)]
 
-ghost use Rattle.std.specs.Prelude.{◌≡◌, ◌≤◌, length, IfOk, OnErr};
-ghost use Rattle.cases.specs.Counts.{IsPrefixLen};
-
-use hand::{CallAnswer, CallOutcome, HandState, StartAnswer, StartOutcome};
-use pick::{PickOutcome, Picked};
-use problem::{End, Masks};
-use put_back::{PutBackOutcome, PutBackRefusal};
-use run::{RunAnswer, RunOutcome};
-use sheet::SheetRead;
+use hand::{CallAnswer, HandState, StartAnswer};
+use pick::Picked;
+use problem::Masks;
+use put_back::PutBackRefusal;
+use run::{Finished, RunAnswer};
+use sheet::{Counts, SheetRefusal};
 use std::io;
-use std::io::{Input, Read, Write};
+use std::io::{Input, Write};
 
 // A line `read SHEET`.
 fn do_read<W: Write>(answers: &mut W, fields: &[u8]) -> io::Result<()> {
@@ -24,17 +20,19 @@ fn do_read<W: Write>(answers: &mut W, fields: &[u8]) -> io::Result<()> {
     show_read(answers, read_sheet::read_sheet(&sheet[..n]))
 }
 
-fn show_read<W: Write>(answers: &mut W, a: SheetRead) -> io::Result<()> {
+fn show_read<W: Write>(answers: &mut W, a: Result<Counts, SheetRefusal>) -> io::Result<()> {
     match a {
-        SheetRead::Refused(r) => {
-            cases::show_number(answers, b"refused ", sheet::sheet_number(r) as usize)?;
+        Ok(counts) => {
+            cases::show_number(answers, b"accepted ", counts.variables)?;
+            cases::show_number(answers, b" ", counts.blocks)?;
         }
-        SheetRead::Accepted { variables, blocks } => {
-            cases::show_number(answers, b"accepted ", variables)?;
-            cases::show_number(answers, b" ", blocks)?;
-        }
+        Err(r) => show_refused(answers, u8::from(r))?,
     }
     cases::show(answers, b"\n")
+}
+
+fn show_refused<W: Write>(answers: &mut W, number: u8) -> io::Result<()> {
+    cases::show_number(answers, b"refused ", number as usize)
 }
 
 // A line `work LENGTH SHEET`: the run with a buffer of so many bytes, four digits.
@@ -55,35 +53,19 @@ fn run_part<W: Write>(answers: &mut W, s: &[u8], b: &mut [u8]) -> io::Result<()>
 }
 
 fn show_run<W: Write>(answers: &mut W, a: RunAnswer, b: &[u8]) -> io::Result<()> {
-    let o = a.outcome;
-    match o {
-        RunOutcome::Refused(r) => {
-            cases::show_number(answers, b"refused ", run::run_number(r) as usize)?;
-        }
-        RunOutcome::Done {
-            end,
-            steps,
-            written,
-        } => {
-            show_ran(answers, b"done ", end, steps, written, a.state)?;
-        }
+    match a.outcome {
+        Ok(run) => show_ran(answers, b"done ", run, a.state)?,
+        Err(r) => show_refused(answers, u8::from(r))?,
     }
     cases::show_buffer(answers, b)
 }
 
 // A word, and the run's answer behind it.
-fn show_ran<W: Write>(
-    answers: &mut W,
-    word: &[u8],
-    end: End,
-    steps: usize,
-    written: usize,
-    m: Masks,
-) -> io::Result<()> {
-    cases::show_number(answers, word, run::end_number(end) as usize)?;
-    cases::show_number(answers, b" ", steps)?;
-    cases::show_number(answers, b" ", written)?;
-    cases::show(answers, b" ")?;
+fn show_ran<W: Write>(answers: &mut W, word: &[u8], run: Finished, m: Masks) -> io::Result<()> {
+    cases::show_number(answers, word, run::end_number(run.end) as usize)?;
+    let steps = run.steps;
+    let written = run.written;
+    write!(answers, " {steps} {written} ")?;
     cases::show_masks(answers, m)
 }
 
@@ -95,23 +77,18 @@ fn do_start<W: Write>(answers: &mut W, fields: &[u8]) -> io::Result<()> {
 }
 
 fn show_start<W: Write>(answers: &mut W, a: StartAnswer) -> io::Result<()> {
-    let o = a.outcome;
-    match o {
-        StartOutcome::Refused(r) => {
-            cases::show_number(answers, b"refused ", sheet::sheet_number(r) as usize)?;
-        }
-        StartOutcome::Started => {
-            cases::show(answers, b"started")?;
-        }
+    match a.outcome {
+        Ok(()) => cases::show(answers, b"started")?,
+        Err(r) => show_refused(answers, u8::from(r))?,
     }
     show_state(answers, a.state)
 }
 
 // The state at the end of an answer's line.
 fn show_state<W: Write>(answers: &mut W, s: HandState) -> io::Result<()> {
-    cases::show(answers, b" ")?;
+    write!(answers, " ")?;
     cases::show_masks(answers, s.masks)?;
-    cases::show(answers, b"\n")
+    writeln!(answers)
 }
 
 // A line `hand ITEM STATE SHEET`: the item as 16 digits, the state as 136.
@@ -128,14 +105,9 @@ fn do_hand<W: Write>(answers: &mut W, fields: &[u8]) -> io::Result<()> {
 }
 
 fn show_call<W: Write>(answers: &mut W, a: CallAnswer) -> io::Result<()> {
-    let o = a.outcome;
-    match o {
-        CallOutcome::Refused(r) => {
-            cases::show_number(answers, b"refused ", hand::hand_number(r) as usize)?;
-        }
-        CallOutcome::Eliminated(v) => {
-            cases::show_number(answers, b"taken ", v)?;
-        }
+    match a.outcome {
+        Ok(v) => cases::show_number(answers, b"taken ", v)?,
+        Err(r) => show_refused(answers, u8::from(r))?,
     }
     show_state(answers, a.state)
 }
@@ -197,14 +169,16 @@ fn show_carried<W: Write>(answers: &mut W, r: PutBackRefusal) -> io::Result<()> 
     }
 }
 
-fn show_back<W: Write>(answers: &mut W, a: PutBackOutcome, out: &[u8]) -> io::Result<()> {
+fn show_back<W: Write>(
+    answers: &mut W,
+    a: Result<(), PutBackRefusal>,
+    out: &[u8],
+) -> io::Result<()> {
     match a {
-        PutBackOutcome::Refused(r) => {
-            cases::show_number(answers, b"refused ", put_back::put_back_number(r) as usize)?;
+        Ok(()) => cases::show(answers, b"done")?,
+        Err(r) => {
+            show_refused(answers, u8::from(r))?;
             show_carried(answers, r)?;
-        }
-        PutBackOutcome::Done => {
-            cases::show(answers, b"done")?;
         }
     }
     cases::show_buffer(answers, out)
@@ -236,96 +210,30 @@ fn pick_part<W: Write>(answers: &mut W, s: &[u8], b: &mut [u8], plan: &mut [u8])
 }
 
 fn show_pick<W: Write>(answers: &mut W, a: Picked, b: &[u8], plan: &[u8]) -> io::Result<()> {
-    let o = a.outcome;
-    match o {
-        PickOutcome::Refused(r) => {
-            cases::show_number(answers, b"refused ", pick::pick_number(r) as usize)?;
+    match a.outcome {
+        Ok(found) => {
+            let word: &[u8] = if found.plan { b"plan " } else { b"none " };
+            show_ran(answers, word, found.run, a.state)?;
         }
-        PickOutcome::Plan {
-            end,
-            steps,
-            written,
-        } => {
-            show_ran(answers, b"plan ", end, steps, written, a.state)?;
-        }
-        PickOutcome::None {
-            end,
-            steps,
-            written,
-        } => {
-            show_ran(answers, b"none ", end, steps, written, a.state)?;
-        }
+        Err(r) => show_refused(answers, u8::from(r))?,
     }
     cases::show(answers, b" ")?;
     cases::show_bytes(answers, b)?;
     cases::show_buffer(answers, plan)
 }
 
-// A line: its first letter names the job, and the fields stand behind the first space. One too short for a job's word is passed over.
-fn line<W: Write>(answers: &mut W, text: &[u8]) -> io::Result<()> {
-    if text.len() < 5 {
-        return Ok(());
-    }
-    let job = text[0];
-    let fields = &text[cases::next_field(text)..];
-    match job {
-        b'r' => do_read(answers, fields),
-        b'w' => do_work(answers, fields),
-        b's' => do_start(answers, fields),
-        b'h' => do_hand(answers, fields),
-        b'b' => do_back(answers, fields),
-        b'p' => do_pick(answers, fields),
-        _ => Ok(()),
-    }
-}
-
-fn lines<W: Write>(answers: &mut W, text: &[u8]) -> io::Result<()> {
-    let mut at: usize = 0;
-    while at < text.len() {
-        let next = cases::next_line(text, at);
-        line(answers, &text[at..next])?;
-        at = next;
-    }
-    Ok(())
-}
-
-// The lines that end in the first n bytes. What is left of them goes to the front: how many bytes these are.
-fn piece<W: Write>(answers: &mut W, text: &mut [u8], n: usize) -> io::Result<usize>
-    requires { n ≤ length text.old }
-    ensures ok { IfOk result (λ k. k ≤ length text.new) }
-    ensures err { OnErr result (length text.new ≡ length text.old) }
-{
-    let end = cases::lines_end(text, n);
-    lines(answers, &text[..end])?;
-    Ok(cases::keep(text, end, n))
-}
-
-// What is left where no more can be read: the last line, or the start of a line that does not fit.
-fn last<W: Write>(answers: &mut W, text: &[u8], held: usize) -> io::Result<()>
-    requires { IsPrefixLen held text.now }
-{
-    if held == text.len() {
-        return cases::show(answers, b"a line is too long\n");
-    }
-    lines(answers, &text[..held])
-}
-
-// Reads and runs the input. A proved loop has to end, and nothing says that the input does: the turns are more than any run uses up.
-fn run<R: Read, W: Write>(input: &mut R, answers: &mut W, text: &mut [u8]) -> io::Result<()> {
-    let mut held: usize = 0;
-    let mut turns = u64::MAX;
-    while turns > 0 {
-        let n = cases::read_on(input, text, held)?;
-        if n == held {
-            return last(answers, text, held);
-        }
-        held = piece(answers, text, n)?;
-        turns -= 1;
-    }
-    Ok(())
-}
-
 fn main(rt: HostRuntime) -> io::Result<()> {
-    let mut text = [0u8; 65536];
-    run(&mut rt.reader(), &mut io::writer(&rt), &mut text)
+    cases::run(
+        &mut rt.reader(),
+        &mut io::writer(&rt),
+        |answers, job, fields| match job {
+            b'r' => do_read(answers, fields),
+            b'w' => do_work(answers, fields),
+            b's' => do_start(answers, fields),
+            b'h' => do_hand(answers, fields),
+            b'b' => do_back(answers, fields),
+            b'p' => do_pick(answers, fields),
+            _ => Ok(()),
+        },
+    )
 }

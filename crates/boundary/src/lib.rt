@@ -10,6 +10,10 @@ use problem::Masks;
 
 // ---- the state's bytes
 
+// The bytes of a run's state: the active variables in 4, then 32 domains in 2 each, big-endian. A hand state holds a run's state and nothing
+// else, so that it has as many.
+pub const STATE_LENGTH: usize = 68;
+
 // The state that 68 bytes say.
 pub fn read_state(b: &[u8]) -> Masks
     requires { length b.now ≡ state_length }
@@ -17,10 +21,8 @@ pub fn read_state(b: &[u8]) -> Masks
 {
     let mut m = problem::empty_masks();
     m.active = long(b, 0) as u32;
-    let mut i: usize = 0;
-    while i < 32 {
+    for i in 0..32 {
         m.domains[i] = word(b, 4 + 2 * i) as u16;
-        i += 1;
     }
     m
 }
@@ -32,10 +34,8 @@ pub fn put_state(b: &mut [u8], m: Masks)
 {
     put_word(b, 0, (m.active / 65536) as u16);
     put_word(b, 2, (m.active % 65536) as u16);
-    let mut i: usize = 0;
-    while i < 32 {
+    for i in 0..32 {
         put_word(b, 4 + 2 * i, m.domains[i]);
-        i += 1;
     }
 }
 

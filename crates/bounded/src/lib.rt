@@ -1,87 +1,108 @@
 // Sets of small numbers as masks.
 #![tactic(auto)]
 
-ghost use Rattle.std.specs.Prelude.{◌≡◌, cond, ◌≢◌, ◌-◌, ◌^◌, ◌<◌, ◌≤◌};
+ghost use Rattle.std.specs.Prelude.{◌≡◌, ℕ, cond, ◌≢◌, ◌-◌, ◌^◌, ◌<◌, ◌≤◌};
 ghost use Rattle.std.specs.Int.Bits.{bit_or};
 ghost use Rattle.bounded.specs.Quantifiers.{lowest, one_if};
 ghost use Rattle.bounded.specs.Mask.{bit, without as without_of, Highest};
 
-// Whether c is in a set of 32.
-pub fn has32(x: u32, c: usize) -> bool
-    requires { c < 32 }
-    ensures { result ≡ bit x c }
-{
-    (x >> c) % 2 == 1
+// A set of small numbers as a word: c is in it where the bit worth 2 ^ c is set. What it means and what each method answers is said once, for
+// the words of both widths.
+pub trait Set: Copy {
+    // The numbers that a set may have are those below this one.
+    ghost WIDTH: { ℕ };
+
+    // The word as a number.
+    ghost word: { Self → ℕ };
+
+    // Whether c is in the set.
+    fn has(self, c: usize) -> bool
+        requires { c < WIDTH }
+        ensures { result ≡ bit (word self) c };
+
+    // The set without b.
+    fn without(self, b: usize) -> Self
+        requires { b < WIDTH }
+        ensures { word result ≡ without_of WIDTH (word self) b };
+
+    // The set with b.
+    fn with(self, b: usize) -> Self
+        requires { b < WIDTH }
+        ensures { word result ≡ bit_or (word self) (2 ^ b) };
+
+    // The lowest member; the width where there is none.
+    fn lowest(self) -> usize
+        ensures { result ≡ lowest WIDTH (bit (word self)) };
+
+    // The highest member of a set that is not empty.
+    fn highest(self) -> usize
+        requires { word self ≢ 0 }
+        ensures { Highest WIDTH (word self) result };
+
+    // The set of the numbers below n.
+    fn below(n: usize) -> Self
+        requires { n ≤ WIDTH }
+        ensures { word result ≡ 2 ^ n - 1 };
 }
 
-// Whether c is in a set of 16.
-pub fn has16(x: u16, c: usize) -> bool
-    requires { c < 16 }
-    ensures { result ≡ bit x c }
-{
-    has32(x as u32, c)
+impl Set for u32 {
+    ghost WIDTH = { 32 };
+
+    ghost word = { λ x. x };
+
+    fn has(self, c: usize) -> bool {
+        (self >> c) % 2 == 1
+    }
+
+    fn without(self, b: usize) -> u32 {
+        self & !(1u32 << b)
+    }
+
+    fn with(self, b: usize) -> u32 {
+        self | (1u32 << b)
+    }
+
+    fn lowest(self) -> usize {
+        u32::trailing_zeros(self) as usize
+    }
+
+    fn highest(self) -> usize {
+        31 - u32::leading_zeros(self) as usize
+    }
+
+    fn below(n: usize) -> u32 {
+        (power(n) - 1) as u32
+    }
 }
 
-// A set of 16 without b.
-pub fn without16(x: u16, b: usize) -> u16
-    requires { b < 16 }
-    ensures { result ≡ without_of 16 x b }
-{
-    x & !(1u16 << b)
-}
+impl Set for u16 {
+    ghost WIDTH = { 16 };
 
-// A set of 32 without b.
-pub fn without32(x: u32, b: usize) -> u32
-    requires { b < 32 }
-    ensures { result ≡ without_of 32 x b }
-{
-    x & !(1u32 << b)
-}
+    ghost word = { λ x. x };
 
-// A set of 16 with b.
-pub fn with16(x: u16, b: usize) -> u16
-    requires { b < 16 }
-    ensures { result ≡ bit_or x (2 ^ b) }
-{
-    x | (1u16 << b)
-}
+    fn has(self, c: usize) -> bool {
+        (self as u32).has(c)
+    }
 
-// A set of 32 with b.
-pub fn with32(x: u32, b: usize) -> u32
-    requires { b < 32 }
-    ensures { result ≡ bit_or x (2 ^ b) }
-{
-    x | (1u32 << b)
-}
+    fn without(self, b: usize) -> u16 {
+        self & !(1u16 << b)
+    }
 
-// The lowest member of a set of 16; 16 where it has none.
-pub fn lowest16(x: u16) -> usize
-    ensures { result ≡ lowest 16 (bit x) }
-{
-    u16::trailing_zeros(x) as usize
-}
+    fn with(self, b: usize) -> u16 {
+        self | (1u16 << b)
+    }
 
-// The lowest member of a set of 32; 32 where it has none.
-pub fn lowest32(x: u32) -> usize
-    ensures { result ≡ lowest 32 (bit x) }
-{
-    u32::trailing_zeros(x) as usize
-}
+    fn lowest(self) -> usize {
+        u16::trailing_zeros(self) as usize
+    }
 
-// The highest member of a set of 16 that is not empty.
-pub fn highest16(x: u16) -> usize
-    requires { x ≢ 0 }
-    ensures { Highest 16 x result }
-{
-    15 - u16::leading_zeros(x) as usize
-}
+    fn highest(self) -> usize {
+        15 - u16::leading_zeros(self) as usize
+    }
 
-// The highest member of a set of 32 that is not empty.
-pub fn highest32(x: u32) -> usize
-    requires { x ≢ 0 }
-    ensures { Highest 32 x result }
-{
-    31 - u32::leading_zeros(x) as usize
+    fn below(n: usize) -> u16 {
+        u32::below(n) as u16
+    }
 }
 
 // 2 to the power z.
@@ -90,22 +111,6 @@ pub fn power(z: usize) -> usize
     ensures { result ≡ 2 ^ z }
 {
     1 << z
-}
-
-// The set of the numbers below n, of 32.
-pub fn below32(n: usize) -> u32
-    requires { n ≤ 32 }
-    ensures { result ≡ 2 ^ n - 1 }
-{
-    (power(n) - 1) as u32
-}
-
-// The set of the numbers below n, of 16.
-pub fn below16(n: usize) -> u16
-    requires { n ≤ 16 }
-    ensures { result ≡ 2 ^ n - 1 }
-{
-    below32(n) as u16
 }
 
 // 1 for true, 0 for false.

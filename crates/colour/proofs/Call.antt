@@ -1,17 +1,16 @@
 -- What the number of the exported call tells: a refusal leaves the buffer as it was, everything else is a multiple of 256 from which the bytes
 -- written come back. Stated over the definition that the contract cites. Assumes nothing.
+use Rattle.std.specs.Prelude.{Ok, Err}
 use mathlib.Core.Path.{◌≡◌, sym, ◌∙◌, refl, ap}
 use mathlib.Core.List.{List}
 use Prim.Native.Nat.{ℕ, ◌/◌, ◌%◌, ◌^◌, ◌≤◌, ◌<◌}
-use Rattle.colour.specs.Colour.{colour_job, colour_number}
-use Rattle.colour.specs.declared.Coloured.{Coloured}
+use Rattle.colour.specs.Colour.{Coloured, colour_job, colour_number}
 use Rattle.colour.specs.Call.{colour_crossed, colour_call, ColourCall}
 use mathlib.Core.Logic.{◌⊎◌, inl, inr, ◌≢◌, ◌↔◌}
 use native.Mathlib.Omega.{arith}
 use Rattle.boundary.proofs.Answers.{Refuses, refused_keeps, taken_iff, written_unpacked}
 use Rattle.colour.specs.declared.ColourRefusal.{ColourRefusal}
 use Rattle.colour.specs.declared.ColourRefusal.TheVariants as refusal
-use Rattle.colour.specs.declared.Coloured.TheVariants as coloured
 use Rattle.colour.proofs.Causes.{colour_unaltered}
 use Rattle.colour.proofs.Plans.{colour_longest}
 
@@ -31,7 +30,7 @@ colour_listed refusal.Buffer = (omega arith, omega arith)
 
 module _ (f : List ℕ) (k : ℕ) (b : List ℕ) where
   -- accepted: the bytes written come back, and fit their bits; the buffer is the job's
-  pub colour_unpacked : (w : ℕ) → (colour_job f k b).answer ≡ coloured.Written w
+  pub colour_unpacked : (w : ℕ) → (colour_job f k b).answer ≡ Ok w
       → ((colour_call f k b).answer % 256 ≡ 0) × ((colour_call f k b).answer / 256 ≡ w) × (w < 2 ^ 24) × ((colour_call f k b).sheet ≡ (colour_job f k b).buffer)
   colour_unpacked w o =
       let e = sym (colour_says f k b _ _ refl refl _ o) in
@@ -39,17 +38,17 @@ module _ (f : List ℕ) (k : ℕ) (b : List ℕ) where
       (u.0, u.1, u.2, ap (λ (y : ColourCall). y.sheet) e)
 
   abbrev pub ColourTaken : Type 0
-  ColourTaken = (w : ℕ) × ((colour_job f k b).answer ≡ coloured.Written w)
+  ColourTaken = (w : ℕ) × ((colour_job f k b).answer ≡ Ok w)
 
   abbrev pub ColourKept : Type 0
-  ColourKept = ((r : ColourRefusal) × ((colour_job f k b).answer ≡ coloured.Refused r) × ((colour_call f k b).answer ≡ colour_number r)) × ((colour_call f k b).sheet ≡ b)
+  ColourKept = ((r : ColourRefusal) × ((colour_job f k b).answer ≡ Err r) × ((colour_call f k b).answer ≡ colour_number r)) × ((colour_call f k b).sheet ≡ b)
 
   colour_either : ColourTaken ⊎ (Refuses (colour_call f k b).answer × ColourKept)
   colour_either = go (colour_job f k b).answer refl
     where
       go : (o : Coloured) → (colour_job f k b).answer ≡ o → ColourTaken ⊎ (Refuses (colour_call f k b).answer × ColourKept)
-      go (coloured.Written w) o = inl (w, o)
-      go (coloured.Refused r) o =
+      go (Ok w) o = inl (w, o)
+      go (Err r) o =
           let e = sym (colour_says f k b _ _ refl refl _ o) in
           let q = ap (λ (y : ColourCall). y.answer) e in
           let l = colour_listed r in

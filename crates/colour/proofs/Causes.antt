@@ -1,4 +1,5 @@
 -- What each answer of the job says: for each number its cause, and no other; and what is left in the buffer. Assumes nothing.
+use Rattle.std.specs.Prelude.{Ok, Err}
 use mathlib.Core.Path.{◌≡◌, refl, sym, ap, ◌∙◌}
 use mathlib.Core.Bool.{true, false, cond}
 use mathlib.Core.List.{List}
@@ -17,11 +18,9 @@ use Rattle.graph.specs.Graph.{file_lines, line_at, bad_file, count_lines, is_edg
 use Rattle.graph.specs.declared.Line.TheVariants.{Edge}
 use Rattle.graph.proofs.Turned.{BadFile, bad_file_iff, loop_iff}
 use Rattle.compose.proofs.Over.{sheet_stands}
-use Rattle.colour.specs.Colour.{coloured_number, has_loop, out_of_range, vertices_of, graph_problem, graph_sheet, ColourResult, colour_refused, colour_job}
+use Rattle.colour.specs.Colour.{Coloured, coloured_number, has_loop, out_of_range, vertices_of, graph_problem, graph_sheet, ColourResult, colour_refused, colour_job}
 use Rattle.colour.specs.declared.ColourRefusal.{ColourRefusal}
 use Rattle.colour.specs.declared.ColourRefusal.TheVariants.{File, Loop, Count, Range, Buffer}
-use Rattle.colour.specs.declared.Coloured.{Coloured}
-use Rattle.colour.specs.declared.Coloured.TheVariants.{Written, Refused}
 use Rattle.colour.proofs.Job.{InRange, in_range}
 
 -- numbers that pass 24, told by the test
@@ -61,12 +60,12 @@ module _ (f : List ℕ) (k : ℕ) (b : List ℕ) where
 
   -- Why the job answers as it does: its own test speaks, and no earlier one does.
   abbrev pub ColourCause : Coloured → Type 0
-  ColourCause (Refused File) = BadFile f
-  ColourCause (Refused Loop) = Passes21 × HasLoop
-  ColourCause (Refused Count) = Passes22 × (EdgesCounted → ⊥)
-  ColourCause (Refused Range) = Passes23 × (InRange (vertices_of f) k → ⊥)
-  ColourCause (Refused Buffer) = Passes24 × (length b < length (graph_sheet f k))
-  ColourCause (Written w) = Passes24 × ((length (graph_sheet f k) ≤ length b) × (w ≡ length (graph_sheet f k)))
+  ColourCause (Err File) = BadFile f
+  ColourCause (Err Loop) = Passes21 × HasLoop
+  ColourCause (Err Count) = Passes22 × (EdgesCounted → ⊥)
+  ColourCause (Err Range) = Passes23 × (InRange (vertices_of f) k → ⊥)
+  ColourCause (Err Buffer) = Passes24 × (length b < length (graph_sheet f k))
+  ColourCause (Ok w) = Passes24 × ((length (graph_sheet f k) ≤ length b) × (w ≡ length (graph_sheet f k)))
 
   -- ---- the tests in code, by these
 
@@ -87,44 +86,44 @@ module _ (f : List ℕ) (k : ℕ) (b : List ℕ) where
 
   -- the whole result, for each cause
   abbrev result_of : Coloured → ColourResult
-  result_of (Refused r) = colour_refused r b
-  result_of (Written w) = record { answer = Written w; buffer = fronted (graph_sheet f k) b }
+  result_of (Err r) = colour_refused r b
+  result_of (Ok w) = record { answer = Ok w; buffer = fronted (graph_sheet f k) b }
 
   cause_results : (x : Coloured) → ColourCause x → colour_job f k b ≡ result_of x
   unfolding colour_job
-  cause_results (Refused File) c = rw (bad c)
-  cause_results (Refused Loop) c = rw (good c.0, loops c.1)
-  cause_results (Refused Count) c = rw (good c.0.0, loopless c.0, ne_eqb (count_lines is_edge (file_lines f)) (stated_edges (file_lines f)) c.1)
-  cause_results (Refused Range) c = rw (good c.0.0.0, loopless c.0.0, counted c.0, range_fails (vertices_of f) k c.1)
-  cause_results (Refused Buffer) c =
+  cause_results (Err File) c = rw (bad c)
+  cause_results (Err Loop) c = rw (good c.0, loops c.1)
+  cause_results (Err Count) c = rw (good c.0.0, loopless c.0, ne_eqb (count_lines is_edge (file_lines f)) (stated_edges (file_lines f)) c.1)
+  cause_results (Err Range) c = rw (good c.0.0.0, loopless c.0.0, counted c.0, range_fails (vertices_of f) k c.1)
+  cause_results (Err Buffer) c =
       let p = c.0.0 in
       rw (good p.0.0, loopless p.0, counted p, range_test (vertices_of f) k c.0.1, lt-ltb (length b) (length (graph_sheet f k)) c.1)
-  cause_results (Written w) c =
+  cause_results (Ok w) c =
       let p = c.0.0 in
       rw (good p.0.0, loopless p.0, counted p, range_test (vertices_of f) k c.0.1, le-ltb (length b) (length (graph_sheet f k)) c.1.0)
-      (λ i. record { answer = Written (sym c.1.1 i); buffer = fronted (graph_sheet f k) b })
+      (λ i. record { answer = Ok (sym c.1.1 i); buffer = fronted (graph_sheet f k) b })
 
   some_cause : (x : Coloured) × ColourCause x
   some_cause = file (T_dec (bad_file f))
     where
       buffer : Passes24 → (length b < length (graph_sheet f k)) ⊎ (length (graph_sheet f k) ≤ length b) → (x : Coloured) × ColourCause x
-      buffer c (inl h) = (Refused Buffer, (c, h))
-      buffer c (inr h) = (Written (length (graph_sheet f k)), (c, (h, refl)))
+      buffer c (inl h) = (Err Buffer, (c, h))
+      buffer c (inr h) = (Ok (length (graph_sheet f k)), (c, (h, refl)))
 
       range : Passes23 → (out_of_range (vertices_of f) k ≡ true) ⊎ (out_of_range (vertices_of f) k ≡ false) → (x : Coloured) × ColourCause x
-      range c (inl h) = (Refused Range, (c, λ r. clash h (range_test (vertices_of f) k r)))
+      range c (inl h) = (Err Range, (c, λ r. clash h (range_test (vertices_of f) k r)))
       range c (inr h) = buffer (c, in_range (vertices_of f) k h) (lt_dec (length b) (length (graph_sheet f k)))
 
       count : Passes22 → EdgesCounted ⊎ (EdgesCounted → ⊥) → (x : Coloured) × ColourCause x
       count c (inl h) = range (c, h) (split (out_of_range (vertices_of f) k))
-      count c (inr h) = (Refused Count, (c, h))
+      count c (inr h) = (Err Count, (c, h))
 
       loop : Passes21 → T (has_loop f) ⊎ (T (has_loop f) → ⊥) → (x : Coloured) × ColourCause x
-      loop c (inl h) = (Refused Loop, (c, (loop_iff f).0 h))
+      loop c (inl h) = (Err Loop, (c, (loop_iff f).0 h))
       loop c (inr h) = count (c, λ x. h ((loop_iff f).1 x)) (eq_dec (count_lines is_edge (file_lines f)) (stated_edges (file_lines f)))
 
       file : T (bad_file f) ⊎ (T (bad_file f) → ⊥) → (x : Coloured) × ColourCause x
-      file (inl h) = (Refused File, (bad_file_iff f).0 h)
+      file (inl h) = (Err File, (bad_file_iff f).0 h)
       file (inr h) = loop (λ x. h ((bad_file_iff f).1 x)) (T_dec (has_loop f))
 
   -- The job answers as it does for its cause and for no other.
@@ -132,39 +131,39 @@ module _ (f : List ℕ) (k : ℕ) (b : List ℕ) where
   colour_iff = cause_iff (colour_job f k b).answer ColourCause (λ x c. ap (λ (y : ColourResult). y.answer) (cause_results x c) ∙ told x) some_cause
     where
       told : (x : Coloured) → (result_of x).answer ≡ x
-      told (Refused r) = refl
-      told (Written w) = refl
+      told (Err r) = refl
+      told (Ok w) = refl
 
   -- ---- by number
 
   abbrev refused_as : ℕ → Coloured
-  refused_as n = cond (eqb n 21) (Refused File) (cond (eqb n 22) (Refused Loop) (cond (eqb n 23) (Refused Count) (cond (eqb n 24) (Refused Range) (Refused Buffer))))
+  refused_as n = cond (eqb n 21) (Err File) (cond (eqb n 22) (Err Loop) (cond (eqb n 23) (Err Count) (cond (eqb n 24) (Err Range) (Err Buffer))))
 
   number_back : (x : Coloured) → 21 ≤ coloured_number x → refused_as (coloured_number x) ≡ x
-  number_back (Written w) h = absurd (omega arith)
-  number_back (Refused File) h = refl
-  number_back (Refused Loop) h = refl
-  number_back (Refused Count) h = refl
-  number_back (Refused Range) h = refl
-  number_back (Refused Buffer) h = refl
+  number_back (Ok w) h = absurd (omega arith)
+  number_back (Err File) h = refl
+  number_back (Err Loop) h = refl
+  number_back (Err Count) h = refl
+  number_back (Err Range) h = refl
+  number_back (Err Buffer) h = refl
 
   by_number : (x : Coloured) → 21 ≤ coloured_number x → (coloured_number (colour_job f k b).answer ≡ coloured_number x) ↔ ColourCause x
   by_number = number_iff (colour_job f k b).answer ColourCause colour_iff coloured_number refused_as (λ n. 21 ≤ n) number_back
 
   pub colour_21 : (coloured_number (colour_job f k b).answer ≡ 21) ↔ BadFile f
-  colour_21 = by_number (Refused File) (omega arith)
+  colour_21 = by_number (Err File) (omega arith)
 
   pub colour_22 : (coloured_number (colour_job f k b).answer ≡ 22) ↔ (Passes21 × HasLoop)
-  colour_22 = by_number (Refused Loop) (omega arith)
+  colour_22 = by_number (Err Loop) (omega arith)
 
   pub colour_23 : (coloured_number (colour_job f k b).answer ≡ 23) ↔ (Passes22 × (EdgesCounted → ⊥))
-  colour_23 = by_number (Refused Count) (omega arith)
+  colour_23 = by_number (Err Count) (omega arith)
 
   pub colour_24 : (coloured_number (colour_job f k b).answer ≡ 24) ↔ (Passes23 × (InRange (vertices_of f) k → ⊥))
-  colour_24 = by_number (Refused Range) (omega arith)
+  colour_24 = by_number (Err Range) (omega arith)
 
   pub colour_25 : (coloured_number (colour_job f k b).answer ≡ 25) ↔ (Passes24 × (length b < length (graph_sheet f k)))
-  colour_25 = by_number (Refused Buffer) (omega arith)
+  colour_25 = by_number (Err Buffer) (omega arith)
 
   -- ---- the buffer
 
@@ -172,8 +171,8 @@ module _ (f : List ℕ) (k : ℕ) (b : List ℕ) where
   whole x e = cause_results x ((colour_iff x).0 e)
 
   -- a refusal leaves every byte as it was
-  pub colour_unaltered : (r : ColourRefusal) → (colour_job f k b).answer ≡ Refused r → (colour_job f k b).buffer ≡ b
-  colour_unaltered r e = ap (λ (y : ColourResult). y.buffer) (whole (Refused r) e)
+  pub colour_unaltered : (r : ColourRefusal) → (colour_job f k b).answer ≡ Err r → (colour_job f k b).buffer ≡ b
+  colour_unaltered r e = ap (λ (y : ColourResult). y.buffer) (whole (Err r) e)
 
   -- otherwise the answer is the sheet's length, the sheet stands at the front, and the old bytes after it
   pub record SheetWritten (w : ℕ) : Type 0 where
@@ -182,11 +181,11 @@ module _ (f : List ℕ) (k : ℕ) (b : List ℕ) where
     pub sheet : take w (colour_job f k b).buffer ≡ graph_sheet f k
     pub range : InRange (vertices_of f) k
 
-  pub colour_written : (w : ℕ) → (colour_job f k b).answer ≡ Written w → SheetWritten w
+  pub colour_written : (w : ℕ) → (colour_job f k b).answer ≡ Ok w → SheetWritten w
   unfolding graph_sheet
   colour_written w e =
-      let c = (colour_iff (Written w)).0 e in
-      let q = ap (λ (y : ColourResult). y.buffer) (whole (Written w) e) in
+      let c = (colour_iff (Ok w)).0 e in
+      let q = ap (λ (y : ColourResult). y.buffer) (whole (Ok w) e) in
       record {
         length_is = c.1.1;
         front = rw q (fronted_bytes (graph_sheet f k) b c.1.0);

@@ -1,8 +1,9 @@
 -- The job's parts make the job. Assumes nothing.
+use Rattle.std.specs.Prelude.{Result, Ok, Err, IsErrAnd}
 use mathlib.Core.Path.{◌≡◌, refl, sym, ap, ◌∙◌}
 use mathlib.Core.Bool.{Bool, true, false, cond, ◌||◌}
 use mathlib.Core.List.{List}
-use mathlib.Core.Logic.{◌⊎◌, inl, inr, ⊎_elim, ◌≢◌}
+use mathlib.Core.Logic.{◌⊎◌, inl, inr, ⊎_elim}
 use Prim.Native.Nat.{ℕ, ◌+◌, ◌*◌, ◌≤◌, ◌<◌}
 use native.Mathlib.Omega.{arith}
 use lib.Dec.{eqb, ltb}
@@ -14,21 +15,19 @@ use Rattle.problem.specs.Held.{held, Bounded, Filled}
 use Rattle.problem.proofs.BothWays.{both_up, both_down, both_same}
 use Rattle.problem.proofs.Same.{problem_same}
 use Rattle.sheet.specs.Sheet.{layout}
-use Rattle.graph.specs.Graph.{file_lines, bad_file, lines_read, read_graph, stated_vertices, stated_edges, count_lines, any_line, is_edge, is_loop}
+use Rattle.graph.specs.Graph.{file_lines, bad_file, lines_read, turned_away, read_graph, stated_vertices}
 use Rattle.graph.specs.Colouring.{adjacent, channels_at, is_channel, may_stand, colouring}
 use Rattle.graph.specs.Scan.{is_marked}
 use Rattle.graph.specs.declared.GraphRead.{GraphRead}
-use Rattle.graph.specs.declared.GraphRead.TheVariants as read
+use Rattle.graph.specs.declared.TurnedAway.{TurnedAway}
 use Rattle.read_graph.specs.Parts.{Unmarked, GraphAt}
 use Rattle.compose.specs.Compose.{sheet_bytes, sheet_over}
-use Rattle.compose.specs.declared.Composed.{Composed}
-use Rattle.compose.specs.declared.Composed.TheVariants as composed
+use Rattle.compose.specs.declared.TooShort.{TooShort}
 use Rattle.compose.proofs.Over.{sheet_over_short, sheet_over_done, sheet_over_table}
-use Rattle.colour.specs.Colour.{has_loop, miscounted, out_of_range, graph_problem, graph_sheet, colour_job}
+use Rattle.colour.specs.Colour.{Coloured, has_loop, miscounted, out_of_range, graph_problem, graph_sheet, colour_refused, colour_job}
 use Rattle.colour.specs.Parts.{marked_problem, write_job, graph_job}
+use Rattle.colour.specs.declared.ColourRefusal.{ColourRefusal}
 use Rattle.colour.specs.declared.ColourRefusal.TheVariants.{File, Buffer}
-use Rattle.colour.specs.declared.Coloured.{Coloured}
-use Rattle.colour.specs.declared.Coloured.TheVariants.{Written, Refused}
 
 -- ---- zeros
 
@@ -42,11 +41,18 @@ zero_at n q = ⊎_elim
 pub blank_marks : Unmarked (replicate {A = ℕ} 1024 0)
 blank_marks = record { long = length-replicate {A = ℕ} 1024 0; none = λ i j h l. ap (λ (x : ℕ). eqb x 1) (zero_at 1024 (32 * i + j)) }
 
+-- ---- refusals
+
+-- a refusal that is made from an error
+pub err_is : (r : Coloured) (x : ColourRefusal) → IsErrAnd r (λ y. y ≡ x) → r ≡ Err x
+err_is (Ok w) x e = absurd e
+err_is (Err y) x e = ap Err e
+
 -- ---- the sheet
 
-abbrev pub coloured_of : Composed → Coloured
-coloured_of (composed.Written w) = Written w
-coloured_of composed.TooShort = Refused Buffer
+abbrev pub coloured_of : Result ℕ TooShort → Coloured
+coloured_of (Ok w) = Ok w
+coloured_of (Err e) = Err Buffer
 
 module _ (P : Problem) (B : Bounded P) (t b : List ℕ) (F : Filled P t) where
   pub write_answers : coloured_of (sheet_over layout 1 (held t) b).answer ≡ (write_job P b).answer
@@ -111,42 +117,38 @@ cond_same : {A : Type 0} (t : Bool) (x y z : A) → (t ≡ false → y ≡ z) �
 cond_same true x y z h = refl
 cond_same false x y z h = h refl
 
-module _ (f : List ℕ) (k : ℕ) (b near : List ℕ) (r : GraphRead) (G : GraphAt f near r) where
-  is_read : bad_file f ≡ false → read_graph f ≡ lines_read (file_lines f)
+module _ (f : List ℕ) (k : ℕ) (b near : List ℕ) where
+  is_read : bad_file f ≡ false → read_graph f ≡ Ok (lines_read (file_lines f))
   unfolding read_graph
   is_read e = rw (e, read_graph)
 
-  is_bad_lem : bad_file f ≡ true → read_graph f ≡ read.Bad
+  is_bad_lem : bad_file f ≡ true → read_graph f ≡ Err turned_away
   unfolding read_graph
   is_bad_lem e = rw (e, read_graph)
 
   -- a file that is turned away
-  pub job_bad : r ≡ read.Bad → colour_job f k b ≡ record { answer = Refused File; buffer = b }
+  pub job_bad : (x : TurnedAway) → GraphAt f near (Err x) → colour_job f k b ≡ colour_refused File b
   unfolding colour_job
-  job_bad e = go (bad_file f) refl
+  job_bad x G = go (bad_file f) refl
     where
-      go : (t : Bool) → bad_file f ≡ t → colour_job f k b ≡ record { answer = Refused File; buffer = b }
+      go : (t : Bool) → bad_file f ≡ t → colour_job f k b ≡ colour_refused File b
       go true q = rw q
       go false q = let g = G.is in let z = is_read q in let y : ◌≡◌ {A = ℕ} 0 1 = cc in absurd (omega arith)
 
   -- one that is read
-  pub job_read : (v e l : ℕ) (o : Bool) → r ≡ read.Read v e l o → graph_job near v e l o k b ≡ colour_job f k b
+  pub job_read : (r : GraphRead) → GraphAt f near (Ok r) → graph_job near r k b ≡ colour_job f k b
   unfolding colour_job graph_job write_job graph_sheet
-  job_read v e l o q = go (bad_file f) refl
+  job_read r G = go (bad_file f) refl
     where
-      go : (t : Bool) → bad_file f ≡ t → graph_job near v e l o k b ≡ colour_job f k b
+      go : (t : Bool) → bad_file f ≡ t → graph_job near r k b ≡ colour_job f k b
       go true p = let g = G.is in let z = is_bad_lem p in let y : ◌≡◌ {A = ℕ} 0 1 = cc in absurd (omega arith)
       go false p =
           let g = G.is in
           let z = is_read p in
           let m = file_lines f in
-          let ev : v ≡ stated_vertices m = cc in
-          let ee : e ≡ stated_edges m = cc in
-          let el : l ≡ count_lines is_edge m = cc in
-          let eo : o ≡ any_line is_loop m = cc in
-          let good : r ≢ read.Bad = λ w. let y : ◌≡◌ {A = ℕ} 0 1 = cc in omega arith in
+          let e : r ≡ lines_read m = cc in
           let last : out_of_range (stated_vertices m) k ≡ false → write_job (marked_problem near (stated_vertices m) k) b ≡ write_job (graph_problem f k) b =
-          λ h. ap (λ (P : Problem). write_job P b) (same_colouring (stated_vertices m) k (is_marked near) (adjacent m) (in_range (stated_vertices m) k h).v_few (G.marks good)) in
-          (λ i. graph_job near (ev i) (ee i) (el i) (eo i) k b)
+          λ h. ap (λ (P : Problem). write_job P b) (same_colouring (stated_vertices m) k (is_marked near) (adjacent m) (in_range (stated_vertices m) k h).v_few G.marks) in
+          ap (λ (x : GraphRead). graph_job near x k b) e
           ∙ cond_same (has_loop f) _ _ _ (λ _. cond_same (miscounted f) _ _ _ (λ _. cond_same (out_of_range (stated_vertices m) k) _ _ _ last))
           ∙ rw p

@@ -1,4 +1,5 @@
 -- The plans of the sheet that is written are the proper colourings of the file's graph; its blocks are the edges. Assumes nothing.
+use Rattle.std.specs.Prelude.{Ok, Some}
 use mathlib.Core.Path.{◌≡◌, refl, sym, ap, ◌∙◌, subst}
 use mathlib.Core.Bool.{Bool, true, false, not, cond, ◌&&◌, ◌||◌, or-true}
 use mathlib.Core.List.{List, [], ◌∷◌, ◌++◌, append_assoc}
@@ -19,7 +20,6 @@ use Rattle.problem.proofs.Sound.{solves_whole_iff}
 use Rattle.problem.specs.Sentences.{Solution}
 use Rattle.sheet.specs.Sheet.{layout, version_of, Keeps}
 use Rattle.sheet.specs.Relation.{rows_of, row_in, problem_of}
-use Rattle.sheet.specs.declared.Rows.TheVariants.{At}
 use Rattle.graph.specs.Graph.{any_line, file_lines, line_at, bad_file, bad_lines, is_bad, is_size, edge_first, file_limit, is_outside, strays, count_lines, is_edge, is_loop, stated_vertices, stated_edges}
 use Rattle.graph.specs.Colouring.{joins, adjacent, colouring}
 use Rattle.graph.specs.declared.Line.{Line}
@@ -31,7 +31,6 @@ use Rattle.compose.proofs.Written.{written_keeps, written_problem, written_short
 use Rattle.compose.proofs.Blocks.{layout_roomy, row_allows, block_bars}
 use Rattle.colour.specs.Colour.{coloured_number, vertices_of, has_loop, miscounted, out_of_range, graph_problem, graph_sheet, colour_refused, colour_done, colour_job}
 use Rattle.colour.specs.declared.ColourRefusal.TheVariants.{File, Loop, Count, Range, Buffer}
-use Rattle.colour.specs.declared.Coloured.TheVariants.{Written}
 use Rattle.colour.proofs.Filling.{joined_pair, allows, colouring_size, colouring_vertices, colouring_bounded}
 use Rattle.colour.proofs.Job.{InRange}
 use Rattle.colour.proofs.Causes.{colour_iff, colour_25, colour_written}
@@ -200,9 +199,9 @@ inside_of f h m a c e = neither (is_outside (vertices_of f) a) (is_outside (vert
 not_outside : (v a : ℕ) → is_outside v a ≡ false → (1 ≤ a) × (a ≤ v)
 not_outside v a o = let q = neither (ltb a 1) (ltb v a) o in (ltb-false a 1 q.0, ltb-false v a q.1)
 
-pub taken : (f : List ℕ) (k : ℕ) (b : List ℕ) (w : ℕ) → (colour_job f k b).answer ≡ Written w → SheetTaken f k
+pub taken : (f : List ℕ) (k : ℕ) (b : List ℕ) (w : ℕ) → (colour_job f k b).answer ≡ Ok w → SheetTaken f k
 taken f k b w e =
-    let c = (colour_iff f k b (Written w)).0 e in
+    let c = (colour_iff f k b (Ok w)).0 e in
     record {
       range = c.0.1;
       inside = λ m a d q.
@@ -228,7 +227,7 @@ module _ (f : List ℕ) (k : ℕ) (R : InRange (vertices_of f) k) where
 pub colour_room : (f : List ℕ) (k : ℕ) (b : List ℕ) → 16904 ≤ length b → coloured_number (colour_job f k b).answer ≢ 25
 colour_room f k b h e = let c = (colour_25 f k b).0 e in let s = graph_short f k c.0.1 in let l = c.1 in omega arith
 
-module _ (f : List ℕ) (k : ℕ) (b : List ℕ) (w : ℕ) (e : (colour_job f k b).answer ≡ Written w) where
+module _ (f : List ℕ) (k : ℕ) (b : List ℕ) (w : ℕ) (e : (colour_job f k b).answer ≡ Ok w) where
   -- the sheet that was written: the bytes at the buffer's front
   abbrev pub sheet_at : List ℕ
   sheet_at = take w (colour_job f k b).buffer
@@ -295,7 +294,7 @@ module _ (f : List ℕ) (k : ℕ) (b : List ℕ) (w : ℕ) (e : (colour_job f k 
     zj = size_of j ends
 
     -- "each edge's block bars equal settings only, and no other pair has a block": a pair has a block exactly where an edge joins it
-    pub colour_blocks : ((r : ℕ) × (rows_of layout (take w (colour_job f k b).buffer) i j ≡ At r)) ↔ Joined f i j
+    pub colour_blocks : ((r : ℕ) × (rows_of layout (take w (colour_job f k b).buffer) i j ≡ Some r)) ↔ Joined f i j
     colour_blocks =
         let n = count_is in
         let y = zi in
@@ -307,7 +306,7 @@ module _ (f : List ℕ) (k : ℕ) (b : List ℕ) (w : ℕ) (e : (colour_job f k 
         )
 
     -- and its row of a has the bit of c exactly where a and c differ
-    pub colour_rows : (r : ℕ) → rows_of layout (take w (colour_job f k b).buffer) i j ≡ At r → (a c : ℕ) → a < k → c < k
+    pub colour_rows : (r : ℕ) → rows_of layout (take w (colour_job f k b).buffer) i j ≡ Some r → (a c : ℕ) → a < k → c < k
         → T (bit (row_in layout (take w (colour_job f k b).buffer) j r a) c) ↔ (a ≢ c)
     colour_rows r q a c h l =
         let y = zi in

@@ -1,5 +1,5 @@
 -- docs/FORMAT.md, "Channels from a colouring graph", as a job: lent a colouring file, a channel count and a buffer for the sheet.
-use Rattle.std.specs.Prelude.{Bool, not, cond, ◌||◌, List, ℕ, eqb, ltb, length}
+use Rattle.std.specs.Prelude.{Bool, not, cond, ◌||◌, List, ℕ, eqb, ltb, length, Result, Ok, Err}
 use Rattle.problem.specs.Problem.{Problem}
 use Rattle.sheet.specs.Sheet.{layout}
 use Rattle.buffers.specs.Written.{fronted}
@@ -8,8 +8,10 @@ use Rattle.graph.specs.Colouring.{adjacent, colouring}
 use Rattle.compose.specs.Compose.{sheet_bytes}
 use Rattle.colour.specs.declared.ColourRefusal.{ColourRefusal}
 use Rattle.colour.specs.declared.ColourRefusal.TheVariants.{File, Loop, Count, Range, Buffer}
-use Rattle.colour.specs.declared.Coloured.{Coloured}
-use Rattle.colour.specs.declared.Coloured.TheVariants.{Written, Refused}
+
+-- the job's answer: the bytes written, or the refusal
+abbrev pub Coloured : Type 0
+Coloured = Result ℕ ColourRefusal
 
 -- ---- the format's number for each refusal, in the order of its table; and of an answer, 0 where there is no refusal
 
@@ -21,8 +23,8 @@ colour_number Range = 24
 colour_number Buffer = 25
 
 abbrev pub coloured_number : Coloured → ℕ
-coloured_number (Written w) = 0
-coloured_number (Refused r) = colour_number r
+coloured_number (Ok w) = 0
+coloured_number (Err r) = colour_number r
 
 -- ---- the tests after 21, over the whole file
 
@@ -60,11 +62,11 @@ pub record ColourResult : Type 0 where
 
 -- a refusal leaves the buffer as it was
 abbrev pub colour_refused : ColourRefusal → List ℕ → ColourResult
-colour_refused r b = record { answer = Refused r; buffer = b }
+colour_refused r b = record { answer = Err r; buffer = b }
 
 -- "The buffer holds the sheet at its front and its old bytes after. The job answers the bytes written."
 abbrev pub colour_done : (s b : List ℕ) → ColourResult
-colour_done s b = record { answer = Written (length s); buffer = fronted s b }
+colour_done s b = record { answer = Ok (length s); buffer = fronted s b }
 
 -- the file f, k channels and the buffer b: 21 to 25 "in that order, over the whole file"; 25 is "when the sheet buffer is too short"
 unfoldable pub colour_job : (f : List ℕ) (k : ℕ) (b : List ℕ) → ColourResult

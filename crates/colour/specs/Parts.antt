@@ -1,10 +1,11 @@
 -- What the parts of the job say to one another: the table of a colouring problem, filled edge by edge.
-use Rattle.std.specs.Prelude.{◌≡◌, Bool, not, cond, List, ℕ, ◌-◌, ◌^◌, ◌≤◌, eqb, ltb, length}
+use Rattle.std.specs.Prelude.{◌≡◌, not, cond, List, ℕ, ◌-◌, ◌^◌, ◌≤◌, eqb, ltb, length}
 use Rattle.bounded.specs.Mask.{without}
 use Rattle.bounded.specs.Table.{tab}
 use Rattle.problem.specs.Problem.{Problem}
 use Rattle.graph.specs.Colouring.{colouring}
 use Rattle.graph.specs.Scan.{is_marked}
+use Rattle.graph.specs.declared.GraphRead.{GraphRead}
 use Rattle.sheet.specs.Sheet.{layout}
 use Rattle.compose.specs.Compose.{sheet_bytes}
 use Rattle.colour.specs.Colour.{ColourResult, colour_refused, colour_done, out_of_range}
@@ -32,10 +33,10 @@ edge_rows k = tab 16 (λ a. without 16 (2 ^ k - 1) a)
 unfoldable pub write_job : Problem → List ℕ → ColourResult
 write_job P b = cond (ltb (length b) (length (sheet_bytes layout 1 P))) (colour_refused Buffer b) (colour_done (sheet_bytes layout 1 P) b)
 
--- the job once the file is read: v vertices and e edges are stated, l lines are edges, o tells a loop
-unfoldable pub graph_job : (near : List ℕ) (v e l : ℕ) (o : Bool) (k : ℕ) (b : List ℕ) → ColourResult
-graph_job near v e l o k b =
-    cond o (colour_refused Loop b)
-    (cond (not (eqb l e)) (colour_refused Count b)
-    (cond (out_of_range v k) (colour_refused Range b)
-    (write_job (marked_problem near v k) b)))
+-- the job once the file is read, of which r was found
+unfoldable pub graph_job : (near : List ℕ) (r : GraphRead) (k : ℕ) (b : List ℕ) → ColourResult
+graph_job near r k b =
+    cond r.loops (colour_refused Loop b)
+    (cond (not (eqb r.lines r.edges)) (colour_refused Count b)
+    (cond (out_of_range r.vertices k) (colour_refused Range b)
+    (write_job (marked_problem near r.vertices k) b)))

@@ -8,13 +8,15 @@ ghost use Rattle.graph.specs.Scan.{is_marked};
 ghost use Rattle.table.specs.Parts.{Wrote, Blank};
 ghost use Rattle.table.specs.Filling.{block_here, PlaceEntered, EnteredTo};
 ghost use Rattle.colour.specs.Colour.{colour_number, out_of_range, colour_job};
+ghost use Rattle.colour.specs.declared.ColourRefusal.TheVariants.{File, Buffer};
 ghost use Rattle.colour.specs.Parts.{marked_problem, Ranged, entry_size, edge_rows, write_job, graph_job};
 
-use compose::Composed;
-use graph::GraphRead;
+use bounded::Set;
+use compose::TooShort;
+use graph::{GraphRead, TurnedAway};
 
 // Why a colouring file is turned away: one case for each number of the format's table.
-#[derive(Clone, Copy)]
+#[derive(Clone, Copy, PartialEq, Eq, Debug)]
 pub enum ColourRefusal {
     File,
     Loop,
@@ -23,27 +25,50 @@ pub enum ColourRefusal {
     Buffer,
 }
 
-// The job's answer: the bytes written, or the refusal.
-#[derive(Clone, Copy)]
-pub enum Coloured {
-    Written(usize),
-    Refused(ColourRefusal),
+// The format's number for a refusal.
+impl From<ColourRefusal> for u8 {
+    ghost from_gives = { λ r n. n ≡ colour_number r };
+
+    fn from(r: ColourRefusal) -> u8 {
+        match r {
+            ColourRefusal::File => 21,
+            ColourRefusal::Loop => 22,
+            ColourRefusal::Count => 23,
+            ColourRefusal::Range => 24,
+            ColourRefusal::Buffer => 25,
+        }
+    }
 }
 
-// The format's number for a refusal.
-pub fn colour_number(r: ColourRefusal) -> u8
-    ensures { result ≡ colour_number r }
-{
-    match r {
-        ColourRefusal::File => 21,
-        ColourRefusal::Loop => 22,
-        ColourRefusal::Count => 23,
-        ColourRefusal::Range => 24,
-        ColourRefusal::Buffer => 25,
+// 21: the reader turns the file away.
+impl From<TurnedAway> for ColourRefusal {
+    ghost from_gives = { λ _ r. r ≡ File };
+
+    fn from(_e: TurnedAway) -> ColourRefusal {
+        Self::File
+    }
+}
+
+// 25: the buffer is too short for the sheet.
+impl From<TooShort> for ColourRefusal {
+    ghost from_gives = { λ _ r. r ≡ Buffer };
+
+    fn from(_e: TooShort) -> ColourRefusal {
+        Self::Buffer
     }
 }
 
 // ---- the table
+
+// A problem to write: the marks of the edges, how many vertices there are, and how many channels each has.
+#[derive(Clone, Copy)]
+struct Colouring<'a> {
+    near: &'a [u8; 1024],
+    vertices: usize,
+    channels: usize,
+    ghost ranged: { Ranged near.now vertices channels },
+    ghost some: { 1 ≤ channels },
+}
 
 // The size of vertex i: each of the n has k channels.
 fn size_word(n: usize, k: usize, i: usize) -> u16
@@ -58,10 +83,8 @@ fn fill_sizes(n: usize, k: usize, t: &mut [u16])
     requires { (length t.old ≡ table_length) × (k ≤ 16) }
     ensures { Wrote 32 t.old t.new 0 (entry_size n k) }
 {
-    let mut i: usize = 0;
-    while i < 32 {
+    for i in 0..32 {
         t[i] = size_word(n, k, i);
-        i += 1;
     }
 }
 
@@ -70,72 +93,64 @@ fn edge_rows(k: usize) -> [u16; 16]
     requires { k ≤ 16 }
     ensures { result ≡ edge_rows k }
 {
-    let all = bounded::below16(k);
+    let all = u16::below(k);
     let mut rows = [0u16; 16];
-    let mut a: usize = 0;
-    while a < 16 {
-        rows[a] = bounded::without16(all, a);
-        a += 1;
+    for a in 0..16 {
+        rows[a] = all.without(a);
     }
     rows
 }
 
-// Whether place x = 32 i + j of the marks is that of an edge between two vertices i < j below n.
-fn is_edge(near: &[u8], n: usize, x: usize) -> bool
-    requires { (length near.now ≡ 1024) × (x < 1024) }
-    ensures { result ≡ block_here (is_marked near.now) n x }
+// Whether place x = 32 i + j of the marks is that of an edge between two vertices i < j of the problem.
+fn is_edge(g: &Colouring, x: usize) -> bool
+    requires { x < 1024 }
+    ensures { result ≡ block_here (is_marked g.now.near.now) g.now.vertices x }
 {
-    (x / 32 < x % 32) & ((x % 32 < n) & (near[x] == 1))
+    (x / 32 < x % 32) & ((x % 32 < g.vertices) & (g.near[x] == 1))
 }
 
 // Enters the block of the edge at place x, if there is one.
-fn enter_place(near: &[u8], n: usize, x: usize, rows: &[u16; 16], t: &mut [u16])
-    requires { (length near.now ≡ 1024) × (x < 1024) × Located t.old }
-    ensures { PlaceEntered (is_marked near.now) (λ i j. rows.now) n x t.old t.new }
+fn enter_place(g: &Colouring, x: usize, rows: &[u16; 16], t: &mut [u16])
+    requires { (x < 1024) × Located t.old }
+    ensures { PlaceEntered (is_marked g.now.near.now) (λ i j. rows.now) g.now.vertices x t.old t.new }
 {
-    if !is_edge(near, n, x) {
+    if !is_edge(g, x) {
         return;
     }
     table::enter(t, x / 32, x % 32, rows);
 }
 
 // Enters the block of each edge. A pair without an edge has none.
-fn enter_edges(near: &[u8], n: usize, rows: &[u16; 16], t: &mut [u16])
-    requires { (length near.now ≡ 1024) × (n ≤ 32) × EnteredTo (is_marked near.now) (λ i j. rows.now) n 0 t.old t.old }
-    ensures { EnteredTo (is_marked near.now) (λ i j. rows.now) n (32 * n) t.old t.new }
+fn enter_edges(g: &Colouring, rows: &[u16; 16], t: &mut [u16])
+    requires { EnteredTo (is_marked g.now.near.now) (λ i j. rows.now) g.now.vertices 0 t.old t.old }
+    ensures { EnteredTo (is_marked g.now.near.now) (λ i j. rows.now) g.now.vertices (32 * g.now.vertices) t.old t.new }
 {
-    let mut x: usize = 0;
-    while x < 32 * n {
-        enter_place(near, n, x, rows, t);
-        x += 1;
+    for x in 0..32 * g.vertices {
+        enter_place(g, x, rows, t);
     }
 }
 
-// Fills a table of all ones with the colouring problem of n vertices and k channels.
-fn fill_table(near: &[u8], n: usize, k: usize, t: &mut [u16])
-    requires { Ranged near.now n k × (1 ≤ k) × Blank t.old }
-    ensures { Filled (marked_problem near.now n k) t.new }
+// Fills a table of all ones with the problem.
+fn fill_table(g: &Colouring, t: &mut [u16])
+    requires { Blank t.old }
+    ensures { Filled (marked_problem g.now.near.now g.now.vertices g.now.channels) t.new }
 {
-    fill_sizes(n, k, t);
+    fill_sizes(g.vertices, g.channels, t);
     table::put_places(t);
-    let rows = edge_rows(k);
-    enter_edges(near, n, &rows, t);
+    let rows = edge_rows(g.channels);
+    enter_edges(g, &rows, t);
 }
 
 // ---- the job
 
-// Writes the sheet of n vertices and k channels.
-fn write(near: &[u8], n: usize, k: usize, sheet: &mut [u8]) -> Coloured
-    requires { Ranged near.now n k × (1 ≤ k) }
-    ensures answer { result ≡ (write_job (marked_problem near.now n k) sheet.old).answer }
-    ensures buffer { sheet.new ≡ (write_job (marked_problem near.now n k) sheet.old).buffer }
+// Writes the sheet of the problem.
+fn write(g: &Colouring, sheet: &mut [u8]) -> Result<usize, ColourRefusal>
+    ensures answer { result ≡ (write_job (marked_problem g.now.near.now g.now.vertices g.now.channels) sheet.old).answer }
+    ensures buffer { sheet.new ≡ (write_job (marked_problem g.now.near.now g.now.vertices g.now.channels) sheet.old).buffer }
 {
     let mut t = table::blank_table();
-    fill_table(near, n, k, &mut t);
-    match compose::write_sheet(&t, 1, sheet) {
-        Composed::TooShort => Coloured::Refused(ColourRefusal::Buffer),
-        Composed::Written(w) => Coloured::Written(w),
-    }
+    fill_table(g, &mut t);
+    Ok(compose::write_sheet(&t, 1, sheet)?)
 }
 
 // 24: the vertices are not 1 to 32, or the channels not 1 to 16.
@@ -147,45 +162,39 @@ fn out_of_range(v: usize, k: u64) -> bool
 
 // The job once the file is read: the tests after 21, over the whole file, and then the sheet.
 fn colour_graph(
-    near: &[u8],
-    vertices: usize,
-    edges: usize,
-    lines: usize,
-    loops: bool,
+    near: &[u8; 1024],
+    found: GraphRead,
     channels: u64,
     sheet: &mut [u8],
-) -> Coloured
-    requires { length near.now ≡ 1024 }
-    ensures answer { result ≡ (graph_job near.now vertices edges lines loops channels sheet.old).answer }
-    ensures buffer { sheet.new ≡ (graph_job near.now vertices edges lines loops channels sheet.old).buffer }
+) -> Result<usize, ColourRefusal>
+    ensures answer { result ≡ (graph_job near.now found channels sheet.old).answer }
+    ensures buffer { sheet.new ≡ (graph_job near.now found channels sheet.old).buffer }
 {
-    if loops {
-        return Coloured::Refused(ColourRefusal::Loop);
+    if found.loops {
+        return Err(ColourRefusal::Loop);
     }
-    if lines != edges {
-        return Coloured::Refused(ColourRefusal::Count);
+    if found.lines != found.edges {
+        return Err(ColourRefusal::Count);
     }
-    if out_of_range(vertices, channels) {
-        return Coloured::Refused(ColourRefusal::Range);
+    if out_of_range(found.vertices, channels) {
+        return Err(ColourRefusal::Range);
     }
-    write(near, vertices, channels as usize, sheet)
+    let g = Colouring {
+        near,
+        vertices: found.vertices,
+        channels: channels as usize,
+    };
+    write(&g, sheet)
 }
 
-// Writes the sheet whose plans are the proper colourings of the graph of a file with so many channels.
-pub fn colour(file: &[u8], channels: u64, sheet: &mut [u8]) -> Coloured
+// Writes the sheet whose plans are the proper colourings of the graph of a file with so many channels: the bytes written, or the refusal.
+pub fn colour(file: &[u8], channels: u64, sheet: &mut [u8]) -> Result<usize, ColourRefusal>
     ensures answer { result ≡ (colour_job file.now channels sheet.old).answer }
     ensures buffer { sheet.new ≡ (colour_job file.now channels sheet.old).buffer }
 {
     let mut near = [0u8; 1024];
-    match read_graph::read_graph(file, &mut near) {
-        GraphRead::Bad => Coloured::Refused(ColourRefusal::File),
-        GraphRead::Read {
-            vertices,
-            edges,
-            lines,
-            loops,
-        } => colour_graph(&near, vertices, edges, lines, loops, channels, sheet),
-    }
+    let found = read_graph::read_graph(file, &mut near)?;
+    colour_graph(&near, found, channels, sheet)
 }
 
 // ---- from C
@@ -197,7 +206,7 @@ pub fn colour_call(file: &[u8], channels: u64, sheet: &mut [u8]) -> u64
     ensures sheet { sheet.new ≡ (colour_call file.now channels sheet.old).sheet }
 {
     match colour(file, channels, sheet) {
-        Coloured::Refused(r) => colour_number(r) as u64,
-        Coloured::Written(w) => 256 * w as u64,
+        Ok(w) => 256 * w as u64,
+        Err(r) => u8::from(r) as u64,
     }
 }

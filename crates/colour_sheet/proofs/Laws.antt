@@ -13,7 +13,7 @@ use Rattle.graph.specs.Graph.{all_digits, is_number, decimal_from, decimal_of}
 use Rattle.graph.specs.Scan.{digits_in}
 use Rattle.graph.proofs.Fields.{digits_whole, whole_digits}
 use Rattle.read_graph.specs.Parts.{NumberAt, FieldAt}
-use Rattle.read_graph.specs.declared.Field.TheVariants.{NoNumber}
+use Rattle.std.specs.Prelude.{None}
 use Rattle.colour_sheet.specs.Argument.{channels_of}
 
 -- the arguments `16`, `007`, nothing, `3x`, and ten digits
@@ -45,10 +45,10 @@ read_whole w e =
     (leb-true 1 (length w) q.0, (few, digits_whole 10 w p.0 (omega arith)))
 
 -- where none is read, it is none
-pub none_read : (w : List ℕ) → FieldAt w 0 10 NoNumber → channels_of w ≡ 0
+pub none_read : (w : List ℕ) → FieldAt w 0 10 None → channels_of w ≡ 0
 none_read w h = go (split (is_number w)) h
   where
-    go : (is_number w ≡ true) ⊎ (is_number w ≡ false) → FieldAt w 0 10 NoNumber → channels_of w ≡ 0
+    go : (is_number w ≡ true) ⊎ (is_number w ≡ false) → FieldAt w 0 10 None → channels_of w ≡ 0
     go (inr e) h = none w e
     go (inl e) (inl (inl z)) = let q = read_whole w e in let s = q.0 in let l = ap length q.1.1 in absurd (omega arith)
     go (inl e) (inl (inr z)) = let q = read_whole w e in let s = q.1.0 in let l = ap length q.1.1 in absurd (omega arith)

@@ -1,4 +1,5 @@
 -- What is written, by the job's answer. Assumes nothing.
+use Rattle.std.specs.Prelude.{Ok, Err}
 use mathlib.Core.Path.{◌≡◌, sym, ap, ◌∙◌}
 use mathlib.Core.List.{List}
 use Prim.Native.Nat.{ℕ, ◌+◌, ◌≤◌}
@@ -7,19 +8,17 @@ use lib.ListN.{length, take}
 use Rattle.fields.specs.Print.{refused_line}
 use Rattle.buffers.specs.Written.{written}
 use Rattle.buffers.proofs.Written.{take_written}
-use Rattle.colour.specs.Colour.{ColourResult, colour_number}
+use Rattle.colour.specs.Colour.{Coloured, ColourResult, colour_number}
 use Rattle.colour.specs.declared.ColourRefusal.{ColourRefusal}
-use Rattle.colour.specs.declared.Coloured.{Coloured}
-use Rattle.colour.specs.declared.Coloured.TheVariants.{Written, Refused}
 use Rattle.colour_sheet.specs.Text.{answer_text, coloured_text}
 
 module _ (c : ColourResult) (a : Coloured) (p : a ≡ c.answer) where
   -- the sheet, where it was left
-  pub text_sheet : (w : ℕ) (b : List ℕ) → a ≡ Written w → b ≡ c.buffer → take w b ≡ coloured_text c
+  pub text_sheet : (w : ℕ) (b : List ℕ) → a ≡ Ok w → b ≡ c.buffer → take w b ≡ coloured_text c
   text_sheet w b e q = ap (take w) q ∙ ap (λ (x : Coloured). answer_text x c.buffer) (sym e ∙ p)
 
   -- or the line, put over the front of the buffer
-  pub text_line : (r : ColourRefusal) (n k : ℕ) (m b : List ℕ) → a ≡ Refused r → n ≡ colour_number r → b ≡ written m 0 (refused_line n) → k ≡ 0 + length (refused_line n) → k ≤ length m → take k b ≡ coloured_text c
+  pub text_line : (r : ColourRefusal) (n k : ℕ) (m b : List ℕ) → a ≡ Err r → n ≡ colour_number r → b ≡ written m 0 (refused_line n) → k ≡ 0 + length (refused_line n) → k ≤ length m → take k b ≡ coloured_text c
   text_line r n k m b e h q l s =
       (λ i. take (l i) (q i)) ∙ take_written m 0 (refused_line n) (omega arith)
       ∙ ap refused_line h ∙ ap (λ (x : Coloured). answer_text x c.buffer) (sym e ∙ p)

@@ -3,17 +3,14 @@
 #![tactic(auto)]
 
 ghost use Rattle.std.specs.Prelude.{◌≡◌, cond, ◌+◌, ◌≤◌, eqb, length, take};
-ghost use Rattle.std.specs.Io.{ReadsAtMost};
 ghost use Rattle.graph.specs.Graph.{file_limit};
 ghost use Rattle.colour.specs.Colour.{colour_job};
 ghost use Rattle.colour_sheet.specs.Argument.{channels_of};
 ghost use Rattle.colour_sheet.specs.Text.{coloured_text};
 
-use colour::Coloured;
-use read_graph::Field;
 use std::env::Env;
 use std::io;
-use std::io::{Input, Read};
+use std::io::Input;
 
 // The channels that an argument names: it is a number and nothing else.
 fn channels_of(word: &[u8]) -> u64
@@ -24,8 +21,8 @@ fn channels_of(word: &[u8]) -> u64
         return 0;
     }
     match read_graph::field_at(word, 0, 10) {
-        Field::NoNumber => 0,
-        Field::Number(x, next) => whole(n, x, next),
+        None => 0,
+        Some(d) => whole(n, d.value, d.next),
     }
 }
 
@@ -50,33 +47,17 @@ fn put_coloured(file: &[u8], channels: u64, out: &mut [u8]) -> usize
     ensures text { take result out.new ≡ coloured_text (colour_job file.now channels out.old) }
     ensures within { result ≤ 16904 }
 {
-    let a = colour::colour(file, channels, out);
-    match a {
-        Coloured::Written(n) => n,
-        Coloured::Refused(r) => text::put_refused_line(out, 0, colour::colour_number(r) as usize),
+    match colour::colour(file, channels, out) {
+        Ok(n) => n,
+        Err(r) => text::put_refused_line(out, 0, u8::from(r) as usize),
     }
-}
-
-// Reads until the buffer is full or the input ends: how many bytes stand at its front then.
-fn read_full<R: Read>(input: &mut R, buf: &mut [u8]) -> io::Result<usize>
-    ensures { ReadsAtMost result buf.new }
-{
-    let mut done = 0;
-    while done < buf.len() {
-        let n = input.read(&mut buf[done..])?;
-        if n == 0 {
-            break;
-        }
-        done += n;
-    }
-    Ok(done)
 }
 
 // The sheet of what standard input holds, up to one byte more than a file may have: the buffer for it has just that length.
 fn print_sheet<R: Input + Print>(rt: &R, channels: u64, file: &mut [u8]) -> io::Result<()>
     requires { length file.old ≡ file_limit + 1 }
 {
-    let n = read_full(&mut rt.reader(), file)?;
+    let n = whole_input::read_full(&mut rt.reader(), file)?;
     let mut out = [0u8; 16904];
     let k = put_coloured(&file[..n], channels, &mut out);
     rt.write_all(&out[..k])

@@ -16,8 +16,7 @@ use Rattle.problem.specs.Problem.{Problem}
 use Rattle.problem.proofs.HeldTable.{row_sized}
 use Rattle.sheet.specs.Sheet.{Layout, layout, variables_of, size_at, row_width, Keeps}
 use Rattle.sheet.specs.Relation.{rows_of, row_in, problem_of}
-use Rattle.sheet.specs.declared.Rows.{Rows}
-use Rattle.sheet.specs.declared.Rows.TheVariants.{At, Unconstrained}
+use Rattle.std.specs.Prelude.{None, Option, Some}
 use Rattle.sheet.proofs.Laws.{all_full_lem}
 use Rattle.sheet.proofs.Accepted.{rows_narrow, Found, found, size_in, listed_of, bounded}
 use Rattle.sheet.proofs.Allows.{unconstrained_allowed, row_tells}
@@ -48,7 +47,7 @@ sized L s i h = size_in L s i h
 
 module _ (L : Layout) (s : List ℕ) (K : Keeps L s) (i j : ℕ) where
   -- a row of the sheet says which settings are allowed
-  pub row_allows : (r : ℕ) → rows_of L s i j ≡ At r → (a c : ℕ) → a < (problem_of L s).size i → c < (problem_of L s).size j → bit (row_in L s j r a) c ≡ (problem_of L s).allowed i a j c
+  pub row_allows : (r : ℕ) → rows_of L s i j ≡ Some r → (a c : ℕ) → a < (problem_of L s).size i → c < (problem_of L s).size j → bit (row_in L s j r a) c ≡ (problem_of L s).allowed i a j c
   unfolding problem_of
   row_allows r e a c h l =
       let f = found L s i j r K e in
@@ -59,7 +58,7 @@ module _ (L : Layout) (s : List ℕ) (K : Keeps L s) (i j : ℕ) where
       sym (row_tells L s i a j c rises (listed_of L s i a (omega arith) (omega arith)) (listed_of L s j c ends (omega arith)) r e)
 
   -- and is the set of them
-  pub row_is : (r : ℕ) → rows_of L s i j ≡ At r → (a : ℕ) → a < (problem_of L s).size i → row_in L s j r a ≡ row_number (problem_of L s) i j a
+  pub row_is : (r : ℕ) → rows_of L s i j ≡ Some r → (a : ℕ) → a < (problem_of L s).size i → row_in L s j r a ≡ row_number (problem_of L s) i j a
   row_is r e a h =
       let f = found L s i j r K e in
       let rises = f.rises in
@@ -68,7 +67,7 @@ module _ (L : Layout) (s : List ℕ) (K : Keeps L s) (i j : ℕ) where
       row_up L s K i a j (listed_of L s i a (omega arith) (omega arith)) ends r rises e ∙ row_sized (bounded L s K) i j a
 
   -- a block bars something
-  pub block_some : (r : ℕ) → rows_of L s i j ≡ At r → pair_bars (problem_of L s) i j ≡ true
+  pub block_some : (r : ℕ) → rows_of L s i j ≡ Some r → pair_bars (problem_of L s) i j ≡ true
   block_some r e = go (pair_bars (problem_of L s) i j) refl
     where
       f : Found L s i j r
@@ -91,7 +90,7 @@ module _ (L : Layout) (s : List ℕ) (K : Keeps L s) (i j : ℕ) where
           f.bars)
 
   -- and a pair with none bars nothing
-  pub free_none : i < j → j < variables_of s → rows_of L s i j ≡ Unconstrained → pair_bars (problem_of L s) i j ≡ false
+  pub free_none : i < j → j < variables_of s → rows_of L s i j ≡ None → pair_bars (problem_of L s) i j ≡ false
   unfolding problem_of
   free_none h l e =
       let zi = size_in L s i (omega arith) in
@@ -100,13 +99,13 @@ module _ (L : Layout) (s : List ℕ) (K : Keeps L s) (i j : ℕ) where
 
   -- "A pair with no block allows everything; so a block that bars nothing is refused.": two items have a block exactly where some two of their
   -- settings are barred
-  pub block_bars : i < j → j < (problem_of L s).n → ((r : ℕ) × (rows_of L s i j ≡ At r)) ↔ ((a : ℕ) × (b : ℕ) × (a < (problem_of L s).size i) × (b < (problem_of L s).size j) × ((problem_of L s).allowed i a j b ≡ false))
+  pub block_bars : i < j → j < (problem_of L s).n → ((r : ℕ) × (rows_of L s i j ≡ Some r)) ↔ ((a : ℕ) × (b : ℕ) × (a < (problem_of L s).size i) × (b < (problem_of L s).size j) × ((problem_of L s).allowed i a j b ≡ false))
   unfolding problem_of
   block_bars h l = (λ x. bars_some (problem_of L s) i j (block_some x.0 x.1), λ x. go (rows_of L s i j) refl x)
     where
-      go : (x : Rows) → rows_of L s i j ≡ x → ((a : ℕ) × (b : ℕ) × (a < (problem_of L s).size i) × (b < (problem_of L s).size j) × ((problem_of L s).allowed i a j b ≡ false)) → (r : ℕ) × (rows_of L s i j ≡ At r)
-      go (At r) e x = (r, e)
-      go Unconstrained e x =
+      go : (x : Option ℕ) → rows_of L s i j ≡ x → ((a : ℕ) × (b : ℕ) × (a < (problem_of L s).size i) × (b < (problem_of L s).size j) × ((problem_of L s).allowed i a j b ≡ false)) → (r : ℕ) × (rows_of L s i j ≡ Some r)
+      go (Some r) e x = (r, e)
+      go None e x =
           let zi = size_in L s i (omega arith) in
           let zj = size_in L s j l in
           let ha = x.2 in

@@ -15,7 +15,7 @@ use Rattle.problem.specs.Problem.{Problem}
 use Rattle.buffers.specs.Bytes.{byte_at, number_at, number_bytes, AreBytes}
 use Rattle.sheet.specs.Sheet.{Layout, version_of, length_of, variables_of, blocks_of, size_at, row_width, row_bytes, in_order, Keeps}
 use Rattle.sheet.specs.Relation.{rows_from, rows_of, size_of, problem_of}
-use Rattle.sheet.specs.declared.Rows.TheVariants.{At, Unconstrained}
+use Rattle.std.specs.Prelude.{None, Some}
 use Rattle.sheet.proofs.Laws.{none_beyond, block_there, block_next, blocks_next, blocks_end}
 use Rattle.sheet.proofs.Accepted.{Good, Here, here, at_end, facts, is_pair, rows_hit, rows_miss, rows_of_lem, size_in}
 use Rattle.compose.specs.Compose.{row_number, pair_bars, has_block, block_count, rows_bytes, block_bytes, blocks_bytes, sheet_length, sheet_bytes}
@@ -86,7 +86,7 @@ module _ (L : Layout) (s : List ℕ) (y : Keeps L s) where
   v = version_of s
 
   -- a pair that the sheet has no block of
-  free : (x : ℕ) → rows_of L s (x / 32) (x % 32) ≡ Unconstrained → has_block P x ≡ false
+  free : (x : ℕ) → rows_of L s (x / 32) (x % 32) ≡ None → has_block P x ≡ false
   unfolding problem_of
   free x e = go (has_block P x) refl
     where
@@ -101,7 +101,7 @@ module _ (L : Layout) (s : List ℕ) (y : Keeps L s) where
 
   -- a block that is read is the block that is written
   block_again : AreBytes s → (p : ℕ) → byte_at s p < byte_at s (p + 1) → byte_at s (p + 1) < variables_of s → p + 2 + row_bytes L s (byte_at s p) (byte_at s (p + 1)) ≤ length s
-      → rows_of L s (byte_at s p) (byte_at s (p + 1)) ≡ At (p + 2)
+      → rows_of L s (byte_at s p) (byte_at s (p + 1)) ≡ Some (p + 2)
       → drop p s ≡ block_bytes L v P (byte_at s p) (byte_at s (p + 1)) ++ drop (p + 2 + row_bytes L s (byte_at s p) (byte_at s (p + 1))) s
   unfolding block_bytes
   block_again bytes p h l within e =
@@ -167,7 +167,7 @@ module _ (L : Layout) (s : List ℕ) (y : Keeps L s) where
           let within = q.block.within in
           let ei : x / 32 ≡ i = omega arith in
           let ej : x % 32 ≡ j = omega arith in
-          let found : rows_of L s i j ≡ At (p + 2) = r i j (omega arith) ∙ rows_hit L s i j m p h (simp (eq-eqb i i refl, eq-eqb j j refl)) in
+          let found : rows_of L s i j ≡ Some (p + 2) = r i j (omega arith) ∙ rows_hit L s i j m p h (simp (eq-eqb i i refl, eq-eqb j j refl)) in
           let has = block_has P x (there x i j ei ej rises ends (block_some L s y i j (p + 2) found)) in
           let rest = ih (m - 1) (p + 2 + row_bytes L s i j) (omega arith) (rw e at q.rest) (among_next x m p h e r) in
           let c = rest.blocks_left in

@@ -1,6 +1,7 @@
 -- What a caller of the writer finds in its buffer. Assumes nothing.
 use mathlib.Core.Path.{◌≡◌, ap}
 use mathlib.Core.List.{List}
+use Rattle.std.specs.Prelude.{Ok, Err}
 use Prim.Native.Nat.{ℕ, ◌≤◌, ◌<◌}
 use lib.ListN.{length, take, drop}
 use lib.Seq.{take-append_seam}
@@ -10,16 +11,15 @@ use Rattle.problem.specs.Held.{held, Bounded, Filled}
 use Rattle.problem.proofs.HeldTable.{held_filled}
 use Rattle.sheet.specs.Sheet.{Layout}
 use Rattle.buffers.specs.Written.{fronted}
-use Rattle.compose.specs.Compose.{sheet_bytes, sheet_over}
-use Rattle.compose.specs.declared.Composed.TheVariants.{Written, TooShort}
+use Rattle.compose.specs.Compose.{sheet_bytes, too_short, sheet_over}
 
 module _ (L : Layout) (v : ℕ) (P : Problem) (b : List ℕ) where
-  pub sheet_over_short : length b < length (sheet_bytes L v P) → sheet_over L v P b ≡ record { answer = TooShort; buffer = b }
+  pub sheet_over_short : length b < length (sheet_bytes L v P) → sheet_over L v P b ≡ record { answer = Err too_short; buffer = b }
   unfolding sheet_over
   sheet_over_short h = simp (lt-ltb _ _ h)
 
   pub sheet_over_done : length (sheet_bytes L v P) ≤ length b
-      → sheet_over L v P b ≡ record { answer = Written (length (sheet_bytes L v P)); buffer = fronted (sheet_bytes L v P) b }
+      → sheet_over L v P b ≡ record { answer = Ok (length (sheet_bytes L v P)); buffer = fronted (sheet_bytes L v P) b }
   unfolding sheet_over
   sheet_over_done h = simp (le-ltb _ _ h)
 

@@ -15,7 +15,7 @@ use Rattle.problem.specs.Problem.{Problem}
 use Rattle.buffers.specs.Bytes.{byte_at}
 use Rattle.sheet.specs.Sheet.{Layout, bad_sizes}
 use Rattle.sheet.specs.Relation.{rows_from}
-use Rattle.sheet.specs.declared.Rows.TheVariants.{Unconstrained}
+use Rattle.std.specs.Prelude.{None}
 use Rattle.sheet.proofs.Accepted.{Good, here, is_pair, rows_miss, rows_end}
 use Rattle.compose.specs.Compose.{row_number, row_bars, pair_bars, has_block}
 
@@ -32,12 +32,12 @@ module _ (L : Layout) (s : List ℕ) where
       simp (ne_eqb (byte_at s p) 0 (λ e. omega arith), le-ltb 16 (byte_at s p) d) (none_bad k (p + 1) (λ i l. let u : p + suc i ≡ p + 1 + i = omega arith in rw u at (h (suc i) (omega arith))))
 
   -- among good blocks from `least` on there is none of a lower pair
-  pub rows_passed : (i j m least p : ℕ) → Good L s m least p → 32 * i + j < least → rows_from L s i j m p ≡ Unconstrained
+  pub rows_passed : (i j m least p : ℕ) → Good L s m least p → 32 * i + j < least → rows_from L s i j m p ≡ None
   rows_passed i j zero least p g h = rows_end L s i j p
   rows_passed i j (suc m) least p g h = go (eqb (byte_at s p) i && eqb (byte_at s (p + 1)) j) refl (rows_passed i j m)
     where
       go : (t : Bool) → (eqb (byte_at s p) i && eqb (byte_at s (p + 1)) j) ≡ t
-          → ((least p : ℕ) → Good L s m least p → 32 * i + j < least → rows_from L s i j m p ≡ Unconstrained) → rows_from L s i j (suc m) p ≡ Unconstrained
+          → ((least p : ℕ) → Good L s m least p → 32 * i + j < least → rows_from L s i j m p ≡ None) → rows_from L s i j (suc m) p ≡ None
       go true e ih =
           let y = here L s (suc m) least p (omega arith) g in
           let q = is_pair L s i j p e in

@@ -18,11 +18,9 @@ use Rattle.problem.specs.Problem.{Problem}
 use Rattle.problem.specs.Held.{Bounded}
 use Rattle.problem.proofs.Same.{problem_same}
 use Rattle.buffers.specs.Bytes.{byte_at, number_at, number_bytes}
-use Rattle.sheet.specs.Sheet.{Layout, version_of, length_of, variables_of, blocks_of, size_at, row_width, row_bytes, in_order, allows_all, block_of, block_at, Keeps}
+use Rattle.sheet.specs.Sheet.{Layout, version_of, length_of, variables_of, blocks_of, size_at, row_width, row_bytes, in_order, allows_all, block_of, block_at, Keeps, next_block}
 use Rattle.sheet.specs.Relation.{rows_from, rows_of, row_in, rows_allow, size_of, allowed_of, problem_of}
-use Rattle.sheet.specs.declared.Rows.{Rows}
-use Rattle.sheet.specs.declared.Rows.TheVariants.{At}
-use Rattle.sheet.specs.declared.Block.TheVariants.{Next}
+use Rattle.std.specs.Prelude.{Option, Some}
 use Rattle.sheet.proofs.Laws.{none_beyond, full_rows, block_there, block_next, blocks_next, blocks_end, sheet_blocks}
 use Rattle.sheet.proofs.Accepted.{Good, is_pair, rows_hit, rows_miss, rows_of_lem, size_in, size_out, listed_of, allowed_listed, pair_up, pair_down, bounded, longest}
 use Rattle.compose.specs.Compose.{row_number, pair_bars, has_block, block_count, rows_bytes, block_bytes, blocks_bytes, sheet_length, sheet_bytes, Roomy}
@@ -97,7 +95,7 @@ module _ (L : Layout) (v : ℕ) (P : Problem) (R : Roomy L) (taken : L.takes v �
 
     -- ---- the blocks are good
 
-    good_block : (x least p : ℕ) → Block P x → least ≤ x → Read p (x / 32) (x % 32) → block_at L s least p ≡ Next (x + 1) (p + 2 + row_bytes L s (x / 32) (x % 32))
+    good_block : (x least p : ℕ) → Block P x → least ≤ x → Read p (x / 32) (x % 32) → block_at L s least p ≡ next_block (x + 1) (p + 2 + row_bytes L s (x / 32) (x % 32))
     good_block x least p b h r =
         let i = x / 32 in
         let j = x % 32 in
@@ -118,7 +116,7 @@ module _ (L : Layout) (v : ℕ) (P : Problem) (R : Roomy L) (taken : L.takes v �
         ∙ ap (λ (y : ℕ). block_of L s least p y (byte_at s (p + 1))) r.first
         ∙ ap (block_of L s least p i) r.second
         ∙ block_next L s least p i j order within low (go (allows_all L s (row_width L s j) (size_at s j) (size_at s i) (p + 2)) refl zi zj)
-        ∙ ap (λ (y : ℕ). Next (y + 1) (p + 2 + row_bytes L s i j)) e
+        ∙ ap (λ (y : ℕ). next_block (y + 1) (p + 2 + row_bytes L s i j)) e
       where
         go : (t : Bool) → allows_all L s (row_width L s (x % 32)) (size_at s (x % 32)) (size_at s (x / 32)) (p + 2) ≡ t → size_at s (x / 32) ≡ P.size (x / 32) → size_at s (x % 32) ≡ P.size (x % 32) → t ≡ false
         go false e zi zj = refl
@@ -167,7 +165,7 @@ module _ (L : Layout) (v : ℕ) (P : Problem) (R : Roomy L) (taken : L.takes v �
 
     -- ---- the rows that are found say what the problem allows
 
-    abbrev Says : (i j : ℕ) → Rows → Type 0
+    abbrev Says : (i j : ℕ) → Option ℕ → Type 0
     Says i j rows = (a b : ℕ) → a < P.size i → b < P.size j → rows_allow L s rows j a b ≡ P.allowed i a j b
 
     -- the pair has no block, and stands in the sheet nowhere
@@ -178,9 +176,9 @@ module _ (L : Layout) (v : ℕ) (P : Problem) (R : Roomy L) (taken : L.takes v �
         let ej : x % 32 ≡ j = omega arith in
         let free = rows_passed L s i j (block_count P k (x + 1)) (x + 1) p (blocks_good k (x + 1) (x + 1) p (omega arith) t) (omega arith) in
         let none : pair_bars P i j ≡ false = rw (ei, ej) at (no_block P x n (omega arith) (omega arith)) in
-        λ a b m o. ap (λ (r : Rows). rows_allow L s r j a b) free ∙ sym (bars_none P i j none a b m o)
+        λ a b m o. ap (λ (r : Option ℕ). rows_allow L s r j a b) free ∙ sym (bars_none P i j none a b m o)
 
-    says_here : (p i j : ℕ) → Read p i j → Says i j (At (p + 2))
+    says_here : (p i j : ℕ) → Read p i j → Says i j (Some (p + 2))
     says_here p i j r a b m o = ap (λ (x : ℕ). bit x b) (r.rows a m) ∙ bit_mask (P.size j) (λ c. P.allowed i a j c) b o
 
     says_from : (i j k x p : ℕ) → x + k ≡ 1024 → i < j → j < P.n → x ≤ 32 * i + j → Stands s p (blocks_bytes L v P k x) → Says i j (rows_from L s i j (block_count P k x) p)

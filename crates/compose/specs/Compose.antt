@@ -1,5 +1,5 @@
 -- docs/FORMAT.md, "The sheet", written: the bytes of the sheet of a version that keeps the layout and is a problem.
-use Rattle.std.specs.Prelude.{◌≡◌, Bool, true, cond, not, ◌&&◌, List, [], ◌∷◌, ◌++◌, ℕ, zero, suc, ◌+◌, ◌/◌, ◌%◌, ◌^◌, ◌≤◌, ltb, length}
+use Rattle.std.specs.Prelude.{◌≡◌, Bool, true, cond, not, ◌&&◌, List, [], ◌∷◌, ◌++◌, Result, Ok, Err, ℕ, zero, suc, ◌+◌, ◌/◌, ◌%◌, ◌^◌, ◌≤◌, ltb, length}
 use Rattle.bounded.specs.Quantifiers.{any_below, one_if}
 use Rattle.bounded.specs.Mask.{mask_of}
 use Rattle.bounded.specs.Table.{tab}
@@ -7,8 +7,7 @@ use Rattle.problem.specs.Problem.{Problem}
 use Rattle.buffers.specs.Bytes.{number_bytes}
 use Rattle.sheet.specs.Sheet.{Layout}
 use Rattle.buffers.specs.Written.{fronted}
-use Rattle.compose.specs.declared.Composed.{Composed}
-use Rattle.compose.specs.declared.Composed.TheVariants.{Written, TooShort}
+use Rattle.compose.specs.declared.TooShort.{TooShort}
 
 module _ (P : Problem) where
   -- the row of setting a of i towards j: "In a row, the bit worth 2^c is set when setting c of j is allowed with the setting of i whose row it is."
@@ -67,12 +66,16 @@ pub record Roomy (L : Layout) : Type 0 where
 
 -- what writing answers and leaves in the buffer
 pub record SheetResult : Type 0 where
-  pub answer : Composed
+  pub answer : Result ℕ TooShort
   pub buffer : List ℕ
+
+-- the only value of its type
+abbrev pub too_short : TooShort
+too_short = record {}
 
 -- a buffer that is too short stays as it was; else the sheet stands at its front, and its old bytes after that
 unfoldable pub sheet_over : (L : Layout) (v : ℕ) (P : Problem) → List ℕ → SheetResult
 sheet_over L v P b =
     cond (ltb (length b) (length (sheet_bytes L v P)))
-    (record { answer = TooShort; buffer = b })
-    (record { answer = Written (length (sheet_bytes L v P)); buffer = fronted (sheet_bytes L v P) b })
+    (record { answer = Err too_short; buffer = b })
+    (record { answer = Ok (length (sheet_bytes L v P)); buffer = fronted (sheet_bytes L v P) b })

@@ -11,14 +11,12 @@ ghost use Rattle.buffers.specs.Written.{fronted, written};
 ghost use Rattle.compose.specs.Compose.{row_number, pair_bars, block_count, rows_bytes, block_bytes, place_bytes, blocks_bytes, sheet_length, sheet_bytes, sheet_over};
 ghost use Rattle.compose.specs.Parts.{Version, Pair, mark_of, BlockMarked, BytesWrote, front_bytes};
 
+use bounded::Set;
 use buffers::put_word;
 
-// What writing a sheet answers: its length, or that the buffer is shorter than the sheet.
-#[derive(Clone, Copy)]
-pub enum Composed {
-    Written(usize),
-    TooShort,
-}
+// The buffer is shorter than the sheet.
+#[derive(Clone, Copy, PartialEq, Eq, Debug)]
+pub struct TooShort;
 
 // ---- what a pair bars
 
@@ -36,13 +34,11 @@ fn bars(t: &[u16], i: usize, j: usize) -> bool
     ensures { result ≡ pair_bars (held t.now) i j }
 {
     let z = held::size(t, i);
-    let full = bounded::below32(held::size(t, j)) as usize;
-    let mut a: usize = 0;
-    while a < z {
+    let full = u32::below(held::size(t, j)) as usize;
+    for a in 0..z {
         if row_number(t, i, j, a) != full {
             return true;
         }
-        a += 1;
     }
     false
 }
@@ -71,39 +67,50 @@ fn mark_blocks(t: &[u16], n: usize, marks: &mut [u8]) -> usize
     ensures { (marks.new ≡ filled (32 * n) (mark_of (held t.now)) marks.old) × (result ≡ block_count (held t.now) 1024 0) }
 {
     let mut blocks: usize = 0;
-    let mut x: usize = 0;
-    while x < 32 * n {
+    for x in 0..32 * n {
         let m = mark(t, n, x);
         marks[x] = m;
         blocks += m as usize;
-        x += 1;
     }
     blocks
+}
+
+// ---- what is written
+
+// The problem of a filled table and the version to write it in: its items, and the pairs that have a block, counted and marked.
+#[derive(Clone, Copy)]
+struct Draft<'a> {
+    t: &'a [u16],
+    v: usize,
+    n: usize,
+    blocks: usize,
+    marks: &'a [u8],
+    ghost version: { Version v },
+    ghost items: { n ≡ (held t.now).n },
+    ghost counted: { blocks ≡ block_count (held t.now) 1024 0 },
+    ghost marked: { BlockMarked t.now marks.now },
 }
 
 // ---- the length
 
 // The bytes of the block of the pair at place x; none where it has no block.
-fn place_length(t: &[u16], v: usize, marks: &[u8], x: usize) -> usize
-    requires { BlockMarked t.now marks.now × (x < 32 * (held t.now).n) }
-    ensures { result ≡ length (place_bytes layout v (held t.now) x) }
+fn place_length(d: &Draft, x: usize) -> usize
+    requires { x < 32 * (held d.now.t.now).n }
+    ensures { result ≡ length (place_bytes layout d.now.v (held d.now.t.now) x) }
 {
-    if marks[x] == 0 {
+    if d.marks[x] == 0 {
         return 0;
     }
-    2 + held::size(t, x / 32) * sheet::row_width(v, held::size(t, x % 32))
+    2 + held::size(d.t, x / 32) * sheet::row_width(d.v, held::size(d.t, x % 32))
 }
 
 // The bytes of all blocks.
-fn blocks_length(t: &[u16], v: usize, n: usize, marks: &[u8]) -> usize
-    requires { BlockMarked t.now marks.now × (n ≡ (held t.now).n) }
-    ensures { result ≡ length (blocks_bytes layout v (held t.now) 1024 0) }
+fn blocks_length(d: &Draft) -> usize
+    ensures { result ≡ length (blocks_bytes layout d.now.v (held d.now.t.now) 1024 0) }
 {
     let mut sum: usize = 0;
-    let mut x: usize = 0;
-    while x < 32 * n {
-        sum += place_length(t, v, marks, x);
-        x += 1;
+    for x in 0..32 * d.n {
+        sum += place_length(d, x);
     }
     sum
 }
@@ -130,12 +137,10 @@ fn put_rows(t: &[u16], v: usize, out: &mut [u8], at: usize, i: usize, j: usize) 
     let z = held::size(t, i);
     let w = sheet::row_width(v, held::size(t, j));
     let mut p = at;
-    let mut a: usize = 0;
-    while a < z {
+    for a in 0..z {
         let x = row_number(t, i, j, a);
         put_row(out, p, w, x);
         p += w;
-        a += 1;
     }
     p
 }
@@ -151,26 +156,24 @@ fn put_block(t: &[u16], v: usize, out: &mut [u8], at: usize, i: usize, j: usize)
 }
 
 // The block of the pair at place x, where it has one; the place after it.
-fn put_place(t: &[u16], v: usize, marks: &[u8], out: &mut [u8], at: usize, x: usize) -> usize
-    requires { BlockMarked t.now marks.now × ((x < 32 * (held t.now).n) × (Version v × (at + length (place_bytes layout v (held t.now) x) ≤ length out.old))) }
-    ensures { BytesWrote out.old at (place_bytes layout v (held t.now) x) out.new result }
+fn put_place(d: &Draft, out: &mut [u8], at: usize, x: usize) -> usize
+    requires { (x < 32 * (held d.now.t.now).n) × (at + length (place_bytes layout d.now.v (held d.now.t.now) x) ≤ length out.old) }
+    ensures { BytesWrote out.old at (place_bytes layout d.now.v (held d.now.t.now) x) out.new result }
 {
-    if marks[x] == 0 {
+    if d.marks[x] == 0 {
         return at;
     }
-    put_block(t, v, out, at, x / 32, x % 32)
+    put_block(d.t, d.v, out, at, x / 32, x % 32)
 }
 
 // All blocks, after the front and the sizes.
-fn put_blocks(t: &[u16], v: usize, n: usize, marks: &[u8], out: &mut [u8])
-    requires { BlockMarked t.now marks.now × ((n ≡ (held t.now).n) × (Version v × (8 + n + length (blocks_bytes layout v (held t.now) 1024 0) ≤ length out.old))) }
-    ensures { out.new ≡ written out.old (8 + n) (blocks_bytes layout v (held t.now) 1024 0) }
+fn put_blocks(d: &Draft, out: &mut [u8])
+    requires { 8 + d.now.n + length (blocks_bytes layout d.now.v (held d.now.t.now) 1024 0) ≤ length out.old }
+    ensures { out.new ≡ written out.old (8 + d.now.n) (blocks_bytes layout d.now.v (held d.now.t.now) 1024 0) }
 {
-    let mut p = 8 + n;
-    let mut x: usize = 0;
-    while x < 32 * n {
-        p = put_place(t, v, marks, out, p, x);
-        x += 1;
+    let mut p = 8 + d.n;
+    for x in 0..32 * d.n {
+        p = put_place(d, out, p, x);
     }
 }
 
@@ -196,52 +199,49 @@ fn put_sizes(t: &[u16], n: usize, out: &mut [u8])
     requires { RowTable t.now × ((n ≡ (held t.now).n) × (8 + n ≤ length out.old)) }
     ensures { out.new ≡ written out.old 8 (tab n (held t.now).size) }
 {
-    let mut i: usize = 0;
-    while i < n {
+    for i in 0..n {
         out[8 + i] = held::size(t, i) as u8;
-        i += 1;
     }
 }
 
 // ---- the sheet
 
 // The sheet at the front of a buffer that is long enough.
-fn put_sheet(t: &[u16], v: usize, n: usize, blocks: usize, marks: &[u8], len: usize, out: &mut [u8])
-    requires { BlockMarked t.now marks.now × ((n ≡ (held t.now).n) × ((blocks ≡ block_count (held t.now) 1024 0) × ((len ≡ sheet_length layout v (held t.now)) × (Version v × (len ≤ length out.old))))) }
-    ensures { out.new ≡ fronted (sheet_bytes layout v (held t.now)) out.old }
+fn put_sheet(d: &Draft, len: usize, out: &mut [u8])
+    requires { (len ≡ sheet_length layout d.now.v (held d.now.t.now)) × (len ≤ length out.old) }
+    ensures { out.new ≡ fronted (sheet_bytes layout d.now.v (held d.now.t.now)) out.old }
 {
-    put_front(out, v, len, n, blocks);
-    put_sizes(t, n, out);
-    put_blocks(t, v, n, marks, out);
+    put_front(out, d.v, len, d.n, d.blocks);
+    put_sizes(d.t, d.n, out);
+    put_blocks(d, out);
 }
 
 // The length first, then the sheet.
-fn write_marked(
-    t: &[u16],
-    v: usize,
-    n: usize,
-    blocks: usize,
-    marks: &[u8],
-    out: &mut [u8],
-) -> Composed
-    requires { BlockMarked t.now marks.now × ((n ≡ (held t.now).n) × ((blocks ≡ block_count (held t.now) 1024 0) × Version v)) }
-    ensures { (result ≡ (sheet_over layout v (held t.now) out.old).answer) × (out.new ≡ (sheet_over layout v (held t.now) out.old).buffer) }
+fn write_draft(d: &Draft, out: &mut [u8]) -> Result<usize, TooShort>
+    ensures { (result ≡ (sheet_over layout d.now.v (held d.now.t.now) out.old).answer) × (out.new ≡ (sheet_over layout d.now.v (held d.now.t.now) out.old).buffer) }
 {
-    let len = 8 + (n + blocks_length(t, v, n, marks));
+    let len = 8 + (d.n + blocks_length(d));
     if out.len() < len {
-        return Composed::TooShort;
+        return Err(TooShort);
     }
-    put_sheet(t, v, n, blocks, marks, len, out);
-    Composed::Written(len)
+    put_sheet(d, len, out);
+    Ok(len)
 }
 
 // Writes, at the front of the buffer, the sheet of version v that is the problem of the table. A buffer that is too short stays as it was.
-pub fn write_sheet(t: &[u16], v: usize, out: &mut [u8]) -> Composed
+pub fn write_sheet(t: &[u16], v: usize, out: &mut [u8]) -> Result<usize, TooShort>
     requires { RowTable t.now × Version v }
     ensures { (result ≡ (sheet_over layout v (held t.now) out.old).answer) × (out.new ≡ (sheet_over layout v (held t.now) out.old).buffer) }
 {
     let n = held::variables(t);
     let mut marks = [0u8; 1024];
     let blocks = mark_blocks(t, n, &mut marks);
-    write_marked(t, v, n, blocks, &marks, out)
+    let d = Draft {
+        t,
+        v,
+        n,
+        blocks,
+        marks: &marks,
+    };
+    write_draft(&d, out)
 }

@@ -1,4 +1,5 @@
 -- Covering over a table and a state that fits it, as the code tests it. Assumes nothing.
+use Rattle.std.specs.Prelude.{Option, Some, None}
 use mathlib.Core.Path.{◌≡◌, refl, sym, ap, ◌∙◌, subst}
 use mathlib.Core.Bool.{Bool, true, false, not, ◌&&◌}
 use mathlib.Core.Logic.Iff
@@ -20,10 +21,6 @@ use Rattle.problem.specs.Problem.{Problem, State, all_other, unspoilt, break_at,
 use Rattle.problem.specs.Held.{row_word, rows_at, held}
 use Rattle.problem.specs.Masks.{state_of}
 use Rattle.problem.specs.declared.Masks.{Masks}
-use Rattle.problem.specs.declared.Cover.{Cover}
-use Rattle.problem.specs.declared.Cover.TheVariants.{Spoilt, Holds}
-use Rattle.problem.specs.declared.Break.{Break}
-use Rattle.problem.specs.declared.Break.TheVariants.{Nowhere}
 use Rattle.problem.proofs.Reflect.{all_other_iff, spoils_iff, unspoilt_iff}
 use Rattle.problem.specs.Sentences.{Fits, Substitutes}
 use Rattle.problem.proofs.Spoiler.{spoiler_iff, breaks_iff}
@@ -41,7 +38,7 @@ module _ (P : Problem) (s : State) (rest i a j b l : ℕ) where
   unfolding spoiler_in
   in_set e = rw (e, spoiler_in)
 
-  pub off_set : bit rest l ≡ false → spoiler_in P s rest i a j b l ≡ Holds
+  pub off_set : bit rest l ≡ false → spoiler_in P s rest i a j b l ≡ None
   unfolding spoiler_in
   off_set e = rw (e, spoiler_in)
 
@@ -54,17 +51,17 @@ break_member P s rest i a j b l h =
     (imp_fails (bit rest l) (unspoilt (spoiler P s i a j b l)) (λ u. (not_iff (unspoilt (spoiler_in P s rest i a j b l))).0 h (subst T (sym (unspoilt_in P s rest i a j b l)) u))).0
 
 -- the test's answer, read as yes or no
-holds_iff : (x : Cover) → T (unspoilt x) ↔ (x ≡ Holds)
-holds_iff x = (is x, λ e. subst (λ (y : Cover). T (unspoilt y)) (sym e) tt)
+holds_iff : (x : Option ℕ) → T (unspoilt x) ↔ (x ≡ None)
+holds_iff x = (is x, λ e. subst (λ (y : Option ℕ). T (unspoilt y)) (sym e) tt)
   where
-    is : (x : Cover) → T (unspoilt x) → x ≡ Holds
-    is (Spoilt c) t = absurd t
-    is Holds t = refl
+    is : (x : Option ℕ) → T (unspoilt x) → x ≡ None
+    is (Some c) t = absurd t
+    is None t = refl
 
 -- the break that an answer tells of is one where the answer is spoilt
-unbroken_at : (l : ℕ) (x : Cover) → unbroken (break_at l x) ≡ unspoilt x
-unbroken_at l (Spoilt c) = refl
-unbroken_at l Holds = refl
+unbroken_at : (l : ℕ) (x : Option ℕ) → unbroken (break_at l x) ≡ unspoilt x
+unbroken_at l (Some c) = refl
+unbroken_at l None = refl
 
 module _ (P : Problem) (s : State) (rest i a j b : ℕ) where
   -- there is none where a covers b at each variable of the set
@@ -72,21 +69,21 @@ module _ (P : Problem) (s : State) (rest i a j b : ℕ) where
   unfolding first_break_in
   covers_all = go (lowest_or f 32) ∙ (λ t. all_below 32 (λ l. unspoilt_in P s rest i a j b l t))
     where
-      x : ℕ → Cover
+      x : ℕ → Option ℕ
       x = spoiler_in P s rest i a j b
 
       f : ℕ → Bool
       f l = not (unspoilt (x l))
 
-      g : ℕ → Break
+      g : ℕ → Option (ℕ × ℕ)
       g l = break_at l (x l)
 
       go : ((l : ℕ) × (l < 32) × T (f l) × ((m : ℕ) → m < l → T (f m) → ⊥)) ⊎ ((l : ℕ) → l < 32 → T (f l) → ⊥) → covers_in P s rest i a j b ≡ all_below 32 (λ l. unspoilt (x l))
       go (inl (l, k, t, h)) =
           let e : unspoilt (x l) ≡ false = T_false (unspoilt (x l)) ((not_iff (unspoilt (x l))).0 t) in
-          ap unbroken (at_lowest_is f g Nowhere 32 l k t h) ∙ unbroken_at l (x l) ∙ e ∙ sym (all_fail (λ l. unspoilt (x l)) 32 l k e)
+          ap unbroken (at_lowest_is f g None 32 l k t h) ∙ unbroken_at l (x l) ∙ e ∙ sym (all_fail (λ l. unspoilt (x l)) 32 l k e)
       go (inr h) =
-          ap unbroken (at_lowest_none f g Nowhere 32 h)
+          ap unbroken (at_lowest_none f g None 32 h)
           ∙ sym (all_intro (λ l. unspoilt (x l)) 32 (λ l k. elim (split (unspoilt (x l))) [ inl e ↦ e | inr e ↦ absurd (h l k ((not_iff (unspoilt (x l))).1 (T_not e))) ]))
 
 pub servers_lt : (P : Problem) (s : State) (rest good i j w : ℕ) → servers_in P s rest good i j w < 2 ^ 16
@@ -94,11 +91,11 @@ unfolding servers_in
 servers_lt P s rest good i j w = mask_lt 16 (λ u. bit good u && covers_in P s rest i u j w)
 
 module _ (P : Problem) (s : State) (rest i : ℕ) where
-  covers_holds : (a j b : ℕ) → T (covers_in P s rest i a j b) ↔ ((l : ℕ) → l < 32 → T (bit rest l) → spoiler P s i a j b l ≡ Holds)
+  covers_holds : (a j b : ℕ) → T (covers_in P s rest i a j b) ↔ ((l : ℕ) → l < 32 → T (bit rest l) → spoiler P s i a j b l ≡ None)
   covers_holds a j b = rw (covers_all P s rest i a j b) (simp (all_iff, imp_iff, holds_iff) Iff.rfl)
 
   -- Lane u is 1 exactly where u was asked and the cover test answers `Holds` at each variable of the set.
-  pub lane_iff : (good j w u : ℕ) → T (bit (servers_in P s rest good i j w) u) ↔ ((u < 16) × T (bit good u) × ((l : ℕ) → l < 32 → T (bit rest l) → spoiler P s i u j w l ≡ Holds))
+  pub lane_iff : (good j w u : ℕ) → T (bit (servers_in P s rest good i j w) u) ↔ ((u < 16) × T (bit good u) × ((l : ℕ) → l < 32 → T (bit rest l) → spoiler P s i u j w l ≡ None))
   unfolding servers_in
   lane_iff good j w u = (
     λ h. let k = member_lt 16 _ u (servers_lt P s rest good i j w) h in
@@ -121,13 +118,13 @@ module _ {P : Problem} {s : State} (F : Fits P s) where
 
   pub servers_in_iff : (rest good i j w u : ℕ) → T (bit (servers_in P s rest good i j w) u) ↔ ((u < 16) × T (bit good u) × ((l : ℕ) → l < 32 → T (bit rest l) → Substitutes P s i u j w l))
   servers_in_iff rest good i j w u = (
-    λ h. let y = (lane_iff P s rest i good j w u).0 h in (y.0, y.1, λ l k o. (spoiler_iff F i u j w l Holds).0 (y.2 l k o)),
-    λ y. (lane_iff P s rest i good j w u).1 (y.0, y.1, λ l k o. (spoiler_iff F i u j w l Holds).1 (y.2 l k o)),
+    λ h. let y = (lane_iff P s rest i good j w u).0 h in (y.0, y.1, λ l k o. (spoiler_iff F i u j w l None).0 (y.2 l k o)),
+    λ y. (lane_iff P s rest i good j w u).1 (y.0, y.1, λ l k o. (spoiler_iff F i u j w l None).1 (y.2 l k o)),
   )
 
   -- where the others break
   pub broken_at : {rest good left broken i j w : ℕ} → BrokenIn P s rest good left broken i j w → (u : ℕ) → T (bit good u) → (T (bit left u) → ⊥) → (l : ℕ) × (l < 32) × T (bit broken l) × T (bit rest l) × (Substitutes P s i u j w l → ⊥)
-  broken_at B u on off = let y = B.at u on off in (y.0, y.1, y.2, y.3, λ h. y.4 ((spoiler_iff F _ u _ _ y.0 Holds).1 h))
+  broken_at B u on off = let y = B.at u on off in (y.0, y.1, y.2, y.3, λ h. y.4 ((spoiler_iff F _ u _ _ y.0 None).1 h))
 
   -- some left: one of the set covers
   pub servers_some : (rest good i j w : ℕ) → servers_in P s rest good i j w ≢ 0 → (u : ℕ) × (u < 16) × (T (bit good u) × ((l : ℕ) → l < 32 → T (bit rest l) → Substitutes P s i u j w l))
@@ -204,9 +201,9 @@ module _ {t : List ℕ} {m : Masks} (R : Ready t m) where
     spoilers_lt k = lt_of_le_of_lt (and_le_l _ (65535 - row_word (held t) i l a)) (word_lt R l _ k)
 
     -- the cover test: the lowest of them
-    pub spoiler_word : at_lowest 16 (bit spoilers_word) Spoilt Holds ≡ spoiler (held t) (state_of m) i a j b l
+    pub spoiler_word : at_lowest 16 (bit spoilers_word) Some None ≡ spoiler (held t) (state_of m) i a j b l
     unfolding spoiler
-    spoiler_word = at_lowest_same 16 ((held t).size l) (bit spoilers_word) (spoils (held t) (state_of m) i a j b l) Spoilt Holds spoils_word
+    spoiler_word = at_lowest_same 16 ((held t).size l) (bit spoilers_word) (spoils (held t) (state_of m) i a j b l) Some None spoils_word
 
   pub other_loop : (i : ℕ) → i < 32 → (f : ℕ → Bool) → all_below 32 (λ l. imp (bit (others m.active i) l) (f l)) ≡ all_other (held t) (state_of m) i f
   unfolding state_of
@@ -231,16 +228,16 @@ module _ {t : List ℕ} {m : Masks} (R : Ready t m) where
       rest : ℕ
       rest = others m.active i
 
-      x : ℕ → Cover
+      x : ℕ → Option ℕ
       x = spoiler_in P (state_of m) rest i a i b
 
       f : ℕ → Bool
       f l = not (unspoilt (x l))
 
-      g : ℕ → Break
+      g : ℕ → Option (ℕ × ℕ)
       g l = break_at l (x l)
 
-      h : ℕ → Break
+      h : ℕ → Option (ℕ × ℕ)
       h l = break_at l (spoiler P (state_of m) i a i b l)
 
       held_at : ℕ → Bool
@@ -262,19 +259,19 @@ module _ {t : List ℕ} {m : Masks} (R : Ready t m) where
 
       go : ((l : ℕ) × (l < 32) × T (f l) × ((n : ℕ) → n < l → T (f n) → ⊥)) ⊎ ((l : ℕ) → l < 32 → T (f l) → ⊥) → first_break_in P (state_of m) rest i a i b ≡ first_break P (state_of m) i b a
       go (inl (l, k, t, least)) =
-          at_lowest_is f g Nowhere 32 l k t least
+          at_lowest_is f g None 32 l k t least
           ∙ ap (break_at l) (in_set P (state_of m) rest i a i b l (T_true (bit rest l) (in_rest l t).0))
-          ∙ sym (at_lowest_is (breaks P (state_of m) i b a) h Nowhere P.n l (R.fits.active_lt l ((others_iff m.active i l p k).0 (in_rest l t).0).0) (to l k t) (λ n q u. least n q (of n (lt_trans q k) u)))
+          ∙ sym (at_lowest_is (breaks P (state_of m) i b a) h None P.n l (R.fits.active_lt l ((others_iff m.active i l p k).0 (in_rest l t).0).0) (to l k t) (λ n q u. least n q (of n (lt_trans q k) u)))
       go (inr none) =
-          at_lowest_none f g Nowhere 32 none
-          ∙ sym (at_lowest_none (breaks P (state_of m) i b a) h Nowhere P.n (λ l q u. let k = active_32 R l ((breaks_iff R.fits i b a l).0 u).0 in none l k (of l k u)))
+          at_lowest_none f g None 32 none
+          ∙ sym (at_lowest_none (breaks P (state_of m) i b a) h None P.n (λ l q u. let k = active_32 R l ((breaks_iff R.fits i b a l).0 u).0 in none l k (of l k u)))
 
   -- at a variable that has no block with i every value of i covers
   pub near_covers : (i a j b x : ℕ) → Value t i a → Near t i x → (l : ℕ) → l < 32 → l ≢ i → bit x l ≡ false → Substitutes (held t) (state_of m) i a j b l
   near_covers i a j b x v near l k d e c o al = near_free R.table i a l x v near k d e c (R.fits.live_lt l c o)
 
-  near_spoiler : (i a j b x : ℕ) → Value t i a → Near t i x → (l : ℕ) → l < 32 → l ≢ i → bit x l ≡ false → spoiler (held t) (state_of m) i a j b l ≡ Holds
-  near_spoiler i a j b x v near l k d e = (spoiler_iff R.fits i a j b l Holds).1 (near_covers i a j b x v near l k d e)
+  near_spoiler : (i a j b x : ℕ) → Value t i a → Near t i x → (l : ℕ) → l < 32 → l ≢ i → bit x l ≡ false → spoiler (held t) (state_of m) i a j b l ≡ None
+  near_spoiler i a j b x v near l k d e = (spoiler_iff R.fits i a j b l None).1 (near_covers i a j b x v near l k d e)
 
   -- so the first break among the neighbours of i is the first break
   module _ (rest i a j b x : ℕ) (v : Value t i a) (near : Near t i x) (out : bit rest i ≡ false) where
@@ -290,7 +287,7 @@ module _ {t : List ℕ} {m : Masks} (R : Ready t m) where
 
     pub near_break : first_break_in (held t) (state_of m) (bit_and rest x) i a j b ≡ first_break_in (held t) (state_of m) rest i a j b
     unfolding first_break_in
-    near_break = at_lowest_ext 32 _ _ _ _ Nowhere (λ l k. ap (λ (y : Cover). not (unspoilt y)) (near_in l k)) (λ l k. ap (break_at l) (near_in l k))
+    near_break = at_lowest_ext 32 _ _ _ _ None (λ l k. ap (λ (y : Option ℕ). not (unspoilt y)) (near_in l k)) (λ l k. ap (break_at l) (near_in l k))
 
   -- the same with a set that is known to be the others
   pub other_by : (rest i : ℕ) → rest ≡ others m.active i → i < 32 → (f : ℕ → Bool) → all_below 32 (λ l. imp (bit rest l) (f l)) ≡ all_other (held t) (state_of m) i f

@@ -1,5 +1,6 @@
 -- Values that cover, found a variable at a time: those left cover at each variable passed, and each of the others breaks at one of them.
 -- Assumes nothing.
+use Rattle.std.specs.Prelude.{None}
 use mathlib.Core.Path.{◌≡◌, refl, sym, ap, ◌∙◌, subst}
 use mathlib.Core.Bool.{Bool, true, false, cond, not, ◌&&◌}
 use mathlib.Core.Logic.Iff
@@ -22,7 +23,6 @@ use Rattle.problem.specs.Problem.{Problem, State}
 use Rattle.problem.specs.Held.{row_word, rows_at, held, RowTable}
 use Rattle.problem.specs.Masks.{state_of}
 use Rattle.problem.specs.declared.Masks.{Masks}
-use Rattle.problem.specs.declared.Cover.TheVariants.{Holds}
 use Rattle.problem.specs.Sentences.{Fits, Substitutes}
 use Rattle.problem.proofs.Spoiler.{spoiler_iff}
 use Rattle.problem.proofs.HeldTable.{row_met, held_value_lem}
@@ -134,7 +134,7 @@ module _ {t : List ℕ} {m : Masks} (R : Ready t m) where
           shown = record {
             small = more_lt (not (eqb next some)) S.shown.small;
             at = λ u on off. elim (T_dec (bit some u)) [
-              | inl z ↦ (l, k, more_has u z off, here, λ h. off ((next_iff S.values u).1 (z, (spoiler_iff R.fits i u j w l Holds).0 h)))
+              | inl z ↦ (l, k, more_has u z off, here, λ h. off ((next_iff S.values u).1 (z, (spoiler_iff R.fits i u j w l None).0 h)))
               | inr z ↦ let y = S.shown.at u on z in (y.0, y.1, more_keeps (not (eqb next some)) y.0 y.2, y.3, y.4)
             ];
           };

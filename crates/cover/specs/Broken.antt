@@ -1,15 +1,14 @@
 -- Why no value of a set covers another: where the cover test of each of them answers a value that spoils it.
-use Rattle.std.specs.Prelude.{◌≡◌, ◌≢◌, ℕ, ◌^◌, ◌<◌, T}
+use Rattle.std.specs.Prelude.{◌≡◌, ◌≢◌, ℕ, ◌^◌, ◌<◌, T, None}
 use Rattle.bounded.specs.Mask.{bit}
 use Rattle.problem.specs.Problem.{Problem, State, spoiler}
-use Rattle.problem.specs.declared.Cover.TheVariants.{Holds}
 use Rattle.cover.specs.Words.{all_served_in}
 
 module _ (P : Problem) (s : State) where
   -- each value of `good`, a set of values of i, that is not left does not cover w of j at a variable of `rest`, and that is one of `broken`
   pub record BrokenIn (rest good left broken i j w : ℕ) : Type 0 where
     pub small : broken < 2 ^ 32
-    pub at : (u : ℕ) → T (bit good u) → (T (bit left u) → ⊥) → (l : ℕ) × (l < 32) × T (bit broken l) × T (bit rest l) × (spoiler P s i u j w l ≢ Holds)
+    pub at : (u : ℕ) → T (bit good u) → (T (bit left u) → ⊥) → (l : ℕ) × (l < 32) × T (bit broken l) × T (bit rest l) × (spoiler P s i u j w l ≢ None)
 
   -- a value of `bad`, not one of `good`, for which each of `good` breaks; r has j and the variables where they do
   pub record UnservedBy (rest good bad j r : ℕ) : Type 0 where

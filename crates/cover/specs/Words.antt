@@ -1,14 +1,10 @@
 -- Covering as the code tests it: loops to 32 and 16 over the members of masks.
-use Rattle.std.specs.Prelude.{Bool, true, false, not, ◌&&◌, ℕ, eqb}
+use Rattle.std.specs.Prelude.{Bool, true, false, not, ◌&&◌, ℕ, eqb, Option, None}
 use Rattle.std.specs.Int.Bits.{bit_and}
 use Rattle.bounded.specs.Quantifiers.{imp, all_below, any_below, at_lowest}
 use Rattle.bounded.specs.Mask.{bit, mask_of, without}
 use Rattle.problem.specs.Held.{row_word}
 use Rattle.problem.specs.Problem.{Problem, State, max_values, unspoilt, break_at, unbroken, spoiler}
-use Rattle.problem.specs.declared.Cover.{Cover}
-use Rattle.problem.specs.declared.Cover.TheVariants.{Holds}
-use Rattle.problem.specs.declared.Break.{Break}
-use Rattle.problem.specs.declared.Break.TheVariants.{Nowhere}
 
 -- the values of i that are allowed with every value of a set of l
 unfoldable pub allowed_with : Problem → (x i l : ℕ) → ℕ
@@ -16,12 +12,12 @@ allowed_with P x i l = mask_of max_values (λ u. eqb (bit_and x (row_word P i l 
 
 module _ (P : Problem) (s : State) where
   -- the cover test at a variable of a set; at any other nothing spoils
-  unfoldable pub spoiler_in : (rest i a j b l : ℕ) → Cover
-  spoiler_in rest i a j b l = elim (bit rest l) [ true ↦ spoiler P s i a j b l | false ↦ Holds ]
+  unfoldable pub spoiler_in : (rest i a j b l : ℕ) → Option ℕ
+  spoiler_in rest i a j b l = elim (bit rest l) [ true ↦ spoiler P s i a j b l | false ↦ None ]
 
   -- the lowest variable of a set at which a of i does not cover b of j, and the lowest value that spoils it there
-  unfoldable pub first_break_in : (rest i a j b : ℕ) → Break
-  first_break_in rest i a j b = at_lowest 32 (λ l. not (unspoilt (spoiler_in rest i a j b l))) (λ l. break_at l (spoiler_in rest i a j b l)) Nowhere
+  unfoldable pub first_break_in : (rest i a j b : ℕ) → Option (ℕ × ℕ)
+  first_break_in rest i a j b = at_lowest 32 (λ l. not (unspoilt (spoiler_in rest i a j b l))) (λ l. break_at l (spoiler_in rest i a j b l)) None
 
   -- there is none: a of i covers b of j at each variable of the set
   abbrev pub covers_in : (rest i a j b : ℕ) → Bool

@@ -2,19 +2,18 @@
 // first in a set of them, which values of a set cover, and where the others break.
 #![tactic(auto)]
 
-ghost use Rattle.std.specs.Prelude.{◌≡◌, cond, false, ◌≢◌, ◌<◌, ◌≤◌, ◌+◌, ◌^◌};
+ghost use Rattle.std.specs.Prelude.{◌≡◌, cond, false, ◌≢◌, ◌<◌, ◌≤◌, ◌+◌, ◌-◌, ◌^◌};
 ghost use Rattle.std.specs.Int.Bits.{bit_and, bit_or};
 ghost use Rattle.bounded.specs.Mask.{bit};
-ghost use Rattle.problem.specs.Problem.{spoiler as spoiler_at, break_at};
+ghost use Rattle.problem.specs.Problem.{spoiler as spoiler_at};
 ghost use Rattle.problem.specs.Held.{table_length, rows_at, held, RowTable};
-ghost use Rattle.problem.specs.Masks.{state_of, sets};
-ghost use Rattle.held.specs.Ready.{Ready, Value, Values, Among};
+ghost use Rattle.problem.specs.Masks.{state_of};
+ghost use Rattle.held.specs.Ready.{Value, Values, Among};
 ghost use Rattle.cover.specs.Words.{first_break_in, allowed_with, servers_in, thirds};
 ghost use Rattle.cover.specs.Broken.{BrokenIn, UnservedIn};
 
-use bounded::{highest16, highest32, lane, lowest16, lowest32, with32, without16, without32};
-use held::{neighbours, one_of, row_among, rows_at};
-use problem::{Break, Cover, unspoilt};
+use bounded::{Set, lane};
+use held::{View, neighbours, one_of, row_among, rows_at};
 
 // Where the rows of j towards l start; those of i start at `own`. Mostly j is i, and the place is known.
 fn rows_or(t: &[u16], i: usize, j: usize, l: usize, own: usize) -> usize
@@ -25,28 +24,28 @@ fn rows_or(t: &[u16], i: usize, j: usize, l: usize, own: usize) -> usize
     if j == i { own } else { rows_at(t, j, l) }
 }
 
-// The cover test: the lowest value in the domain of l that is allowed with value b of j and not with value a of i, or that there is none.
-fn spoiler(
-    t: &[u16],
-    active: u32,
-    on: &[u16; 32],
-    i: usize,
-    a: usize,
-    j: usize,
-    b: usize,
-    l: usize,
-) -> Cover
-    requires { Ready t.now (sets active on.now) × Value t.now i a × Value t.now j b × (l < 32) × (l ≢ i) × (l ≢ j) }
-    ensures { result ≡ spoiler_at (held t.now) (state_of (sets active on.now)) i a j b l }
+// Of a set of values, those that a row bars. A function of its own, since an argument is known to fit its type, and an entry of a table in a
+// View is not.
+fn barred(set: u16, row: u16) -> u16
+    ensures is { result ≡ bit_and set (65535 - row) }
+    ensures fits { row < 65536 }
 {
-    let own = rows_at(t, i, l);
-    let other = rows_or(t, i, j, l, own);
-    let w = on[l] & t[other + b];
-    let spoilers = w & !t[own + a];
+    set & !row
+}
+
+// The cover test: the lowest value in the domain of l that is allowed with value b of j and not with value a of i, or that there is none.
+fn spoiler(view: View, i: usize, a: usize, j: usize, b: usize, l: usize) -> Option<usize>
+    requires { Value view.table.now i a × Value view.table.now j b × (l < 32) × (l ≢ i) × (l ≢ j) }
+    ensures { result ≡ spoiler_at (held view.entry.table.now) (state_of view.entry.state.now) i a j b l }
+{
+    let own = rows_at(view.table, i, l);
+    let other = rows_or(view.table, i, j, l, own);
+    let w = view.state.domains[l] & view.table[other + b];
+    let spoilers = barred(w, view.table[own + a]);
     if spoilers == 0 {
-        Cover::Holds
+        None
     } else {
-        Cover::Spoilt(lowest16(spoilers))
+        Some(spoilers.lowest())
     }
 }
 
@@ -64,7 +63,7 @@ fn with32_if(x: u32, t: bool, l: usize) -> u32
     requires { l < 32 }
     ensures { result ≡ cond t (bit_or x (2 ^ l)) x }
 {
-    if t { with32(x, l) } else { x }
+    if t { x.with(l) } else { x }
 }
 
 // The active variables other than i and j.
@@ -72,66 +71,41 @@ pub fn third_set(active: u32, i: usize, j: usize) -> u32
     requires { (i < 32) × (j < 32) }
     ensures { result ≡ thirds active i j }
 {
-    without32(without32(active, i), j)
+    active.without(i).without(j)
 }
 
 // ---- covering at a set of variables
 
-// The break that the test's answer tells of, where it was made at l.
-fn break_at(l: usize, found: Cover) -> Break
-    ensures { result ≡ break_at l found }
-{
-    match found {
-        Cover::Spoilt(c) => Break::At {
-            variable: l,
-            value: c,
-        },
-        Cover::Holds => Break::Nowhere,
-    }
-}
-
 // The lowest variable of `rest`, where neither i nor j is, at which value a of i does not cover value b of j, and the lowest value that
 // spoils it there.
-fn break_in(
-    t: &[u16],
-    active: u32,
-    on: &[u16; 32],
-    rest: u32,
-    i: usize,
-    a: usize,
-    j: usize,
-    b: usize,
-) -> Break
-    requires { Ready t.now (sets active on.now) × Value t.now i a × Value t.now j b × (bit rest i ≡ false) × (bit rest j ≡ false) }
-    ensures { result ≡ first_break_in (held t.now) (state_of (sets active on.now)) rest i a j b }
+fn break_in(view: View, rest: u32, i: usize, a: usize, j: usize, b: usize) -> Option<(usize, usize)>
+    requires { Value view.table.now i a × Value view.table.now j b × (bit rest i ≡ false) × (bit rest j ≡ false) }
+    ensures { result ≡ first_break_in (held view.entry.table.now) (state_of view.entry.state.now) rest i a j b }
 {
     let mut left = rest;
     while left != 0 {
-        let l = lowest32(left);
-        let found = spoiler(t, active, on, i, a, j, b, l);
-        if !unspoilt(found) {
-            return break_at(l, found);
+        let l = left.lowest();
+        if let Some(c) = spoiler(view, i, a, j, b, l) {
+            return Some((l, c));
         }
-        left = without32(left, l);
+        left = left.without(l);
     }
-    Break::Nowhere
+    None
 }
 
 // The same, looked for at the neighbours of i: a variable that has no block with i allows a everything.
 pub fn first_break(
-    t: &[u16],
-    active: u32,
-    on: &[u16; 32],
+    view: View,
     rest: u32,
     i: usize,
     a: usize,
     j: usize,
     b: usize,
-) -> Break
-    requires { Ready t.now (sets active on.now) × Value t.now i a × Value t.now j b × (bit rest i ≡ false) × (bit rest j ≡ false) }
-    ensures { result ≡ first_break_in (held t.now) (state_of (sets active on.now)) rest i a j b }
+) -> Option<(usize, usize)>
+    requires { Value view.table.now i a × Value view.table.now j b × (bit rest i ≡ false) × (bit rest j ≡ false) }
+    ensures { result ≡ first_break_in (held view.entry.table.now) (state_of view.entry.state.now) rest i a j b }
 {
-    break_in(t, active, on, rest & neighbours(t, i), i, a, j, b)
+    break_in(view, rest & neighbours(view.table, i), i, a, j, b)
 }
 
 // ---- a value in another's place
@@ -145,10 +119,8 @@ fn allowed_with(t: &[u16], some: u16, x: u16, i: usize, l: usize) -> u16
     let at = rows_at(t, i, l);
     let one = one_of(t);
     let mut word: u16 = 0;
-    let mut u: usize = 0;
-    while u < 16 {
+    for u in 0..16 {
         word = word | lane(x & t[at + u] == x, u, one);
-        u += 1;
     }
     some & word
 }
@@ -156,75 +128,49 @@ fn allowed_with(t: &[u16], some: u16, x: u16, i: usize, l: usize) -> u16
 // Those of the values `good` of i that cover value w of j at each variable of `rest`, and where the others break. The variables are asked one
 // by one and the highest first, each of all values that are left: a run works from the lowest variable up, so that what breaks at a high one
 // lasts.
-fn serving_in(
-    t: &[u16],
-    active: u32,
-    on: &[u16; 32],
-    rest: u32,
-    good: u16,
-    i: usize,
-    j: usize,
-    w: usize,
-) -> Candidates
-    requires { Ready t.now (sets active on.now) × Among (sets active on.now) i good × Value t.now j w × (bit rest i ≡ false) × (bit rest j ≡ false) × (i < 32) }
-    ensures is { result.left ≡ servers_in (held t.now) (state_of (sets active on.now)) rest good i j w }
-    ensures shown { BrokenIn (held t.now) (state_of (sets active on.now)) rest good result.left result.broken i j w }
+fn serving_in(view: View, rest: u32, good: u16, i: usize, j: usize, w: usize) -> Candidates
+    requires { Among view.state.now i good × Value view.table.now j w × (bit rest i ≡ false) × (bit rest j ≡ false) × (i < 32) }
+    ensures is { result.left ≡ servers_in (held view.entry.table.now) (state_of view.entry.state.now) rest good i j w }
+    ensures shown { BrokenIn (held view.entry.table.now) (state_of view.entry.state.now) rest good result.left result.broken i j w }
 {
     let mut some = good;
     let mut broken: u32 = 0;
     let mut left = rest;
     while (left != 0) & (some != 0) {
-        let l = highest32(left);
-        let x = row_among(t, on[l], j, l, w);
-        let next = allowed_with(t, some, x, i, l);
+        let l = left.highest();
+        let x = row_among(view.table, view.state.domains[l], j, l, w);
+        let next = allowed_with(view.table, some, x, i, l);
         broken = with32_if(broken, next != some, l);
         some = next;
-        left = without32(left, l);
+        left = left.without(l);
     }
     Candidates { left: some, broken }
 }
 
 // The same, asked of the neighbours of i only: at any other variable every value of i covers.
-pub fn serving(
-    t: &[u16],
-    active: u32,
-    on: &[u16; 32],
-    rest: u32,
-    good: u16,
-    i: usize,
-    j: usize,
-    w: usize,
-) -> Candidates
-    requires { Ready t.now (sets active on.now) × Among (sets active on.now) i good × Value t.now j w × (bit rest i ≡ false) × (bit rest j ≡ false) × (i < 32) }
-    ensures is { result.left ≡ servers_in (held t.now) (state_of (sets active on.now)) rest good i j w }
-    ensures shown { BrokenIn (held t.now) (state_of (sets active on.now)) rest good result.left result.broken i j w }
+pub fn serving(view: View, rest: u32, good: u16, i: usize, j: usize, w: usize) -> Candidates
+    requires { Among view.state.now i good × Value view.table.now j w × (bit rest i ≡ false) × (bit rest j ≡ false) × (i < 32) }
+    ensures is { result.left ≡ servers_in (held view.entry.table.now) (state_of view.entry.state.now) rest good i j w }
+    ensures shown { BrokenIn (held view.entry.table.now) (state_of view.entry.state.now) rest good result.left result.broken i j w }
 {
-    serving_in(t, active, on, rest & neighbours(t, i), good, i, j, w)
+    serving_in(view, rest & neighbours(view.table, i), good, i, j, w)
 }
 
 // 0 where each value of `bad` that is not one of `good` is covered by one of `good` at each variable of `rest`; else j, and the variables
 // that break every candidate for one of them. The highest value is asked first.
-pub fn unserved(
-    t: &[u16],
-    active: u32,
-    on: &[u16; 32],
-    rest: u32,
-    good: u16,
-    bad: u16,
-    j: usize,
-) -> u32
-    requires { Ready t.now (sets active on.now) × Among (sets active on.now) j good × Among (sets active on.now) j bad × (bit rest j ≡ false) × (j < 32) }
-    ensures { UnservedIn (held t.now) (state_of (sets active on.now)) rest good bad j result }
+pub fn unserved(view: View, rest: u32, good: u16, bad: u16, j: usize) -> u32
+    requires { Among view.state.now j good × Among view.state.now j bad × (bit rest j ≡ false) × (j < 32) }
+    ensures { UnservedIn (held view.entry.table.now) (state_of view.entry.state.now) rest good bad j result }
 {
-    let near = rest & neighbours(t, j);
+    let near = rest & neighbours(view.table, j);
     let mut left = bad & !good;
     while left != 0 {
-        let w = highest16(left);
-        let found = serving_in(t, active, on, near, good, j, j, w);
+        let w = left.highest();
+        let found = serving_in(view, near, good, j, j, w);
         if found.left == 0 {
-            return with32(found.broken, j);
+            return found.broken.with(j);
         }
-        left = without16(left, w);
+        left = left.without(w);
     }
     0
 }

@@ -18,14 +18,13 @@ use Rattle.problem.specs.declared.Record.{Record}
 use Rattle.problem.specs.Sentences.{Solvable}
 use Rattle.sheet.specs.Sheet.{layout, variables_of}
 use Rattle.sheet.specs.Relation.{problem_of}
-use Rattle.run.specs.Numbers.{end_number}
+use Rattle.run.specs.Numbers.{end_number, ran}
 use Rattle.run.specs.Run.{run_job}
 use Rattle.put_back.specs.PutBack.{PutBackResult, plan_fits, put_back_job}
 use Rattle.trace.specs.Trace.{trace_bytes}
 use Rattle.buffers.specs.Written.{fronted}
 use Rattle.run.specs.declared.RunAnswer.{RunAnswer}
-use Rattle.run.specs.declared.RunOutcome.TheVariants as run·
-use Rattle.put_back.specs.declared.PutBackOutcome.TheVariants as back
+use Rattle.std.specs.Prelude.{Ok}
 use Rattle.run.proofs.Ran.{ran_iff}
 use Rattle.run.proofs.Worked.{run_worked, run_left}
 use Rattle.run.specs.Causes.{Worked}
@@ -61,7 +60,7 @@ module _ (s t b : List ℕ) where
     worked : Worked problem records last t (run_job s t)
     worked = run_worked s t A.0 A.1
 
-    done : (run_job s t).answer.outcome ≡ run·.Done (end_of problem last) (length records) (length (trace_bytes records))
+    done : (run_job s t).answer.outcome ≡ ran (end_of problem last) (length records) (length (trace_bytes records))
     done = ap (λ (y : RunAnswer). y.outcome) worked.answer
 
     asked_taken : (run_call s t b).answer % 256 ≡ 0
@@ -89,7 +88,7 @@ module _ (s t b : List ℕ) where
         × T (solves_whole (problem_of layout s) (plan_of (put_back_call s (trace_left (run_call s t b)) p r).result))
     unfolding put_back_call
     run_then_put_back p r m n f =
-        let d : (put_back_job s (trace_left (run_call s t b)) p r).answer ≡ back.Done =
+        let d : (put_back_job s (trace_left (run_call s t b)) p r).answer ≡ Ok tt =
         ap (λ (u : List ℕ). (put_back_job s u p r).answer) trace_left_lem
         ∙ ap (λ (y : PutBackResult). y.answer) (run_put_back s p r A.0 m n (subst (λ (q : State). T (plan_fits problem q p)) sheet_left_lem f)) in
         (put_back_zero s (trace_left (run_call s t b)) p r d, put_back_plan problem _ p _ (put_back_accepted s (trace_left (run_call s t b)) p r d).3)
@@ -100,7 +99,7 @@ module _ (s t b : List ℕ) where
 
   -- "A run [..] with a fault, and no other, is turned away": a caller tells by the answer
   pub run_asked : ((run_call s t b).answer % 256 ≡ 0) ↔ Asked s t b
-  run_asked = (λ z. let x = (run_taken s t b).0 z in let y = (ran_iff s t (run·.Done x.1 x.2 x.3)).0 x.4 in (y.0, y.1.0, x.0), asked_taken)
+  run_asked = (λ z. let x = (run_taken s t b).0 z in let y = (ran_iff s t (ran x.1 x.2 x.3)).0 x.4 in (y.0, y.1.0, x.0), asked_taken)
 
   -- "each plan of what is left is put back into a plan of the full sheet": wherever the run's answer says no refusal
   pub taken_then_put_back : (run_call s t b).answer % 256 ≡ 0 → (p r : List ℕ) → length p ≡ variables_of s → length r ≡ variables_of s
@@ -113,13 +112,13 @@ module _ (s t b : List ℕ) where
 
   -- the end of an accepted run, as its answer has it in bits 8-15
   abbrev Ends : End → Type 0
-  Ends e = (k : ℕ) × (w : ℕ) × ((run_job s t).answer.outcome ≡ run·.Done e k w)
+  Ends e = (k : ℕ) × (w : ℕ) × ((run_job s t).answer.outcome ≡ ran e k w)
 
   ended : (n : ℕ) (e : End) → ((x : End) → end_number x ≡ n → x ≡ e) → (run_call s t b).answer % 256 ≡ 0 → (run_call s t b).answer / 256 % 256 ≡ n → Ends e
   ended n e only z a =
       let x = (run_taken s t b).0 z in
       let q : x.1 ≡ e = only x.1 (sym (run_unpacked s t b x.0 x.1 x.2 x.3 x.4).1 ∙ a) in
-      (x.2, x.3, x.4 ∙ ap (λ (y : End). run·.Done y x.2 x.3) q)
+      (x.2, x.3, x.4 ∙ ap (λ (y : End). ran y x.2 x.3) q)
 
   -- impossible: the full sheet has no plan
   pub run_impossible : (run_call s t b).answer % 256 ≡ 0 → (run_call s t b).answer / 256 % 256 ≡ end_number end·.Impossible → (p : ℕ → ℕ) → T (solves_whole (problem_of layout s) p) → ⊥

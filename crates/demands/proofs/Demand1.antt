@@ -11,21 +11,18 @@ use Rattle.sheet.proofs.Accepted.{problem_bounded}
 use Rattle.sheet.proofs.Refusals as sheet·
 use Rattle.read_sheet.proofs.Causes.{read_iff}
 use Rattle.boundary.specs.State.{state_length}
-use Rattle.run.specs.Numbers.{run_number}
+use Rattle.run.specs.Numbers.{run_number, RunOutcome}
 use Rattle.run.specs.Run.{run_job}
 use Rattle.run.specs.Call.{RunCall, run_call}
-use Rattle.run.specs.declared.RunOutcome.{RunOutcome}
-use Rattle.run.specs.declared.RunOutcome.TheVariants as ran
+use Rattle.std.specs.Prelude.{Err, Ok}
 use Rattle.run.proofs.Ran.{ran_iff}
 use Rattle.run.proofs.Worked.{run_worked}
 use Rattle.run.proofs.Unaltered.{run_unaltered}
 use Rattle.run.proofs.Refusals as run·
 use Rattle.run.proofs.Call.{run_says, run_listed, run_refused_keeps, run_bad_state}
-use Rattle.hand.specs.Numbers.{call_number}
+use Rattle.hand.specs.Numbers.{call_number, CallOutcome}
 use Rattle.hand.specs.Hand.{call_job}
 use Rattle.hand.specs.Call.{hand_state_length, hand_in, HandCall, hand_call}
-use Rattle.hand.specs.declared.CallOutcome.{CallOutcome}
-use Rattle.hand.specs.declared.CallOutcome.TheVariants as called
 use Rattle.hand.proofs.Called.{called_iff}
 use Rattle.hand.proofs.Unaltered.{call_unaltered}
 use Rattle.hand.proofs.Refusals as hand·
@@ -43,15 +40,15 @@ run_number_lem : (s t b : List ℕ) → length b ≡ state_length → (run_call 
 run_number_lem s t b l = go (run_job s t).answer.outcome refl
   where
     go : (o : RunOutcome) → (run_job s t).answer.outcome ≡ o → (run_call s t b).answer % 256 ≡ run_number o
-    go (ran.Done e k w) o = let n = ap (λ (y : RunCall). y.answer) (run_says s t b l _ _ refl refl _ o) in omega arith
-    go (ran.Refused r) o = let n = ap (λ (y : RunCall). y.answer) (run_says s t b l _ _ refl refl _ o) in let f = run_listed r in omega arith
+    go (Ok _) o = let n = ap (λ (y : RunCall). y.answer) (run_says s t b l _ _ refl refl _ o) in omega arith
+    go (Err r) o = let n = ap (λ (y : RunCall). y.answer) (run_says s t b l _ _ refl refl _ o) in let f = run_listed r in omega arith
 
 hand_number : (s b : List ℕ) (i : ℕ) → length b ≡ hand_state_length → (hand_call s b i).answer % 256 ≡ call_number (call_job s (hand_in b) i).outcome
 hand_number s b i l = go (call_job s (hand_in b) i).outcome refl
   where
     go : (o : CallOutcome) → (call_job s (hand_in b) i).outcome ≡ o → (hand_call s b i).answer % 256 ≡ call_number o
-    go (called.Eliminated v) o = let n = ap (λ (y : HandCall). y.answer) (hand_says s b i l _ refl _ o) in omega arith
-    go (called.Refused r) o = let n = ap (λ (y : HandCall). y.answer) (hand_says s b i l _ refl _ o) in let f = hand_listed r in omega arith
+    go (Ok v) o = let n = ap (λ (y : HandCall). y.answer) (hand_says s b i l _ refl _ o) in omega arith
+    go (Err r) o = let n = ap (λ (y : HandCall). y.answer) (hand_says s b i l _ refl _ o) in let f = hand_listed r in omega arith
 
 pub demand_1 : Demand1
 demand_1 =

@@ -1,42 +1,35 @@
 -- Demand 1, sentence by sentence: of the jobs, and of the calls from C over the bytes that they leave. Its one theorem is proofs/Demand1.antt.
 -- "without an index or a sum going astray" is the checker's verdict on every function, and no field of this record.
-use Rattle.std.specs.Prelude.{◌≡◌, List, ◌↔◌, ◌≢◌, ℕ, ◌+◌, ◌*◌, ◌%◌, ◌≤◌, length}
+use Rattle.std.specs.Prelude.{◌≡◌, List, ◌↔◌, ◌≢◌, ℕ, ◌+◌, ◌*◌, ◌%◌, ◌≤◌, length, Err}
 use Rattle.problem.specs.Problem.{size_sum}
 use Rattle.problem.specs.Run.{end_of}
 use Rattle.problem.specs.Sentences.{EndSays}
 use Rattle.problem.specs.Masks.{masks_of, Proper}
-use Rattle.sheet.specs.Sheet.{layout, read_sheet, Keeps}
+use Rattle.sheet.specs.Sheet.{layout, read_sheet, Keeps, SheetRead}
 use Rattle.sheet.specs.Causes.{ReadCause}
 use Rattle.sheet.specs.Refusals as sheet·
-use Rattle.sheet.specs.declared.SheetRead.{SheetRead}
 use Rattle.trace.specs.Trace.{trace_bytes}
 use Rattle.buffers.specs.Written.{fronted}
 use Rattle.boundary.specs.State.{state_length}
 use Rattle.boundary.specs.Numbers.{bad_state, bad_hand_state}
-use Rattle.run.specs.Numbers.{run_number}
+use Rattle.run.specs.Numbers.{run_number, RunOutcome, ran}
 use Rattle.run.specs.Run.{run_job}
 use Rattle.run.specs.Causes.{RunCause}
 use Rattle.run.specs.Call.{run_call, Asked}
 use Rattle.run.specs.Refusals as run·
-use Rattle.run.specs.declared.RunOutcome.{RunOutcome}
-use Rattle.run.specs.declared.RunOutcome.TheVariants as ran
 use Rattle.run.specs.declared.RunRefusal.{RunRefusal}
-use Rattle.hand.specs.Numbers.{call_number}
+use Rattle.hand.specs.Numbers.{call_number, CallOutcome}
 use Rattle.hand.specs.Hand.{call_job}
 use Rattle.hand.specs.Causes.{Cause}
 use Rattle.hand.specs.Call.{hand_state_length, hand_in, hand_call}
 use Rattle.hand.specs.Refusals as hand·
 use Rattle.hand.specs.declared.HandState.{HandState}
-use Rattle.hand.specs.declared.CallOutcome.{CallOutcome}
-use Rattle.hand.specs.declared.CallOutcome.TheVariants as called
 use Rattle.hand.specs.declared.HandRefusal.{HandRefusal}
-use Rattle.put_back.specs.Numbers.{put_back_number}
+use Rattle.put_back.specs.Numbers.{put_back_number, PutBackOutcome}
 use Rattle.put_back.specs.PutBack.{put_back_job}
 use Rattle.put_back.specs.Causes.{BackCause}
 use Rattle.put_back.specs.Call.{put_back_call}
 use Rattle.put_back.specs.Refusals as back·
-use Rattle.put_back.specs.declared.PutBackOutcome.{PutBackOutcome}
-use Rattle.put_back.specs.declared.PutBackOutcome.TheVariants as back
 use Rattle.put_back.specs.declared.PutBackRefusal.{PutBackRefusal}
 use Rattle.demands.specs.Left.{sheet_problem, run_records, left_by_run}
 
@@ -46,7 +39,7 @@ pub record Demand1 : Type 0 where
 
   pub sizes : (s : List ℕ) → Keeps layout s → ((sheet_problem s).n ≤ 32) × ((i : ℕ) → (sheet_problem s).size i ≤ 16)
   pub worked : (s b : List ℕ) → Keeps layout s → 1 + 5 * size_sum (sheet_problem s) ≤ length b
-      → ((run_job s b).answer ≡ record { outcome = ran.Done (end_of (sheet_problem s) (left_by_run s)) (length (run_records s)) (length (trace_bytes (run_records s))); state = masks_of (left_by_run s) })
+      → ((run_job s b).answer ≡ record { outcome = ran (end_of (sheet_problem s) (left_by_run s)) (length (run_records s)) (length (trace_bytes (run_records s))); state = masks_of (left_by_run s) })
       × ((run_job s b).buffer ≡ fronted (trace_bytes (run_records s)) b)
   pub ended : (s : List ℕ) → EndSays (left_by_run s) (end_of (sheet_problem s) (left_by_run s))
   pub few : (s : List ℕ) → length (run_records s) ≤ size_sum (sheet_problem s)
@@ -64,9 +57,9 @@ pub record Demand1 : Type 0 where
   pub put_back_numbers : back·.AllNumbered back·.rows
   -- ---- "and no byte of a trace or plan lent to the call is altered"; nor the state of a hand call
 
-  pub run_unaltered : (s b : List ℕ) (r : RunRefusal) → (run_job s b).answer.outcome ≡ ran.Refused r → (run_job s b).buffer ≡ b
-  pub hand_unaltered : (s : List ℕ) (st : HandState) (i : ℕ) (r : HandRefusal) → (call_job s st i).outcome ≡ called.Refused r → (call_job s st i).state ≡ st
-  pub put_back_unaltered : (s t p b : List ℕ) (r : PutBackRefusal) → (put_back_job s t p b).answer ≡ back.Refused r → (put_back_job s t p b).result ≡ b
+  pub run_unaltered : (s b : List ℕ) (r : RunRefusal) → (run_job s b).answer.outcome ≡ Err r → (run_job s b).buffer ≡ b
+  pub hand_unaltered : (s : List ℕ) (st : HandState) (i : ℕ) (r : HandRefusal) → (call_job s st i).outcome ≡ Err r → (call_job s st i).state ≡ st
+  pub put_back_unaltered : (s t p b : List ℕ) (r : PutBackRefusal) → (put_back_job s t p b).answer ≡ Err r → (put_back_job s t p b).result ≡ b
   -- ---- the same of a call from C: the low byte of its answer is the number, 0 where there is none; the boundary's own come first
 
   pub run_call_asked : (s t b : List ℕ) → ((run_call s t b).answer % 256 ≡ 0) ↔ Asked s t b

@@ -1,5 +1,5 @@
 -- Demand 2, sentence by sentence: of the jobs, and of the calls from C over the bytes that they leave. Its one theorem is proofs/Demand2.antt.
-use Rattle.std.specs.Prelude.{◌≡◌, List, [], ◌∷◌, ◌++◌, ◌↔◌, ◌⊎◌, ℕ, ◌+◌, ◌*◌, ◌≤◌, T, length}
+use Rattle.std.specs.Prelude.{◌≡◌, List, [], ◌∷◌, ◌++◌, ◌↔◌, ◌⊎◌, ℕ, ◌+◌, ◌*◌, ◌≤◌, T, length, Ok}
 use Rattle.problem.specs.Problem.{size_sum}
 use Rattle.problem.specs.Run.{lawful, lawful_trace, after, after_trace}
 use Rattle.problem.specs.PutBack.{solves_whole, plan_of}
@@ -18,7 +18,6 @@ use Rattle.run.specs.Call.{run_call, Asked, trace_left, sheet_left}
 use Rattle.put_back.specs.PutBack.{plan_fits, put_back_job}
 use Rattle.put_back.specs.Causes.{PutBack}
 use Rattle.put_back.specs.Call.{put_back_call}
-use Rattle.put_back.specs.declared.PutBackOutcome.TheVariants.{Done}
 use Rattle.demands.specs.Left.{sheet_problem, full_sheet, run_records, left_by_run}
 
 pub record Demand2 : Type 0 where
@@ -28,7 +27,7 @@ pub record Demand2 : Type 0 where
   pub lawful_steps : (s : List ℕ) → T (lawful_trace (sheet_problem s) (full_sheet s) (run_records s))
   pub published_steps : (s : List ℕ) (before : List Record) (r : Record) (rest : List Record) → run_records s ≡ before ++ (r ∷ rest)
       → Published (sheet_problem s) (after_trace (sheet_problem s) (full_sheet s) before) r
-  pub accepted_steps : (s t p b : List ℕ) → (put_back_job s t p b).answer ≡ Done → PutBack (sheet_problem s) t p (put_back_job s t p b)
+  pub accepted_steps : (s t p b : List ℕ) → (put_back_job s t p b).answer ≡ Ok tt → PutBack (sheet_problem s) t p (put_back_job s t p b)
   pub lawful_published : (s : List ℕ) (u : List Record) (r : Record)
       → T (lawful (sheet_problem s) (after_trace (sheet_problem s) (full_sheet s) u) r)
       ↔ (NoneEmpty (sheet_problem s) (after_trace (sheet_problem s) (full_sheet s) u) × Published (sheet_problem s) (after_trace (sheet_problem s) (full_sheet s) u) r)
@@ -47,7 +46,7 @@ pub record Demand2 : Type 0 where
 
   pub put_back : (s : List ℕ) → Keeps layout s → (u : List Record) → T (lawful_trace (sheet_problem s) (full_sheet s) u)
       → (p b : List ℕ) → length p ≡ variables_of s → length b ≡ variables_of s → T (plan_fits (sheet_problem s) (after_trace (sheet_problem s) (full_sheet s) u) p)
-      → ((put_back_job s (trace_bytes u) p b).answer ≡ Done) × T (solves_whole (sheet_problem s) (plan_of (put_back_job s (trace_bytes u) p b).result))
+      → ((put_back_job s (trace_bytes u) p b).answer ≡ Ok tt) × T (solves_whole (sheet_problem s) (plan_of (put_back_job s (trace_bytes u) p b).result))
   -- ---- "How many plans there are is not wanted, since taking an item out can raise that count": sheet E
 
   pub raised : (solution_count (sheet_problem sheet_e) (full_sheet sheet_e) ≡ 2)

@@ -26,12 +26,9 @@ pub fn put_bytes(out: &mut [u8], at: usize, w: &[u8]) -> usize
     requires { at + length w.now ≤ length out.old }
     ensures text { (out.new ≡ written out.old at w.now) × (result ≡ at + length w.now) }
 {
-    let mut j: usize = 0;
-    while j < w.len() {
-        out[at + j] = w[j];
-        j += 1;
-    }
-    at + j
+    let end = at + w.len();
+    out[at..end].copy_from_slice(w);
+    end
 }
 
 // ---- numbers

@@ -8,6 +8,7 @@ use native.Mathlib.Omega.{arith}
 use lib.Dec.{T}
 use lib.ListN.{length, get_or, set, length-set}
 use lib.Seq.{get_or-set_same, get_or-set_other, ext_get_or}
+use Rattle.std.specs.Prelude.{Option, None}
 use Rattle.bounded.specs.Quantifiers.{lowest}
 use Rattle.bounded.specs.Mask.{bit}
 use Rattle.bounded.proofs.Truth.{T_not, eq_dec}
@@ -25,9 +26,8 @@ use Rattle.held.specs.Ready.{Ready}
 use Rattle.held.proofs.Laws.{active_32}
 use Rattle.held.proofs.After.{state_held}
 use Rattle.first_plan.specs.First.{found, none, first_plan}
-use Rattle.first_plan.specs.Steps.{answer, choose, NextChoice, Emptied, Opens}
+use Rattle.first_plan.specs.Steps.{answer, choose, NextChoice, Pruned, Emptied, Opens}
 use Rattle.first_plan.specs.declared.Found.{Found}
-use Rattle.first_plan.specs.declared.Opened.{Opened}
 use Rattle.first_plan.proofs.Meaning.{first_none_keeps}
 use Rattle.first_plan.proofs.Prune.{first_unsolved, first_narrowed, first_refuted, first_done, first_taken, never, choose_active, choose_fits, choose_keeps}
 
@@ -39,25 +39,25 @@ unsolved_first F h w = sym (first_unsolved F (λ q A. h (q, A)) w)
 -- ---- a state narrowed
 
 -- what is said of the masks of a state is said of the state
-pub opens_state : {t : List ℕ} {m : Masks} (s : State) {o : Opened} → RowTable t → Fits (held t) s → m ≡ masks_of s → Opens t (state_of m) o → Opens t s o
+pub opens_state : {t : List ℕ} {m : Masks} (s : State) {o : Option Masks} → RowTable t → Fits (held t) s → m ≡ masks_of s → Opens t (state_of m) o → Opens t s o
 opens_state {t} s {o} R F e O = subst (λ (x : State). Opens t x o) (ap state_of e ∙ state_held R F) O
 
 emptied_unsolved : (t : List ℕ) {m : Masks} → Emptied m → (q : ℕ → ℕ) → Solution (held t) (state_of m) q → ⊥
 unfolding state_of
 emptied_unsolved t E q A = T_not (ap (λ (x : ℕ). bit x (q E.variable)) E.empty ∙ bit_none (q E.variable)) (A.live E.variable E.active)
 
-module _ {t : List ℕ} {s : State} {o : Opened} (F : Fits (held t) s) (O : Opens t s o) where
-  pub opened_first : (w : List ℕ) → first_plan (held t) s w ≡ first_plan (held t) (state_of o.masks) w
-  opened_first =
-      let N = O.narrowed in
+module _ {t : List ℕ} {s : State} (F : Fits (held t) s) where
+  pub opened_first : {m : Masks} → Pruned t s m → (w : List ℕ) → first_plan (held t) s w ≡ first_plan (held t) (state_of m) w
+  opened_first N =
       first_narrowed F N.ready.fits N.active
       (λ q. (N.keeps q, λ A. record { live = λ j h. N.within j (q j) (A.live j (subst T (N.active j) h)); ok = λ j k hj hk d. A.ok j k (subst T (N.active j) hj) (subst T (N.active k) hk) d }))
 
-  closed_unsolved : o.open ≡ false → (q : ℕ → ℕ) → Solution (held t) s q → ⊥
-  closed_unsolved e q A = emptied_unsolved t (O.closed e) q (O.narrowed.keeps q A)
+  module _ {o : Option Masks} (O : Opens t s o) (c : o ≡ None) where
+    closed_unsolved : (q : ℕ → ℕ) → Solution (held t) s q → ⊥
+    closed_unsolved q A = let x = O.closed c in emptied_unsolved t x.2 q (x.1.keeps q A)
 
-  pub closed_first : o.open ≡ false → (w : List ℕ) → none w ≡ first_plan (held t) s w
-  closed_first e w = sym (first_unsolved F (closed_unsolved e) w)
+    pub closed_first : (w : List ℕ) → none w ≡ first_plan (held t) s w
+    closed_first w = sym (first_unsolved F closed_unsolved w)
 
 -- ---- the lent plan
 
@@ -116,29 +116,28 @@ module _ {t : List ℕ} {m : Masks} (R : Ready t m) (i v : ℕ) (X : NextChoice 
     unfolding state_of
     least u l h = lowest_least 16 (bit (get_or m.domains i 0)) u (omega arith) h
 
-    module _ {o : Opened} (O : Opens t (choose (held t) (state_of m) i v) o) where
-      fits : Fits (held t) (choose (held t) (state_of m) i v)
-      fits = choose_fits R.fits i v
+    fits : Fits (held t) (choose (held t) (state_of m) i v)
+    fits = choose_fits R.fits i v
 
+    -- no solution has the value, where the state with it is closed
+    pub shut : {o : Option Masks} → Opens t (choose (held t) (state_of m) i v) o → o ≡ None → (q : ℕ → ℕ) → Solution (held t) (state_of m) q → q i ≢ v
+    shut O c q A g = closed_unsolved fits O c q (choose_keeps R.fits i v value_live q g A)
+
+    module _ {next : Masks} (N : Pruned t (choose (held t) (state_of m) i v) next) where
       -- a variable fewer is active
-      pub fewer : o.masks.active < m.active
+      pub fewer : next.active < m.active
       unfolding state_of
       fewer =
-          let N = O.narrowed in
-          part_lt 32 o.masks.active m.active i N.ready.proper.active_lt
+          part_lt 32 next.active m.active i N.ready.proper.active_lt
           (λ c k h. ((choose_active R.fits i v c).0 (subst T (sym (N.active c)) h)).0) (next_active R i X)
           (λ h. ((choose_active R.fits i v i).0 (subst T (sym (N.active i)) h)).1 refl)
 
-      -- no solution has the value, where the state with it is closed
-      pub shut : o.open ≡ false → (q : ℕ → ℕ) → Solution (held t) (state_of m) q → q i ≢ v
-      shut c q A g = closed_unsolved fits O c q (choose_keeps R.fits i v value_live q g A)
-
-      module _ (w : List ℕ) (long : length w ≡ 32) (r : Found) (a : r ≡ first_plan (held t) (state_of o.masks) (set w i v)) where
+      module _ (w : List ℕ) (long : length w ≡ 32) (r : Found) (a : r ≡ first_plan (held t) (state_of next) (set w i v)) where
         room : (held t).n ≤ length w
         room = omega (arith, held_few t)
 
         same : r ≡ first_plan (held t) (choose (held t) (state_of m) i v) (set w i v)
-        same = a ∙ sym (opened_first fits O (set w i v))
+        same = a ∙ sym (opened_first fits N (set w i v))
 
         -- nor where that state has no plan
         pub missed : r.ok ≡ false → (q : ℕ → ℕ) → Solution (held t) (state_of m) q → q i ≢ v
@@ -150,30 +149,29 @@ module _ {t : List ℕ} {m : Masks} (R : Ready t m) (i v : ℕ) (X : NextChoice 
 
     -- ---- the values after it
 
-    module _ {o : Opened} (O : Opens t (remove (held t) (state_of m) i v) o) where
-      pub no_more : o.masks.active ≤ m.active
+    module _ {rest : Masks} (N : Pruned t (remove (held t) (state_of m) i v) rest) where
+      pub no_more : rest.active ≤ m.active
       unfolding state_of remove
-      no_more = part_le 32 o.masks.active m.active O.narrowed.ready.proper.active_lt (λ c k h. subst T (sym (O.narrowed.active c)) h)
+      no_more = part_le 32 rest.active m.active N.ready.proper.active_lt (λ c k h. subst T (sym (N.active c)) h)
 
-      pub less : get_or o.masks.domains i 0 < get_or m.domains i 0
+      pub less : get_or rest.domains i 0 < get_or m.domains i 0
       unfolding state_of
       less =
-          let N = O.narrowed in
-          part_lt 16 (get_or o.masks.domains i 0) (get_or m.domains i 0) v (N.ready.proper.domain_lt i X.variable)
+          part_lt 16 (get_or rest.domains i 0) (get_or m.domains i 0) v (N.ready.proper.domain_lt i X.variable)
           (λ c k h. ((remove_live (held t) (state_of m) i v i c).0 (N.within i c h)).0) value_live
           (λ h. ((remove_live (held t) (state_of m) i v i v).0 (N.within i v h)).1 (refl, refl))
 
-      pub still_next : NextChoice o.masks i
+      pub still_next : NextChoice rest i
       unfolding state_of remove
-      still_next = record { variable = X.variable; lowest = X.lowest ∙ ap (lowest 32) (fun_ext O.narrowed.active) }
+      still_next = record { variable = X.variable; lowest = X.lowest ∙ ap (lowest 32) (fun_ext N.active) }
 
-      module _ (n : (q : ℕ → ℕ) → Solution (held t) (state_of m) q → q i ≢ v) (w x : List ℕ) (g : x ≡ w) where
-        without : first_plan (held t) (state_of m) w ≡ first_plan (held t) (remove (held t) (state_of m) i v) w
-        without = first_refuted R.fits i v n w
+    module _ (n : (q : ℕ → ℕ) → Solution (held t) (state_of m) q → q i ≢ v) (w x : List ℕ) (g : x ≡ w) where
+      without : first_plan (held t) (state_of m) w ≡ first_plan (held t) (remove (held t) (state_of m) i v) w
+      without = first_refuted R.fits i v n w
 
-        pub on_with : (r : Found) → r ≡ first_plan (held t) (state_of o.masks) x → r ≡ first_plan (held t) (state_of m) w
-        on_with r a =
-            a ∙ ap (first_plan (held t) (state_of o.masks)) g ∙ sym (without ∙ opened_first (remove_fits (held t) (state_of m) R.fits i v) O w)
+      pub on_with : {rest : Masks} → Pruned t (remove (held t) (state_of m) i v) rest → (r : Found) → r ≡ first_plan (held t) (state_of rest) x → r ≡ first_plan (held t) (state_of m) w
+      on_with {rest} N r a =
+          a ∙ ap (first_plan (held t) (state_of rest)) g ∙ sym (without ∙ opened_first (remove_fits (held t) (state_of m) R.fits i v) N w)
 
-        pub all_shut : o.open ≡ false → none x ≡ first_plan (held t) (state_of m) w
-        all_shut c = ap none g ∙ closed_first (remove_fits (held t) (state_of m) R.fits i v) O c w ∙ sym without
+      pub all_shut : {o : Option Masks} → Opens t (remove (held t) (state_of m) i v) o → o ≡ None → none x ≡ first_plan (held t) (state_of m) w
+      all_shut O c = ap none g ∙ closed_first (remove_fits (held t) (state_of m) R.fits i v) O c w ∙ sym without

@@ -26,7 +26,7 @@ use Rattle.first_plan.specs.Steps.{choose}
 use Rattle.first_plan.proofs.Prune.{choose_active, choose_live}
 
 -- the set of k in the state with the choice made
-abbrev chosen : List ℕ → Masks → (i v k : ℕ) → ℕ
+abbrev pub chosen : List ℕ → Masks → (i v k : ℕ) → ℕ
 chosen t m i v k = mask_of 16 ((choose (held t) (state_of m) i v).live k)
 
 -- the sets of the variables but those of `rest` are so
@@ -44,7 +44,7 @@ module _ {t : List ℕ} {m : Masks} (R : Ready t m) (i v : ℕ) where
       ))
 
   -- i itself, and a variable that is not active
-  no_word : (k : ℕ) → (Active (choose (held t) (state_of m) i v) k → ⊥) → 0 ≡ chosen t m i v k
+  pub no_word : (k : ℕ) → (Active (choose (held t) (state_of m) i v) k → ⊥) → 0 ≡ chosen t m i v k
   no_word k n =
       mask_is 16 0 ((choose (held t) (state_of m) i v).live k) (omega arith)
       (λ c j. bit_none c ∙ sym (T_false _ (λ h. let x = (choose_live R.fits i v k c).0 h in n ((choose_active R.fits i v k).1 (R.fits.live_active k c x.0, x.1.0)))))

@@ -1,6 +1,6 @@
-mod Branches
-mod Choices
+pub mod Branches
+pub mod Choices
 pub mod Meaning
-mod Prune
+pub mod Prune
 pub mod Samples
 mod Supports

@@ -107,15 +107,15 @@ module _ {P : Problem} {s : State} (F : Fits P s) where
       first_same P s r P.n 0 w (λ k l. a k)
       (λ x g. T_ext (λ t. (solves_iff G (plan_of x)).1 ((h (plan_of x)).0 ((solves_iff F (plan_of x)).0 t)), λ t. (solves_iff F (plan_of x)).1 ((h (plan_of x)).1 ((solves_iff G (plan_of x)).0 t))))
 
+  -- a solution with another value at i is one without v
+  pub remove_keeps : (i v : ℕ) (q : ℕ → ℕ) → q i ≢ v → Solution P s q → Solution P (remove P s i v) q
+  unfolding remove
+  remove_keeps i v q d A = record { live = λ j o. (remove_live P s i v j (q j)).1 (A.live j o, λ e. d (subst (λ (k : ℕ). q k ≡ v) e.0 e.1)); ok = A.ok }
+
   -- no solution has v at i: v may go off
   pub first_refuted : (i v : ℕ) → ((q : ℕ → ℕ) → Solution P s q → q i ≢ v) → (w : List ℕ) → first_plan P s w ≡ first_plan P (remove P s i v) w
   unfolding remove
-  first_refuted i v h =
-      first_narrowed (remove_fits P s F i v) (λ k. refl)
-      (λ q. (
-        λ A. record { live = λ j o. (remove_live P s i v j (q j)).1 (A.live j o, λ e. h q A (subst (λ (k : ℕ). q k ≡ v) e.0 e.1)); ok = A.ok },
-        remove_undone F i v q,
-      ))
+  first_refuted i v h = first_narrowed (remove_fits P s F i v) (λ k. refl) (λ q. (λ A. remove_keeps i v q (h q A) A, remove_undone F i v q))
 
   -- no variable is left
   pub first_done : ((j : ℕ) → Active s j → ⊥) → (w : List ℕ) → first_plan P s w ≡ found w
@@ -155,7 +155,7 @@ module _ {P : Problem} {s : State} (F : Fits P s) where
           ok = λ j k hj hk d. A.ok j k ((choose_active i v j).0 hj).0 ((choose_active i v k).0 hk).0 d;
         }
 
-    choose_back : (q : ℕ → ℕ) → q i ≡ v → Solution P (choose P s i v) q → Solution P s q
+    pub choose_back : (q : ℕ → ℕ) → q i ≡ v → Solution P (choose P s i v) q → Solution P s q
     choose_back q e A = record { live = live; ok = ok }
       where
         live : (j : ℕ) → Active s j → Live s j (q j)

@@ -10,7 +10,7 @@ use lib.Dec.{T}
 use lib.ListN.{length, get_or, set, length-set}
 use lib.Seq.{get_or-set_same, get_or-set_other}
 use Rattle.bounded.specs.Mask.{bit, without}
-use Rattle.bounded.proofs.Truth.{T_of, and_iff, eq_dec}
+use Rattle.bounded.proofs.Truth.{T_true, T_of, and_iff, eq_dec}
 use Rattle.bounded.proofs.Quantifiers.{any_iff}
 use Rattle.bounded.proofs.Mask.{bit_and_lem, bit_mask, member_lt}
 use Rattle.bounded.proofs.Members.{Left, without_part}
@@ -105,18 +105,23 @@ narrowed_same R = record { ready = R; active = λ j. refl; within = λ j a o. o;
 pub narrowed_trans : {t : List ℕ} {s : State} {r k : Masks} → Pruned t s r → Pruned t (state_of r) k → Pruned t s k
 narrowed_trans N K = record { ready = K.ready; active = λ j. N.active j ∙ K.active j; within = λ j a o. N.within j a (K.within j a o); keeps = λ q A. K.keeps q (N.keeps q A) }
 
--- ---- lent sets
+-- the active variables stay
+pub still_active : {t : List ℕ} (m : Masks) {r : Masks} → Pruned t (state_of m) r → (j : ℕ) → T (bit m.active j) → bit r.active j ≡ true
+unfolding state_of
+still_active m N j h = T_true _ (subst T (N.active j) h)
 
-module _ {t : List ℕ} {active : ℕ} (on : List ℕ) {left : List ℕ} (N : Pruned t (state_of (sets active on)) (sets active left)) (i j x : ℕ) where
+-- ---- lent masks
+
+module _ {t : List ℕ} (m : Masks) {left : Masks} (N : Pruned t (state_of m) left) (i j x : ℕ) where
   -- a variable revised from i
-  pub swept : bit active i ≡ true → j ≢ i → j < 32 → x < 2 ^ 16 → KeepsSupported (held t) (get_or left j 0) (get_or on i 0) i j x → Pruned t (state_of (sets active on)) (sets active (set left j x))
+  pub swept : bit m.active i ≡ true → j ≢ i → j < 32 → x < 2 ^ 16 → KeepsSupported (held t) (get_or left.domains j 0) (get_or m.domains i 0) i j x → Pruned t (state_of m) (sets left.active (set left.domains j x))
   unfolding state_of
-  swept hi d p lt X = narrowed_more N (get_or on i 0) i j x (T_of hi) d p lt (λ a o. o) X
+  swept hi d p lt X = narrowed_more N (get_or m.domains i 0) i j x (T_of hi) d p lt (λ a o. o) X
 
   -- its set is empty
-  pub swept_empty : T (bit active j) → j < 32 → x ≡ 0 → Emptied (sets active (set left j x))
+  pub swept_empty : T (bit m.active j) → j < 32 → x ≡ 0 → Emptied (sets left.active (set left.domains j x))
   unfolding state_of
-  swept_empty h p e = record { variable = j; active = h; empty = get_or-set_same left j x 0 (omega (arith, N.ready.proper.length_is)) ∙ e }
+  swept_empty h p e = record { variable = j; active = subst T (N.active j) h; empty = get_or-set_same left.domains j x 0 (omega (arith, N.ready.proper.length_is)) ∙ e }
 
 -- a variable to revise is active
 pub swept_active : {set rest : ℕ} (near active i j : ℕ) → Left 32 set rest → set ≡ without 32 (bit_and near active) i → T (bit rest j) → T (bit active j)
@@ -124,6 +129,6 @@ swept_active near active i j L e t =
     let x = subst (λ (y : ℕ). T (bit y j)) e (L.part j t) in
     ((and_iff (bit near j) (bit active j)).0 (subst T (bit_and_lem near active j) (without_part 32 (bit_and near active) i j x))).1
 
-pub some_emptied : {active : ℕ} {on : List ℕ} (i : ℕ) → bit active i ≡ true → get_or on i 0 ≡ 0 → Emptied (sets active on)
+pub some_emptied : {m : Masks} (i : ℕ) → bit m.active i ≡ true → get_or m.domains i 0 ≡ 0 → Emptied m
 unfolding state_of
 some_emptied i h e = record { variable = i; active = T_of h; empty = e }

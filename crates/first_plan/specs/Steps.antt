@@ -1,17 +1,15 @@
 -- What the parts of the search in code rely on and promise. Values may go off that no solution has, in any order and as many as the code
 -- finds: the first plan stays the same.
-use Rattle.std.specs.Prelude.{◌≡◌, Bool, true, false, not, ◌&&◌, List, ℕ, ◌<◌, T, eqb, get_or}
+use Rattle.std.specs.Prelude.{◌≡◌, Bool, not, ◌&&◌, List, Option, None, Some, ℕ, ◌<◌, T, eqb, get_or}
 use Rattle.bounded.specs.Quantifiers.{lowest}
 use Rattle.bounded.specs.Mask.{bit}
 use Rattle.problem.specs.Problem.{Problem, State}
 use Rattle.problem.specs.Held.{held}
-use Rattle.problem.specs.Masks.{state_of, sets}
+use Rattle.problem.specs.Masks.{state_of}
 use Rattle.problem.specs.declared.Masks.{Masks}
 use Rattle.problem.specs.Sentences.{Active, Live, Allowed, Solution}
 use Rattle.held.specs.Ready.{Ready}
 use Rattle.first_plan.specs.declared.Found.{Found}
-use Rattle.first_plan.specs.declared.Opened.{Opened}
-use Rattle.first_plan.specs.declared.Swept.{Swept}
 
 -- an answer of the search, with the plan lent to it
 abbrev pub answer : Bool → List ℕ → Found
@@ -48,12 +46,12 @@ pub record Emptied (m : Masks) : Type 0 where
   pub active : Active (state_of m) variable
   pub empty : get_or m.domains variable 0 ≡ 0
 
--- the sets `on` became `left`, and where the answer is `dead` one of them is empty
-pub record Sweeps (t : List ℕ) (active : ℕ) (on : List ℕ) (r : Swept) (left : List ℕ) : Type 0 where
-  pub narrowed : Pruned t (state_of (sets active on)) (sets active left)
-  pub dead : r.dead ≡ true → Emptied (sets active left)
+-- the masks m became `left`; where the answer is none, an active variable has an empty domain
+pub record Sweeps (t : List ℕ) (m : Masks) (r : Option ℕ) (left : Masks) : Type 0 where
+  pub narrowed : Pruned t (state_of m) left
+  pub dead : r ≡ None → Emptied left
 
--- the state s, narrowed; where it is not open it has no solution
-pub record Opens (t : List ℕ) (s : State) (o : Opened) : Type 0 where
-  pub narrowed : Pruned t s o.masks
-  pub closed : o.open ≡ false → Emptied o.masks
+-- the state s, narrowed; or none, where narrowing it emptied a domain: so it has no solution
+pub record Opens (t : List ℕ) (s : State) (o : Option Masks) : Type 0 where
+  pub narrowed : (m : Masks) → o ≡ Some m → Pruned t s m
+  pub closed : o ≡ None → (m : Masks) × Pruned t s m × Emptied m

@@ -1,10 +1,10 @@
 -- docs/FORMAT.md, "Channels from a colouring graph": the file, line by line, and what turns it away.
-use Rattle.std.specs.Prelude.{Bool, true, false, not, cond, ◌&&◌, ◌||◌, List, [], ◌∷◌, map, ℕ, ◌+◌, ◌-◌, ◌*◌, eqb, ltb, leb, length, drop, get_or}
+use Rattle.std.specs.Prelude.{Bool, true, false, not, cond, ◌&&◌, ◌||◌, List, [], ◌∷◌, map, Result, Ok, Err, ℕ, ◌+◌, ◌-◌, ◌*◌, eqb, ltb, leb, length, drop, get_or}
 use Rattle.bounded.specs.Quantifiers.{one_if}
 use Rattle.graph.specs.declared.Line.{Line}
 use Rattle.graph.specs.declared.Line.TheVariants.{Comment, Size, Edge, Bad}
 use Rattle.graph.specs.declared.GraphRead.{GraphRead}
-use Rattle.graph.specs.declared.GraphRead.TheVariants as read
+use Rattle.graph.specs.declared.TurnedAway.{TurnedAway}
 
 -- ---- lines and fields
 
@@ -181,7 +181,11 @@ bad_file f = ltb file_limit (length f) || bad_lines (file_lines f)
 
 -- what reading finds: what the tests after 21 look at
 abbrev pub lines_read : List Line → GraphRead
-lines_read m = read.Read (stated_vertices m) (stated_edges m) (count_lines is_edge m) (any_line is_loop m)
+lines_read m = record { vertices = stated_vertices m; edges = stated_edges m; lines = count_lines is_edge m; loops = any_line is_loop m }
 
-unfoldable pub read_graph : List ℕ → GraphRead
-read_graph f = elim (bad_file f) [ true ↦ read.Bad | false ↦ lines_read (file_lines f) ]
+-- the only value of its type
+abbrev pub turned_away : TurnedAway
+turned_away = record {}
+
+unfoldable pub read_graph : List ℕ → Result GraphRead TurnedAway
+read_graph f = elim (bad_file f) [ true ↦ Err turned_away | false ↦ Ok (lines_read (file_lines f)) ]

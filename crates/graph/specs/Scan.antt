@@ -1,12 +1,11 @@
 -- A colouring file read from its front: a line and what follows it, the digits at a place, and line after line. The code goes by these;
 -- proofs/ shows that they come to what Graph.antt says of the whole file.
-use Rattle.std.specs.Prelude.{Bool, true, false, not, cond, ◌&&◌, ◌||◌, List, [], ◌∷◌, ℕ, zero, suc, ◌+◌, ◌*◌, eqb, get_or}
-use Rattle.graph.specs.Graph.{is_digit, is_outside}
+use Rattle.std.specs.Prelude.{Bool, true, false, not, cond, ◌||◌, List, [], ◌∷◌, Option, None, Some, Result, Ok, Err, ok_or, ℕ, zero, suc, ◌+◌, ◌*◌, eqb, get_or}
+use Rattle.graph.specs.Graph.{is_digit, is_outside, turned_away}
 use Rattle.graph.specs.declared.Line.{Line}
 use Rattle.graph.specs.declared.Line.TheVariants.{Comment, Size, Edge, Bad}
-use Rattle.graph.specs.declared.Tally.{Tally}
 use Rattle.graph.specs.declared.GraphRead.{GraphRead}
-use Rattle.graph.specs.declared.GraphRead.TheVariants as read
+use Rattle.graph.specs.declared.TurnedAway.{TurnedAway}
 
 -- ---- bytes
 
@@ -27,36 +26,26 @@ digits_in (suc m) (x ∷ r) = elim (is_digit x) [ true ↦ x ∷ digits_in m r |
 
 -- ---- lines
 
--- no line passed yet
-abbrev pub no_tally : Tally
-no_tally = record { sized = false; vertices = 0; edges = 0; lines = 0; loops = false; good = true }
+-- after an `e` line
+abbrev pub with_edge : GraphRead → (a b : ℕ) → GraphRead
+with_edge r a b = record { vertices = r.vertices; edges = r.edges; lines = r.lines + 1; loops = r.loops || eqb a b }
 
--- the file is turned away
-abbrev pub turned_away : Tally → Tally
-turned_away g = record { sized = g.sized; vertices = g.vertices; edges = g.edges; lines = g.lines; loops = g.loops; good = false }
+-- an `e` line is within what the `p` line states
+abbrev pub in_place : GraphRead → (a b : ℕ) → Bool
+in_place r a b = not (is_outside r.vertices a || is_outside r.vertices b)
 
--- after a `p` line, and after an `e` line
-abbrev pub with_size : Tally → (v e : ℕ) → Tally
-with_size g v e = record { sized = true; vertices = v; edges = e; lines = g.lines; loops = g.loops; good = g.good }
-
-abbrev pub with_edge : Tally → (a b : ℕ) → Tally
-with_edge g a b = record { sized = g.sized; vertices = g.vertices; edges = g.edges; lines = g.lines + 1; loops = g.loops || eqb a b; good = g.good }
-
--- an `e` line is in its place: after the `p` line, and within what that states
-abbrev pub in_place : Tally → (a b : ℕ) → Bool
-in_place g a b = g.sized && not (is_outside g.vertices a || is_outside g.vertices b)
-
--- after one more line
-unfoldable pub stepped : Tally → Line → Tally
-stepped g Comment = g
-stepped g (Size v e) = elim g.sized [ true ↦ turned_away g | false ↦ with_size g v e ]
-stepped g (Edge a b) = elim (in_place g a b) [ true ↦ with_edge g a b | false ↦ turned_away g ]
-stepped g Bad = turned_away g
+-- after one more line: what was found before it, none where no `p` line was passed. The `p` line is the first of its kind, and an `e` line stands
+-- after it and in its place.
+unfoldable pub stepped : Option GraphRead → Line → Result (Option GraphRead) TurnedAway
+stepped g Comment = Ok g
+stepped g (Size v e) = elim g [ None ↦ Ok (Some (record { vertices = v; edges = e; lines = 0; loops = false })) | Some r ↦ Err turned_away ]
+stepped g (Edge a b) = elim g [ None ↦ Err turned_away | Some r ↦ cond (in_place r a b) (Ok (Some (with_edge r a b))) (Err turned_away) ]
+stepped g Bad = Err turned_away
 
 -- what reading finds that has come to g and still has the lines m to read
-unfoldable pub read_from : Tally → List Line → GraphRead
-read_from g [] = cond g.sized (read.Read g.vertices g.edges g.lines g.loops) read.Bad
-read_from g (l ∷ m) = elim (stepped g l).good [ true ↦ read_from (stepped g l) m | false ↦ read.Bad ]
+unfoldable pub read_from : Option GraphRead → List Line → Result GraphRead TurnedAway
+read_from g [] = ok_or g turned_away
+read_from g (l ∷ m) = elim (stepped g l) [ Ok h ↦ read_from h m | Err e ↦ Err e ]
 
 -- ---- marks
 

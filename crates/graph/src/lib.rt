@@ -1,7 +1,8 @@
-// The types of a DIMACS graph colouring file: a line of it, what reading the file finds, and how far a reader has come.
+// The types of a DIMACS graph colouring file: a line of it, what reading the file finds, and that the file is turned away.
 #![tactic(auto)]
 
-// A line of a colouring file: a comment, the `p` line (Size), an `e` line (Edge), or none of these forms.
+// A line of a colouring file: a comment, the `p` line (Size), an `e` line (Edge), or none of these forms. A bad line is a form of its own, since
+// the specification's list of the lines has it at its place.
 #[derive(Clone, Copy)]
 pub enum Line {
     Comment,
@@ -10,27 +11,16 @@ pub enum Line {
     Bad,
 }
 
-// What reading a colouring file finds: what its `p` line states, how many `e` lines there are, and whether one is a loop; or that the file
-// is turned away.
-#[derive(Clone, Copy)]
-pub enum GraphRead {
-    Read {
-        vertices: usize,
-        edges: usize,
-        lines: usize,
-        loops: bool,
-    },
-    Bad,
-}
-
-// What a reader has found in the lines passed: whether a `p` line, and what it states; how many `e` lines; whether one is a loop; and
-// whether no line turned the file away.
-#[derive(Clone, Copy)]
-pub struct Tally {
-    pub sized: bool,
+// What reading a colouring file finds: what its `p` line states, how many `e` lines there are, and whether one is a loop. In a reader that has
+// not come to the end they are those of the lines passed.
+#[derive(Clone, Copy, PartialEq, Eq, Debug)]
+pub struct GraphRead {
     pub vertices: usize,
     pub edges: usize,
     pub lines: usize,
     pub loops: bool,
-    pub good: bool,
 }
+
+// The file is turned away (21).
+#[derive(Clone, Copy, PartialEq, Eq, Debug)]
+pub struct TurnedAway;

@@ -8,9 +8,8 @@ use borrow.Author.Tests.{eq-eqb, ne_eqb}
 use Rattle.problem.specs.declared.Masks.{Masks}
 use Rattle.hand.specs.Hand.{start_job, call_job, hand_state, call_answer}
 use Rattle.hand.specs.declared.StartAnswer.{StartAnswer}
-use Rattle.hand.specs.declared.StartOutcome.{StartOutcome}
+use Rattle.std.specs.Prelude.{Err, Ok}
 use Rattle.hand.specs.declared.CallAnswer.{CallAnswer}
-use Rattle.hand.specs.declared.CallOutcome.{CallOutcome}
 use Rattle.boundary.specs.State.{masks_in}
 use Rattle.hand.specs.Call.{hand_state_length, hand_in, start_crossed, start_call, called_crossed, hand_call, HandCall, hand_bytes}
 use Rattle.boundary.specs.Numbers.{bad_hand_state}
@@ -25,20 +24,16 @@ use Rattle.problem.specs.Held.{Bounded}
 use Rattle.problem.proofs.OneCall.{call_misfit, call_item, call_emptied, call_none, call_done}
 use Rattle.problem.specs.declared.Call.{Call}
 use Rattle.problem.specs.declared.Call.TheVariants as outcome
-use Rattle.sheet.specs.Sheet.{layout, read_sheet, Keeps}
+use Rattle.sheet.specs.Sheet.{layout, read_sheet, Keeps, SheetRead}
 use Rattle.sheet.specs.Relation.{problem_of}
-use Rattle.sheet.specs.declared.SheetRead.{SheetRead}
-use Rattle.sheet.specs.declared.SheetRead.TheVariants as read
 use Rattle.sheet.proofs.Accepted.{keeps, problem_bounded}
 use Rattle.hand.specs.declared.HandState.{HandState}
-use Rattle.hand.specs.declared.CallOutcome.TheVariants as called
 use Rattle.hand.proofs.Opened.{call_refused_lem, call_kept}
 use mathlib.Core.Logic.{◌⊎◌, inl, inr, ◌≢◌, ◌↔◌}
 use Rattle.sheet.specs.declared.SheetRefusal.{SheetRefusal}
-use Rattle.hand.specs.Numbers.{hand_refusal_number}
+use Rattle.hand.specs.Numbers.{hand_refusal_number, CallOutcome, StartOutcome}
 use Rattle.hand.specs.declared.HandRefusal.{HandRefusal}
 use Rattle.hand.specs.declared.HandRefusal.TheVariants as refusal
-use Rattle.hand.specs.declared.StartOutcome.TheVariants as started
 use Rattle.problem.specs.Masks.{Proper}
 use Rattle.problem.proofs.Bridge.{masks_proper}
 use Rattle.jobs.proofs.Opened.{sheet_or}
@@ -114,7 +109,7 @@ value_small P B s i v e = go_fits (state_fits P s) refl
     go_fits true f = go_item f (ltb i P.n && s.active i) refl
     go_fits false f = let c = call_misfit P s i f in let z : ◌≡◌ {A = ℕ} 0 1 = cc in absurd (omega arith)
 
-module _ (s : List ℕ) (st : HandState) (i : ℕ) (x : CallAnswer) (a : x ≡ call_job s st i) (v : ℕ) (o : x.outcome ≡ called.Eliminated v) where
+module _ (s : List ℕ) (st : HandState) (i : ℕ) (x : CallAnswer) (a : x ≡ call_job s st i) (v : ℕ) (o : x.outcome ≡ Ok v) where
   pub call_small : v < 16
   call_small = go (read_sheet layout s) refl
     where
@@ -126,8 +121,8 @@ module _ (s : List ℕ) (st : HandState) (i : ℕ) (x : CallAnswer) (a : x ≡ c
       by_call K outcome.NoSnake c q = let z : ◌≡◌ {A = ℕ} 0 1 = cc in absurd (omega arith)
 
       go : (y : SheetRead) → read_sheet layout s ≡ y → v < 16
-      go (read.Accepted n m) h = by_call (keeps layout s n m h) (call (problem_of layout s) (hand_state st) i) refl (ap (λ (y : CallAnswer). y.outcome) (a ∙ call_kept s st i (keeps layout s n m h)))
-      go (read.Refused r) h =
+      go (Ok r) h = by_call (keeps layout s r.variables r.blocks h) (call (problem_of layout s) (hand_state st) i) refl (ap (λ (y : CallAnswer). y.outcome) (a ∙ call_kept s st i (keeps layout s r.variables r.blocks h)))
+      go (Err r) h =
           let q = ap (λ (y : CallAnswer). y.outcome) (a ∙ call_refused_lem s st i r h) in
           let z : ◌≡◌ {A = ℕ} 0 1 = cc in absurd (omega arith)
 
@@ -182,7 +177,7 @@ module _
 
 module _ (s b : List ℕ) where
   abbrev pub StartTaken : Type 0
-  StartTaken = (length b ≡ hand_state_length) × ((start_job s).outcome ≡ started.Started)
+  StartTaken = (length b ≡ hand_state_length) × ((start_job s).outcome ≡ Ok tt)
 
   -- accepted: the answer is 0
   pub start_zero : StartTaken → (start_call s b).answer ≡ 0
@@ -191,12 +186,12 @@ module _ (s b : List ℕ) where
   start_even : StartTaken → (start_call s b).answer % 256 ≡ 0
   start_even x = let z = start_zero x in omega arith
 
-  start_either : length b ≡ hand_state_length → ((start_job s).outcome ≡ started.Started) ⊎ (Listed (start_call s b).answer × ((start_call s b).state ≡ b))
+  start_either : length b ≡ hand_state_length → ((start_job s).outcome ≡ Ok tt) ⊎ (Listed (start_call s b).answer × ((start_call s b).state ≡ b))
   start_either l = go (start_job s).outcome refl
     where
-      go : (o : StartOutcome) → (start_job s).outcome ≡ o → ((start_job s).outcome ≡ started.Started) ⊎ (Listed (start_call s b).answer × ((start_call s b).state ≡ b))
-      go started.Started o = inl o
-      go (started.Refused r) o =
+      go : (o : StartOutcome) → (start_job s).outcome ≡ o → ((start_job s).outcome ≡ Ok tt) ⊎ (Listed (start_call s b).answer × ((start_call s b).state ≡ b))
+      go (Ok _) o = inl o
+      go (Err r) o =
           let q = sym (start_says s b l _ refl _ o) in
           inr (subst Listed (sym (ap (λ (y : HandCall). y.answer) q)) (sheet_listed r), ap (λ (y : HandCall). y.state) q)
 
@@ -213,24 +208,24 @@ module _ (s b : List ℕ) where
 
 module _ (s b : List ℕ) (i : ℕ) where
   -- accepted: the value comes back
-  pub call_unpacked : length b ≡ hand_state_length → (v : ℕ) → (call_job s (hand_in b) i).outcome ≡ called.Eliminated v
+  pub call_unpacked : length b ≡ hand_state_length → (v : ℕ) → (call_job s (hand_in b) i).outcome ≡ Ok v
       → ((hand_call s b i).answer % 256 ≡ 0) × ((hand_call s b i).answer / 256 ≡ v) × (v < 16)
   call_unpacked l v o =
       let q = sym (ap (λ (y : HandCall). y.answer) (hand_says s b i l _ refl _ o)) in
       (omega arith, omega arith, call_small s (hand_in b) i _ refl v o)
 
   abbrev pub CallTaken : Type 0
-  CallTaken = (length b ≡ hand_state_length) × ((v : ℕ) × ((call_job s (hand_in b) i).outcome ≡ called.Eliminated v))
+  CallTaken = (length b ≡ hand_state_length) × ((v : ℕ) × ((call_job s (hand_in b) i).outcome ≡ Ok v))
 
   call_even : CallTaken → (hand_call s b i).answer % 256 ≡ 0
   call_even x = (call_unpacked x.0 x.1.0 x.1.1).0
 
-  call_either : length b ≡ hand_state_length → ((v : ℕ) × ((call_job s (hand_in b) i).outcome ≡ called.Eliminated v)) ⊎ (Listed (hand_call s b i).answer × ((hand_call s b i).state ≡ b))
+  call_either : length b ≡ hand_state_length → ((v : ℕ) × ((call_job s (hand_in b) i).outcome ≡ Ok v)) ⊎ (Listed (hand_call s b i).answer × ((hand_call s b i).state ≡ b))
   call_either l = go (call_job s (hand_in b) i).outcome refl
     where
-      go : (o : CallOutcome) → (call_job s (hand_in b) i).outcome ≡ o → ((v : ℕ) × ((call_job s (hand_in b) i).outcome ≡ called.Eliminated v)) ⊎ (Listed (hand_call s b i).answer × ((hand_call s b i).state ≡ b))
-      go (called.Eliminated v) o = inl (v, o)
-      go (called.Refused r) o =
+      go : (o : CallOutcome) → (call_job s (hand_in b) i).outcome ≡ o → ((v : ℕ) × ((call_job s (hand_in b) i).outcome ≡ Ok v)) ⊎ (Listed (hand_call s b i).answer × ((hand_call s b i).state ≡ b))
+      go (Ok v) o = inl (v, o)
+      go (Err r) o =
           let q = sym (hand_says s b i l _ refl _ o) in
           inr (subst Listed (sym (ap (λ (y : HandCall). y.answer) q)) (hand_listed r), ap (λ (y : HandCall). y.state) q)
 
@@ -245,16 +240,16 @@ module _ (s b : List ℕ) (i : ℕ) where
 
 -- ---- the state left
 
-start_proper : (s : List ℕ) → (start_job s).outcome ≡ started.Started → Proper (start_job s).state.masks
-start_proper s o = (start_meets s ((started_iff s started.Started).0 o)).0
+start_proper : (s : List ℕ) → (start_job s).outcome ≡ Ok tt → Proper (start_job s).state.masks
+start_proper s o = (start_meets s ((started_iff s (Ok tt)).0 o)).0
 
-pub start_state : (s b : List ℕ) → length b ≡ hand_state_length → (start_job s).outcome ≡ started.Started → hand_in (start_call s b).state ≡ (start_job s).state
+pub start_state : (s b : List ℕ) → length b ≡ hand_state_length → (start_job s).outcome ≡ Ok tt → hand_in (start_call s b).state ≡ (start_job s).state
 start_state s b l o = ap (λ (y : HandCall). hand_in y.state) (sym (start_says s b l _ refl _ o)) ∙ hand_crossed _ (start_proper s o)
 
 -- what a hand call answers in the state st: a state that the struct can hold, or where it is refused st itself
 abbrev pub Held : HandState → CallOutcome → HandState → Type 0
-Held st (called.Eliminated v) x = Proper x.masks
-Held st (called.Refused r) x = x ≡ st
+Held st (Ok v) x = Proper x.masks
+Held st (Err r) x = x ≡ st
 
 pub call_held : (s : List ℕ) (st : HandState) (i : ℕ) → Held st (call_job s st i).outcome (call_job s st i).state
 call_held s st i = by_sheet (sheet_or s)
@@ -266,7 +261,7 @@ call_held s st i = by_sheet (sheet_or s)
     by_call outcome.Emptied = refl
     by_call outcome.NoSnake = refl
 
-    by_sheet : ((r : SheetRefusal) × (read_sheet layout s ≡ read.Refused r)) ⊎ Keeps layout s → Held st (call_job s st i).outcome (call_job s st i).state
+    by_sheet : ((r : SheetRefusal) × (read_sheet layout s ≡ Err r)) ⊎ Keeps layout s → Held st (call_job s st i).outcome (call_job s st i).state
     by_sheet (inl x) = subst (λ (x : CallAnswer). Held st x.outcome x.state) (sym (call_refused_lem s st i x.0 x.1)) refl
     by_sheet (inr K) = subst (λ (x : CallAnswer). Held st x.outcome x.state) (sym (call_kept s st i K)) (by_call (call (problem_of layout s) (hand_state st) i))
 
@@ -275,5 +270,5 @@ pub call_state : (s b : List ℕ) (i : ℕ) → length b ≡ hand_state_length �
 call_state s b i l = go (call_job s (hand_in b) i).outcome refl (call_held s (hand_in b) i)
   where
     go : (o : CallOutcome) → (call_job s (hand_in b) i).outcome ≡ o → Held (hand_in b) (call_job s (hand_in b) i).outcome (call_job s (hand_in b) i).state → hand_in (hand_call s b i).state ≡ (call_job s (hand_in b) i).state
-    go (called.Eliminated v) o x = ap (λ (y : HandCall). hand_in y.state) (sym (hand_says s b i l _ refl _ o)) ∙ hand_crossed _ (rw o at x)
-    go (called.Refused r) o x = ap (λ (y : HandCall). hand_in y.state) (sym (hand_says s b i l _ refl _ o)) ∙ sym (rw o at x)
+    go (Ok v) o x = ap (λ (y : HandCall). hand_in y.state) (sym (hand_says s b i l _ refl _ o)) ∙ hand_crossed _ (rw o at x)
+    go (Err r) o x = ap (λ (y : HandCall). hand_in y.state) (sym (hand_says s b i l _ refl _ o)) ∙ sym (rw o at x)

@@ -20,12 +20,11 @@ use Rattle.problem.specs.Causes.{Misfits, Named, SomeEmpty, CallCause}
 use Rattle.sheet.specs.Sheet.{layout, Keeps}
 use Rattle.sheet.specs.Relation.{problem_of}
 use Rattle.sheet.proofs.Refusals.{sheet_number_lem}
-use Rattle.hand.specs.Numbers.{call_number}
+use Rattle.hand.specs.Numbers.{call_number, CallOutcome}
 use Rattle.hand.specs.Hand.{hand_state, call_answer, call_over, call_job}
 use Rattle.hand.specs.declared.HandState.{HandState}
 use Rattle.hand.specs.declared.CallAnswer.{CallAnswer}
-use Rattle.hand.specs.declared.CallOutcome.{CallOutcome}
-use Rattle.hand.specs.declared.CallOutcome.TheVariants.{Eliminated, Refused}
+use Rattle.std.specs.Prelude.{Err, Ok}
 use Rattle.hand.specs.declared.HandRefusal.TheVariants as refusal
 use Rattle.hand.specs.Causes.{CauseOver, whose_call, Cause}
 use Rattle.jobs.proofs.SheetCause.{Told, sheet_iff}
@@ -45,22 +44,22 @@ module _ (P : Problem) (st : HandState) (i : ℕ) where
     answers c x = ap (λ (y : Call). (call_answer P st i y).outcome) ((says c).1 x)
 
     cause_answers : (o : CallOutcome) → CauseOver P st i o → (call_over P st i).outcome ≡ o
-    cause_answers (Refused (refusal.Sheet r)) x = absurd x
-    cause_answers (Refused refusal.State) x = answers outcome.Misfit x
-    cause_answers (Refused refusal.Item) x = answers outcome.NotActive x
-    cause_answers (Refused refusal.Emptied) x = answers outcome.Emptied x
-    cause_answers (Refused refusal.Rule) x = answers outcome.NoSnake x
-    cause_answers (Eliminated v) x = answers (outcome.Eliminated v) x
+    cause_answers (Err (refusal.Sheet r)) x = absurd x
+    cause_answers (Err refusal.State) x = answers outcome.Misfit x
+    cause_answers (Err refusal.Item) x = answers outcome.NotActive x
+    cause_answers (Err refusal.Emptied) x = answers outcome.Emptied x
+    cause_answers (Err refusal.Rule) x = answers outcome.NoSnake x
+    cause_answers (Ok v) x = answers (outcome.Eliminated v) x
 
     some_cause : (o : CallOutcome) × CauseOver P st i o
     some_cause = by_call (call P given i) ((says (call P given i)).0 refl)
       where
         by_call : (c : Call) → CallCause P given i c → (o : CallOutcome) × CauseOver P st i o
-        by_call outcome.Misfit x = (Refused refusal.State, x)
-        by_call outcome.NotActive x = (Refused refusal.Item, x)
-        by_call outcome.Emptied x = (Refused refusal.Emptied, x)
-        by_call outcome.NoSnake x = (Refused refusal.Rule, x)
-        by_call (outcome.Eliminated v) x = (Eliminated v, x)
+        by_call outcome.Misfit x = (Err refusal.State, x)
+        by_call outcome.NotActive x = (Err refusal.Item, x)
+        by_call outcome.Emptied x = (Err refusal.Emptied, x)
+        by_call outcome.NoSnake x = (Err refusal.Rule, x)
+        by_call (outcome.Eliminated v) x = (Ok v, x)
 
     -- A hand call over a problem answers as it does for its cause and for no other.
     pub called_iff_over : (o : CallOutcome) → ((call_over P st i).outcome ≡ o) ↔ CauseOver P st i o
@@ -68,25 +67,25 @@ module _ (P : Problem) (st : HandState) (i : ℕ) where
 
 -- ---- over a sheet
 
-told : (o : CallOutcome) → Told (λ r. Refused (refusal.Sheet r)) (whose_call o) o
-told (Refused (refusal.Sheet r)) = refl
-told (Refused refusal.State) = tt
-told (Refused refusal.Item) = tt
-told (Refused refusal.Emptied) = tt
-told (Refused refusal.Rule) = tt
-told (Eliminated v) = tt
+told : (o : CallOutcome) → Told (λ r. Err (refusal.Sheet r)) (whose_call o) o
+told (Err (refusal.Sheet r)) = refl
+told (Err refusal.State) = tt
+told (Err refusal.Item) = tt
+told (Err refusal.Emptied) = tt
+told (Err refusal.Rule) = tt
+told (Ok v) = tt
 
 -- the answer that a number from 10 on stands for
 abbrev numbered : ℕ → CallOutcome
-numbered k = cond (eqb k 11) (Refused refusal.State) (cond (eqb k 12) (Refused refusal.Item) (cond (eqb k 13) (Refused refusal.Emptied) (Refused refusal.Rule)))
+numbered k = cond (eqb k 11) (Err refusal.State) (cond (eqb k 12) (Err refusal.Item) (cond (eqb k 13) (Err refusal.Emptied) (Err refusal.Rule)))
 
 number_back : (o : CallOutcome) → 10 ≤ call_number o → numbered (call_number o) ≡ o
-number_back (Eliminated v) l = absurd (omega arith)
-number_back (Refused (refusal.Sheet r)) l = let m = sheet_number_lem r in absurd (omega arith)
-number_back (Refused refusal.State) l = refl
-number_back (Refused refusal.Item) l = refl
-number_back (Refused refusal.Emptied) l = refl
-number_back (Refused refusal.Rule) l = refl
+number_back (Ok v) l = absurd (omega arith)
+number_back (Err (refusal.Sheet r)) l = let m = sheet_number_lem r in absurd (omega arith)
+number_back (Err refusal.State) l = refl
+number_back (Err refusal.Item) l = refl
+number_back (Err refusal.Emptied) l = refl
+number_back (Err refusal.Rule) l = refl
 
 -- the sheet's problem
 module _ (s : List ℕ) (st : HandState) (i : ℕ) where
@@ -103,14 +102,14 @@ module _ (s : List ℕ) (st : HandState) (i : ℕ) where
     by_number = number_iff (call_job s st i).outcome (Cause s st i) called_iff call_number numbered (λ k. 10 ≤ k) number_back
 
     pub called_11 : (call_number (call_job s st i).outcome ≡ 11) ↔ (Keeps layout s × Misfits problem (hand_state st))
-    called_11 = by_number (Refused refusal.State) (omega arith)
+    called_11 = by_number (Err refusal.State) (omega arith)
 
     pub called_12 : (call_number (call_job s st i).outcome ≡ 12) ↔ (Keeps layout s × (Fits problem (hand_state st) × ((problem.n ≤ i) ⊎ (Active (hand_state st) i → ⊥))))
-    called_12 = by_number (Refused refusal.Item) (omega arith)
+    called_12 = by_number (Err refusal.Item) (omega arith)
 
     pub called_13 : (call_number (call_job s st i).outcome ≡ 13) ↔ (Keeps layout s × (Fits problem (hand_state st) × Named problem (hand_state st) i × SomeEmpty problem (hand_state st)))
-    called_13 = by_number (Refused refusal.Emptied) (omega arith)
+    called_13 = by_number (Err refusal.Emptied) (omega arith)
 
     pub called_14 : (call_number (call_job s st i).outcome ≡ 14)
         ↔ (Keeps layout s × (Fits problem (hand_state st) × Named problem (hand_state st) i × NoneEmpty problem (hand_state st) × ((v : ℕ) → T (snake problem (hand_state st) i v) → ⊥)))
-    called_14 = by_number (Refused refusal.Rule) (omega arith)
+    called_14 = by_number (Err refusal.Rule) (omega arith)

@@ -14,9 +14,8 @@ use Rattle.sheet.specs.Sheet.{layout, Keeps}
 use Rattle.sheet.specs.Relation.{problem_of}
 use Rattle.hand.specs.Hand.{hand_state, hand_fits, start_job, call_job, calls_job}
 use Rattle.hand.specs.declared.HandState.{HandState}
-use Rattle.hand.specs.declared.StartOutcome.TheVariants as started
-use Rattle.hand.specs.declared.CallOutcome.{CallOutcome}
-use Rattle.hand.specs.declared.CallOutcome.TheVariants as called
+use Rattle.hand.specs.Numbers.{CallOutcome}
+use Rattle.std.specs.Prelude.{Err, Ok}
 use Rattle.hand.proofs.HandOrder.{order_does_not_matter, start_meets}
 use Rattle.hand.proofs.Started.{started_iff}
 use Rattle.boundary.specs.State.{masks_bytes, masks_in}
@@ -40,8 +39,8 @@ call_leaves : (Q : List ℕ → Type 0) (s b : List ℕ) (i : ℕ) → length b 
 call_leaves Q s b i l q f = go (call_job s (hand_in b) i).outcome refl (call_held s (hand_in b) i)
   where
     go : (o : CallOutcome) → (call_job s (hand_in b) i).outcome ≡ o → Held (hand_in b) (call_job s (hand_in b) i).outcome (call_job s (hand_in b) i).state → Q (hand_call s b i).state
-    go (called.Refused r) o x = subst (λ (y : HandCall). Q y.state) (hand_says s b i l _ refl _ o) q
-    go (called.Eliminated v) o x = subst (λ (y : HandCall). Q y.state) (hand_says s b i l _ refl _ o) (f _ (rw o at x))
+    go (Err r) o x = subst (λ (y : HandCall). Q y.state) (hand_says s b i l _ refl _ o) q
+    go (Ok v) o x = subst (λ (y : HandCall). Q y.state) (hand_says s b i l _ refl _ o) (f _ (rw o at x))
 
 call_length : (s b : List ℕ) (i : ℕ) → length b ≡ hand_state_length → length (hand_call s b i).state ≡ hand_state_length
 call_length s b i l = call_leaves (λ c. length c ≡ hand_state_length) s b i l l (λ m R. state_length_lem m R.length_is)
@@ -105,8 +104,8 @@ same_bytes s K b e h t C = (
     d = order_does_not_matter s K (hand_in b) (in_proper b h) t C
 
 module _ (s b : List ℕ) (K : Keeps layout s) (e : length b ≡ hand_state_length) where
-  started_is : (start_job s).outcome ≡ started.Started
-  started_is = (started_iff s started.Started).1 K
+  started_is : (start_job s).outcome ≡ Ok tt
+  started_is = (started_iff s (Ok tt)).1 K
 
   start_leaves : (start_call s b).state ≡ hand_bytes (start_job s).state
   start_leaves = sym (ap (λ (y : HandCall). y.state) (start_says s b e _ refl _ started_is))

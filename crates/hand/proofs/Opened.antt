@@ -5,7 +5,7 @@ use Prim.Native.Nat.{ℕ}
 use Rattle.sheet.specs.Sheet.{layout, read_sheet, Keeps}
 use Rattle.sheet.specs.Relation.{problem_of}
 use Rattle.sheet.specs.declared.SheetRefusal.{SheetRefusal}
-use Rattle.sheet.specs.declared.SheetRead.TheVariants as read
+use Rattle.std.specs.Prelude.{Err}
 use Rattle.jobs.proofs.Opened.{sheet_refused, sheet_kept}
 use Rattle.hand.specs.Hand.{start_refused, start_over, start_job, call_refused, call_over, call_job, calls_over, calls_job}
 use Rattle.hand.specs.declared.HandState.{HandState}
@@ -13,7 +13,7 @@ use Rattle.hand.specs.declared.CallAnswer.{CallAnswer}
 use Rattle.hand.specs.declared.HandRefusal.TheVariants as hand
 
 module _ (s : List ℕ) where
-  pub start_refused_lem : (r : SheetRefusal) → read_sheet layout s ≡ read.Refused r → start_job s ≡ start_refused r
+  pub start_refused_lem : (r : SheetRefusal) → read_sheet layout s ≡ Err r → start_job s ≡ start_refused r
   unfolding start_job
   start_refused_lem r e = sheet_refused s _ _ r e
 
@@ -22,7 +22,7 @@ module _ (s : List ℕ) where
   start_kept K = sheet_kept s _ _ K
 
   module _ (st : HandState) (i : ℕ) where
-    pub call_refused_lem : (r : SheetRefusal) → read_sheet layout s ≡ read.Refused r → call_job s st i ≡ call_refused (hand.Sheet r) st
+    pub call_refused_lem : (r : SheetRefusal) → read_sheet layout s ≡ Err r → call_job s st i ≡ call_refused (hand.Sheet r) st
     unfolding call_job
     call_refused_lem r e = sheet_refused s _ _ r e
 

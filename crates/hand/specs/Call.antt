@@ -1,14 +1,10 @@
 -- A hand state as bytes, what exported starting and the exported hand call answer, as one number, and what they leave in the state's buffer.
 -- The low byte of the answer is the number of the refusal, from 1 to 255, or 0 where there is none. Above it stand the parts of what was done.
-use Rattle.std.specs.Prelude.{true, false, List, [], ◌∷◌, ℕ, ◌*◌, ◌<◌, eqb, length, get_or}
+use Rattle.std.specs.Prelude.{true, false, List, [], ◌∷◌, ℕ, ◌*◌, ◌<◌, eqb, length, get_or, Err, Ok}
 use Rattle.sheet.specs.Sheet.{sheet_number}
-use Rattle.hand.specs.Numbers.{hand_refusal_number}
+use Rattle.hand.specs.Numbers.{hand_refusal_number, CallOutcome, StartOutcome}
 use Rattle.hand.specs.Hand.{start_job, call_job}
 use Rattle.hand.specs.declared.HandState.{HandState}
-use Rattle.hand.specs.declared.StartOutcome.{StartOutcome}
-use Rattle.hand.specs.declared.StartOutcome.TheVariants as started
-use Rattle.hand.specs.declared.CallOutcome.{CallOutcome}
-use Rattle.hand.specs.declared.CallOutcome.TheVariants as called
 use Rattle.boundary.specs.State.{masks_bytes, masks_in}
 use Rattle.boundary.specs.Numbers.{bad_hand_state}
 
@@ -36,8 +32,8 @@ pub record HandCall : Type 0 where
 
 -- from what starting answers and its state; the buffer was b
 abbrev pub start_crossed : StartOutcome → HandState → List ℕ → HandCall
-start_crossed (started.Refused r) st b = record { answer = sheet_number r; state = b }
-start_crossed started.Started st b = record { answer = 0; state = hand_bytes st }
+start_crossed (Err r) st b = record { answer = sheet_number r; state = b }
+start_crossed (Ok _) st b = record { answer = 0; state = hand_bytes st }
 
 -- the sheet s and the state's buffer b: the length of b first, then the job
 unfoldable pub start_call : (s b : List ℕ) → HandCall
@@ -50,8 +46,8 @@ start_call s b =
 -- from what a hand call answers and its state; the buffer was b, which holds the state that a refused call answers.
 -- Bits 0-7 the refusal, bits 8-15 the value.
 abbrev pub called_crossed : CallOutcome → HandState → List ℕ → HandCall
-called_crossed (called.Refused r) st b = record { answer = hand_refusal_number r; state = b }
-called_crossed (called.Eliminated v) st b = record { answer = 256 * v; state = hand_bytes st }
+called_crossed (Err r) st b = record { answer = hand_refusal_number r; state = b }
+called_crossed (Ok v) st b = record { answer = 256 * v; state = hand_bytes st }
 
 -- the sheet s, the buffer b with the state, and the variable i: the length of b first, then the job
 unfoldable pub hand_call : (s b : List ℕ) (i : ℕ) → HandCall

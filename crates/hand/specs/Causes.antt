@@ -1,17 +1,13 @@
 -- Why a start and a hand call answer as they do.
-use Rattle.std.specs.Prelude.{◌≡◌, List, ◌⊎◌, ℕ, ◌≤◌, T}
+use Rattle.std.specs.Prelude.{◌≡◌, List, ◌⊎◌, ℕ, ◌≤◌, T, Err, Ok}
 use Rattle.problem.specs.Problem.{Problem, State, snake}
 use Rattle.problem.specs.Sentences.{Active, Fits, NoneEmpty}
 use Rattle.problem.specs.Causes.{Misfits, Named, SomeEmpty, LowestSnake}
 use Rattle.sheet.specs.Sheet.{layout, read_sheet, Keeps}
-use Rattle.sheet.specs.declared.SheetRead.TheVariants as read
+use Rattle.hand.specs.Numbers.{CallOutcome, StartOutcome}
 use Rattle.jobs.specs.Causes.{Whose, Sheets, Own, SheetCause}
 use Rattle.hand.specs.Hand.{hand_state}
 use Rattle.hand.specs.declared.HandState.{HandState}
-use Rattle.hand.specs.declared.StartOutcome.{StartOutcome}
-use Rattle.hand.specs.declared.StartOutcome.TheVariants as started
-use Rattle.hand.specs.declared.CallOutcome.{CallOutcome}
-use Rattle.hand.specs.declared.CallOutcome.TheVariants.{Eliminated, Refused}
 use Rattle.hand.specs.declared.HandRefusal.TheVariants as refusal
 
 -- ---- starting
@@ -19,8 +15,8 @@ use Rattle.hand.specs.declared.HandRefusal.TheVariants as refusal
 module _ (s : List ℕ) where
   -- Why a start answers as it does: it is refused for its sheet only.
   abbrev pub StartCause : StartOutcome → Type 0
-  StartCause (started.Refused r) = read_sheet layout s ≡ read.Refused r
-  StartCause started.Started = Keeps layout s
+  StartCause (Err r) = read_sheet layout s ≡ Err r
+  StartCause (Ok _) = Keeps layout s
 
 -- ---- a hand call
 
@@ -31,25 +27,25 @@ module _ (P : Problem) (st : HandState) (i : ℕ) where
 
   -- Why a hand call over a problem answers as it does.
   abbrev pub CauseOver : CallOutcome → Type 0
-  CauseOver (Refused (refusal.Sheet r)) = ⊥
+  CauseOver (Err (refusal.Sheet r)) = ⊥
   -- 11: "an item in is not below n, an item out has a setting on, or a setting on is not below its size"
-  CauseOver (Refused refusal.State) = Misfits P given
+  CauseOver (Err refusal.State) = Misfits P given
   -- 12: "named item not below n or not in"
-  CauseOver (Refused refusal.Item) = Fits P given × ((P.n ≤ i) ⊎ (Active given i → ⊥))
+  CauseOver (Err refusal.Item) = Fits P given × ((P.n ≤ i) ⊎ (Active given i → ⊥))
   -- 13: "some item in has no setting on"
-  CauseOver (Refused refusal.Emptied) = Fits P given × Named P given i × SomeEmpty P given
+  CauseOver (Err refusal.Emptied) = Fits P given × Named P given i × SomeEmpty P given
   -- 14: "the snake rule holds for no v"
-  CauseOver (Refused refusal.Rule) = Fits P given × Named P given i × NoneEmpty P given × ((v : ℕ) → T (snake P given i v) → ⊥)
+  CauseOver (Err refusal.Rule) = Fits P given × Named P given i × NoneEmpty P given × ((v : ℕ) → T (snake P given i v) → ⊥)
   -- accepted: no cause speaks, and v is the lowest for which the snake rule holds
-  CauseOver (Eliminated v) = Fits P given × Named P given i × NoneEmpty P given × LowestSnake P given i v
+  CauseOver (Ok v) = Fits P given × Named P given i × NoneEmpty P given × LowestSnake P given i v
 
 abbrev pub whose_call : CallOutcome → Whose
-whose_call (Refused (refusal.Sheet r)) = Sheets r
-whose_call (Refused refusal.State) = Own
-whose_call (Refused refusal.Item) = Own
-whose_call (Refused refusal.Emptied) = Own
-whose_call (Refused refusal.Rule) = Own
-whose_call (Eliminated v) = Own
+whose_call (Err (refusal.Sheet r)) = Sheets r
+whose_call (Err refusal.State) = Own
+whose_call (Err refusal.Item) = Own
+whose_call (Err refusal.Emptied) = Own
+whose_call (Err refusal.Rule) = Own
+whose_call (Ok v) = Own
 
 module _ (s : List ℕ) (st : HandState) (i : ℕ) where
   -- Why a hand call answers as it does: the sheet's own fault, or the cause over its problem.

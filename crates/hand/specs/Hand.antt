@@ -1,5 +1,5 @@
 -- Taking out by hand: starting, one hand call, and lists of hand calls, over a problem and as jobs.
-use Rattle.std.specs.Prelude.{Bool, List, [], ◌∷◌, ℕ}
+use Rattle.std.specs.Prelude.{Bool, List, [], ◌∷◌, ℕ, Err, Ok}
 use Rattle.problem.specs.Problem.{Problem, State, state_fits, eliminate}
 use Rattle.problem.specs.Hand.{start, call}
 use Rattle.problem.specs.Masks.{state_of, masks_of, empty_masks}
@@ -9,9 +9,7 @@ use Rattle.sheet.specs.declared.SheetRefusal.{SheetRefusal}
 use Rattle.jobs.specs.WithSheet.{with_sheet}
 use Rattle.hand.specs.declared.HandState.{HandState}
 use Rattle.hand.specs.declared.StartAnswer.{StartAnswer}
-use Rattle.hand.specs.declared.StartOutcome.TheVariants as started
 use Rattle.hand.specs.declared.CallAnswer.{CallAnswer}
-use Rattle.hand.specs.declared.CallOutcome.TheVariants as called
 use Rattle.hand.specs.declared.HandRefusal.{HandRefusal}
 use Rattle.hand.specs.declared.HandRefusal.TheVariants as refusal
 
@@ -31,11 +29,11 @@ hand_fits P st = state_fits P (hand_state st)
 -- "Starting answers the state with all items in and the largest sets of settings in which each has a partner at every other item."
 -- "Starting has no rows of its own."
 abbrev pub start_over : Problem → StartAnswer
-start_over P = record { outcome = started.Started; state = hand_of (start P) }
+start_over P = record { outcome = Ok tt; state = hand_of (start P) }
 
 -- "A refused start answers a state with no items in and no settings on."
 abbrev pub start_refused : SheetRefusal → StartAnswer
-start_refused r = record { outcome = started.Refused r; state = record { masks = empty_masks } }
+start_refused r = record { outcome = Err r; state = record { masks = empty_masks } }
 
 -- starting on the sheet s
 unfoldable pub start_job : List ℕ → StartAnswer
@@ -45,11 +43,11 @@ start_job s = with_sheet s start_refused start_over
 
 -- "a refused hand call answers the state it was given"
 abbrev pub call_refused : HandRefusal → HandState → CallAnswer
-call_refused r st = record { outcome = called.Refused r; state = st }
+call_refused r st = record { outcome = Err r; state = st }
 
 -- what a call comes to, as an answer
 abbrev pub call_answer : Problem → HandState → ℕ → Call → CallAnswer
-call_answer P st i (outcome.Eliminated v) = record { outcome = called.Eliminated v; state = hand_of (eliminate P (hand_state st) i) }
+call_answer P st i (outcome.Eliminated v) = record { outcome = Ok v; state = hand_of (eliminate P (hand_state st) i) }
 call_answer P st i outcome.Misfit = call_refused refusal.State st
 call_answer P st i outcome.NotActive = call_refused refusal.Item st
 call_answer P st i outcome.Emptied = call_refused refusal.Emptied st

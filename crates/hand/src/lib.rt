@@ -13,20 +13,15 @@ pub struct HandState {
     pub masks: Masks,
 }
 
-#[derive(Clone, Copy)]
-pub enum StartOutcome {
-    Started,
-    Refused(SheetRefusal),
-}
-
+// What starting answers, with the state beside it: `start_refused` of specs/Hand.antt says that a refused start has the empty state there.
 #[derive(Clone, Copy)]
 pub struct StartAnswer {
-    pub outcome: StartOutcome,
+    pub outcome: Result<(), SheetRefusal>,
     pub state: HandState,
 }
 
 // Why a hand call is refused.
-#[derive(Clone, Copy)]
+#[derive(Clone, Copy, Debug, PartialEq, Eq)]
 pub enum HandRefusal {
     Sheet(SheetRefusal),
     State,
@@ -35,26 +30,25 @@ pub enum HandRefusal {
     Rule,
 }
 
-#[derive(Clone, Copy)]
-pub enum CallOutcome {
-    Eliminated(usize),
-    Refused(HandRefusal),
-}
-
+// What a hand call answers: the value with which its variable was taken out. The state stands beside it: `call_refused` of specs/Hand.antt
+// says that a refused call answers the state it was given.
 #[derive(Clone, Copy)]
 pub struct CallAnswer {
-    pub outcome: CallOutcome,
+    pub outcome: Result<usize, HandRefusal>,
     pub state: HandState,
 }
 
-pub fn hand_number(r: HandRefusal) -> u8
-    ensures { result ≡ hand_refusal_number r }
-{
-    match r {
-        HandRefusal::Sheet(s) => sheet::sheet_number(s),
-        HandRefusal::State => 11,
-        HandRefusal::Item => 12,
-        HandRefusal::Emptied => 13,
-        HandRefusal::Rule => 14,
+// The format's number for a refusal.
+impl From<HandRefusal> for u8 {
+    ghost from_gives = { λ r n. n ≡ hand_refusal_number r };
+
+    fn from(r: HandRefusal) -> u8 {
+        match r {
+            HandRefusal::Sheet(s) => u8::from(s),
+            HandRefusal::State => 11,
+            HandRefusal::Item => 12,
+            HandRefusal::Emptied => 13,
+            HandRefusal::Rule => 14,
+        }
     }
 }

@@ -1,10 +1,9 @@
 -- What the parts of a hand call say to one another, as the code tests it: loops to 32 and 16.
-use Rattle.std.specs.Prelude.{Bool, ◌&&◌, ℕ, ltb}
+use Rattle.std.specs.Prelude.{Bool, ◌&&◌, ℕ, ltb, Ok}
 use Rattle.bounded.specs.Quantifiers.{imp, all_below}
 use Rattle.problem.specs.Problem.{Problem, State, max_values, eliminate}
 use Rattle.hand.specs.Hand.{hand_of}
 use Rattle.hand.specs.declared.CallAnswer.{CallAnswer}
-use Rattle.hand.specs.declared.CallOutcome.TheVariants as called
 
 module _ (P : Problem) (s : State) where
   -- cause 11 does not speak against what the state says of variable i
@@ -13,4 +12,4 @@ module _ (P : Problem) (s : State) where
 
 -- what a call answers: the snake step for i with v
 abbrev pub call_eliminated : Problem → State → (i v : ℕ) → CallAnswer
-call_eliminated P s i v = record { outcome = called.Eliminated v; state = hand_of (eliminate P s i) }
+call_eliminated P s i v = record { outcome = Ok v; state = hand_of (eliminate P s i) }

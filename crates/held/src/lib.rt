@@ -11,7 +11,7 @@ ghost use Rattle.problem.specs.Held.{row_word, table_length, rows_at, held, Loca
 ghost use Rattle.problem.specs.Masks.{state_of, masks_of, sets, Proper};
 ghost use Rattle.held.specs.Ready.{Ready, Value, Values, Near};
 
-use bounded::{has16, has32};
+use bounded::Set;
 use problem::Masks;
 
 // ---- the layout of a table
@@ -43,12 +43,10 @@ pub fn variables(t: &[u16]) -> usize
     requires { RowTable t.now }
     ensures { result ≡ (held t.now).n }
 {
-    let mut i: usize = 0;
-    while i < 32 {
+    for i in 0..32 {
         if t[i] == 0 {
             return i;
         }
-        i += 1;
     }
     32
 }
@@ -61,10 +59,8 @@ pub fn size_sum(t: &[u16]) -> usize
 {
     let n = variables(t);
     let mut sum: usize = 0;
-    let mut i: usize = 0;
-    while i < n {
+    for i in 0..n {
         sum += t[i] as usize;
-        i += 1;
     }
     sum
 }
@@ -107,7 +103,7 @@ pub fn row(t: &[u16], i: usize, j: usize, a: usize) -> u16
     requires { RowTable t.now × Value t.now i a × (j < 32) × (j ≢ i) }
     ensures { result ≡ row_word (held t.now) i j a }
 {
-    row_among(t, bounded::below16(size(t, j)), i, j, a)
+    row_among(t, u16::below(size(t, j)), i, j, a)
 }
 
 // Value a of i is allowed with value b of j. No two values of one variable are, and there is no row between them.
@@ -118,7 +114,7 @@ pub fn pair_allowed(t: &[u16], i: usize, a: usize, j: usize, b: usize) -> bool
     if j == i {
         false
     } else {
-        has16(t[rows_at(t, i, j) + a], b)
+        t[rows_at(t, i, j) + a].has(b)
     }
 }
 
@@ -140,34 +136,43 @@ pub fn neighbours(t: &[u16], i: usize) -> u32
 
 // ---- a state
 
-// Value v is in the domain of variable i.
+// Value v is in the domain of variable i. No method of a View, since it reads no table: putting back asks it with none.
 pub fn is_live(active: u32, on: &[u16; 32], i: usize, v: usize) -> bool
     requires { Proper (sets active on.now) × (i < 32) }
     ensures { result ≡ (state_of (sets active on.now)).live i v }
 {
-    if v < 16 { has16(on[i], v) } else { false }
+    if v < 16 { on[i].has(v) } else { false }
 }
 
-fn some_value(t: &[u16], active: u32, on: &[u16; 32], l: usize) -> bool
-    requires { Ready t.now (sets active on.now) × (l < 32) }
-    ensures { result ≡ imp (bit active l) (any_live (held t.now) (state_of (sets active on.now)) l (λ c. true)) }
-{
-    !has32(active, l) | (on[l] != 0)
+// ---- a table and a state
+
+// A filled table, and a state of the problem that it holds: what every rule's test reads.
+#[derive(Clone, Copy)]
+pub struct View<'a> {
+    pub table: &'a [u16],
+    pub state: &'a Masks,
+    pub ghost ready: { Ready table.now state.now },
 }
 
-// No item in is without a setting on.
-pub fn none_empty(t: &[u16], active: u32, on: &[u16; 32]) -> bool
-    requires { Ready t.now (sets active on.now) }
-    ensures { result ≡ none_empty (held t.now) (state_of (sets active on.now)) }
-{
-    let mut l: usize = 0;
-    while l < 32 {
-        if !some_value(t, active, on, l) {
-            return false;
-        }
-        l += 1;
+impl<'a> View<'a> {
+    fn some_value(self, l: usize) -> bool
+        requires { l < 32 }
+        ensures { result ≡ imp (bit self.entry.state.now.active l) (any_live (held self.entry.table.now) (state_of self.entry.state.now) l (λ c. true)) }
+    {
+        !self.state.active.has(l) | (self.state.domains[l] != 0)
     }
-    true
+
+    // No item in is without a setting on.
+    pub fn none_empty(self) -> bool
+        ensures { result ≡ none_empty (held self.entry.table.now) (state_of self.entry.state.now) }
+    {
+        for l in 0..32 {
+            if !self.some_value(l) {
+                return false;
+            }
+        }
+        true
+    }
 }
 
 // ---- the first state
@@ -177,11 +182,7 @@ fn full_domain(t: &[u16], n: usize, i: usize) -> u16
     requires { RowTable t.now × (n ≡ (held t.now).n) × (i < 32) }
     ensures { result ≡ mask_of 16 ((full (held t.now)).live i) }
 {
-    if i < n {
-        bounded::below16(t[i] as usize)
-    } else {
-        0
-    }
+    if i < n { u16::below(t[i] as usize) } else { 0 }
 }
 
 // The first state: every variable active, every value in its domain.
@@ -191,11 +192,9 @@ pub fn full_masks(t: &[u16]) -> Masks
 {
     let n = variables(t);
     let mut m = problem::empty_masks();
-    m.active = bounded::below32(n);
-    let mut i: usize = 0;
-    while i < 32 {
+    m.active = u32::below(n);
+    for i in 0..32 {
         m.domains[i] = full_domain(t, n, i);
-        i += 1;
     }
     m
 }

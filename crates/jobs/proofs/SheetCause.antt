@@ -8,7 +8,7 @@ use Rattle.problem.specs.Problem.{Problem}
 use Rattle.sheet.specs.Sheet.{layout, read_sheet, Keeps}
 use Rattle.sheet.specs.Relation.{problem_of}
 use Rattle.sheet.specs.declared.SheetRefusal.{SheetRefusal}
-use Rattle.sheet.specs.declared.SheetRead.TheVariants as read
+use Rattle.std.specs.Prelude.{Err}
 use Rattle.jobs.specs.WithSheet.{with_sheet}
 use Rattle.jobs.specs.Causes.{Whose, Sheets, Own, SheetCause}
 use Rattle.jobs.proofs.Opened.{sheet_or, sheet_refused, sheet_kept}
@@ -40,7 +40,7 @@ module _ {A O : Type 0} (s : List ℕ) (refused : SheetRefusal → A) (over : Pr
         own K o x (Sheets r) q = absurd (none (problem_of layout s) r (subst (Over (problem_of layout s)) q x))
         own K o x Own q = (K, x)
 
-        by_sheet : ((r : SheetRefusal) × (read_sheet layout s ≡ read.Refused r)) ⊎ Keeps layout s → (o : O) × SheetCause s (whose o) (λ P. Over P o)
+        by_sheet : ((r : SheetRefusal) × (read_sheet layout s ≡ Err r)) ⊎ Keeps layout s → (o : O) × SheetCause s (whose o) (λ P. Over P o)
         by_sheet (inl (r, e)) = (out (refused r), subst (λ (w : Whose). SheetCause s w (λ P. Over P (out (refused r)))) (sym (sheets r)) e)
         by_sheet (inr K) = let o = out (over (problem_of layout s)) in (o, own K o ((over-iff K o).0 refl) (whose o) (told o))
 

@@ -1,14 +1,14 @@
 // The lines of a state, drawn from a table: what each value allows at every variable, side by side.
 #![tactic(auto)]
 
-ghost use Rattle.std.specs.Prelude.{◌≡◌, ◌≢◌, ◌<◌, length, replicate};
+ghost use Rattle.std.specs.Prelude.{◌≡◌, ◌≢◌, ◌<◌, replicate};
 ghost use Rattle.bounded.specs.Mask.{without as without_of};
 ghost use Rattle.problem.specs.Held.{held, RowTable};
 ghost use Rattle.problem.specs.Masks.{state_of};
 ghost use Rattle.held.specs.Ready.{Ready};
 ghost use Rattle.lines.specs.Lines.{lines_length, Drawn, DrawnTo, PairDrawn};
 
-use bounded::{lowest32, without32};
+use bounded::Set;
 use held::{neighbours, rows_at};
 use problem::Masks;
 
@@ -17,26 +17,24 @@ pub const LINES: usize = 16384;
 
 // The 16 rows of i towards another variable j, each at its place in the line of its value.
 fn draw_pair(t: &[u16], lines: &mut [u16; LINES], i: usize, j: usize)
-    requires { RowTable t.now × (length lines.old ≡ lines_length) × (i < 32) × (j < 32) × (i ≢ j) }
+    requires { RowTable t.now × (i < 32) × (j < 32) × (i ≢ j) }
     ensures { PairDrawn t.now lines.old i j 16 lines.new }
 {
     let from = rows_at(t, i, j);
-    let mut a: usize = 0;
-    while a < 16 {
+    for a in 0..16 {
         lines[512 * i + 32 * a + j] = t[from + a];
-        a += 1;
     }
 }
 
 // The lines of i, at the variables of a set but i.
 fn draw_variable(t: &[u16], lines: &mut [u16; LINES], some: u32, i: usize)
-    requires { RowTable t.now × (length lines.old ≡ lines_length) × (i < 32) }
+    requires { RowTable t.now × (i < 32) }
     ensures { DrawnTo t.now lines.old i (without_of 32 some i) 0 lines.new }
 {
-    let mut rest = without32(some, i);
+    let mut rest = some.without(i);
     while rest != 0 {
-        let j = lowest32(rest);
-        rest = without32(rest, j);
+        let j = rest.lowest();
+        rest = rest.without(j);
         draw_pair(t, lines, i, j);
     }
 }
@@ -50,8 +48,8 @@ pub fn draw(t: &[u16], m: Masks, lines: &mut [u16; LINES])
     let active = m.active;
     let mut rest = active;
     while rest != 0 {
-        let i = lowest32(rest);
-        rest = without32(rest, i);
+        let i = rest.lowest();
+        rest = rest.without(i);
         draw_variable(t, lines, active & neighbours(t, i), i);
     }
 }

@@ -1,11 +1,12 @@
 -- Why a pigeonhole has no solution: the values of variables that all differ are as many as the variables. Assumes nothing.
 use mathlib.Core.Path.{◌≡◌, refl, sym, ap, subst, ◌∙◌}
-use mathlib.Core.Bool.{Bool, true, false, ◌||◌, cond}
+use mathlib.Core.Bool.{Bool, true, false, ◌||◌}
 use mathlib.Core.List.{List}
 use mathlib.Core.Logic.{◌⊎◌, inl, inr, ◌≢◌, ⊎_elim}
-use Prim.Native.Nat.{ℕ, zero, suc, ◌+◌, ◌-◌, ◌/◌, ◌%◌, ◌^◌, ◌≤◌, ◌<◌}
+use Prim.Native.Nat.{ℕ, zero, suc, max, ◌+◌, ◌-◌, ◌/◌, ◌%◌, ◌^◌, ◌≤◌, ◌<◌}
 use native.Mathlib.Nat.{lt_of_le_of_lt}
 use native.Mathlib.Omega.{arith}
+use Rattle.std.proofs.Math.Nat.{max-eq_left, max-eq_right}
 use lib.Bits.{bit_and, and_le_l, bit_or, or_lt}
 use lib.Count.{ones, ones_step, ones-le}
 use lib.Dec.{T, eqb}
@@ -15,7 +16,7 @@ use lib.Seq.{get_or-set_same, get_or-set_other}
 use borrow.Author.Tests.{ne_eqb}
 use Rattle.bounded.specs.Quantifiers.{sum_to, one_if, count_below}
 use Rattle.bounded.specs.Mask.{bit, without}
-use Rattle.bounded.proofs.Truth.{T_dec, and_iff, or_iff, eqb_iff, eq_dec}
+use Rattle.bounded.proofs.Truth.{T_dec, and_iff, or_iff, eqb_iff, eq_dec, lt_dec}
 use Rattle.bounded.proofs.Quantifiers.{count_le, count_lt}
 use Rattle.bounded.proofs.Mask.{bit_and_lem, bit_or_lem, bit_single, bit_without32, member_some, member_lt}
 use Rattle.bounded.proofs.Members.{Left, left_all, left_next, left_other, part_lt, without_part, without_other, without_gone}
@@ -68,14 +69,17 @@ pub record Sifted (P : Problem) (on : List ℕ) (i far rest : ℕ) : Type 0 wher
 pub sift_none : (P : Problem) (on : List ℕ) (i far : ℕ) → far < 2 ^ 32 → Sifted P on i far far
 sift_none P on i far l = record { small = l; each = λ j h off. absurd (off h) }
 
-pub sift_more : {P : Problem} {on : List ℕ} {i far rest : ℕ} (b : Bool) (j : ℕ) → j < 32 → ApartIf P (get_or on i 0) (get_or on j 0) i j b → Sifted P on i far rest
-    → Sifted P on i (cond b far (without 32 far j)) (without 32 rest j)
-sift_more {P} {on} {i} {far} {rest} true j l H S = record { small = S.small; each = λ k h off. go k h off (T_dec (bit rest k)) }
+-- j is apart, and stays
+pub sift_kept : {P : Problem} {on : List ℕ} {i far rest : ℕ} {b : Bool} (j : ℕ) → j < 32 → ApartIf P (get_or on i 0) (get_or on j 0) i j b → b ≡ true → Sifted P on i far rest → Sifted P on i far (without 32 rest j)
+sift_kept {P} {on} {i} {far} {rest} j l H e S = record { small = S.small; each = λ k h off. go k h off (T_dec (bit rest k)) }
   where
     go : (k : ℕ) → T (bit far k) → (T (bit (without 32 rest j) k) → ⊥) → T (bit rest k) ⊎ (T (bit rest k) → ⊥) → Apart P (get_or on i 0) (get_or on k 0) i k
-    go k h off (inl y) = subst (λ (k : ℕ). Apart P (get_or on i 0) (get_or on k 0) i k) (sym (without_gone 32 bit_without32 rest j l k (member_lt 32 far k S.small h) y off)) (H.apart refl)
+    go k h off (inl y) = subst (λ (k : ℕ). Apart P (get_or on i 0) (get_or on k 0) i k) (sym (without_gone 32 bit_without32 rest j l k (member_lt 32 far k S.small h) y off)) (H.apart e)
     go k h off (inr n) = S.each k h n
-sift_more {P} {on} {i} {far} {rest} false j l H S = record { small = less; each = λ k h off. go k h off (T_dec (bit rest k)) }
+
+-- j goes
+pub sift_gone : {P : Problem} {on : List ℕ} {i far rest : ℕ} (j : ℕ) → j < 32 → Sifted P on i far rest → Sifted P on i (without 32 far j) (without 32 rest j)
+sift_gone {P} {on} {i} {far} {rest} j l S = record { small = less; each = λ k h off. go k h off (T_dec (bit rest k)) }
   where
     less : without 32 far j < 2 ^ 32
     less = lt_of_le_of_lt (and_le_l far _) S.small
@@ -113,10 +117,13 @@ rows_written_more {P} {on} {far} i x l A W = record { long = length-set far i x 
 
 -- ---- the best so far
 
--- the best so far is one of `rest`, if either was
-pub best_more : (rest best x j r : ℕ) → T (bit rest (31 - best % 32)) → 31 - x % 32 ≡ j → T (bit rest j) → (r ≡ best) ⊎ (r ≡ x) → T (bit rest (31 - r % 32))
-best_more rest best x j r h e g (inl p) = subst (λ (z : ℕ). T (bit rest (31 - z % 32))) (sym p) h
-best_more rest best x j r h e g (inr p) = subst (λ (z : ℕ). T (bit rest z)) (sym (ap (λ (z : ℕ). 31 - z % 32) p ∙ e)) g
+-- the best so far is one of `rest`, if both are
+pub best_more : (rest best x j r : ℕ) → T (bit rest (31 - best % 32)) → 31 - x % 32 ≡ j → T (bit rest j) → r ≡ max best x → T (bit rest (31 - r % 32))
+best_more rest best x j r h e g p = go (lt_dec best x)
+  where
+    go : (best < x) ⊎ (x ≤ best) → T (bit rest (31 - r % 32))
+    go (inl l) = subst (λ (z : ℕ). T (bit rest z)) (sym (ap (λ (z : ℕ). 31 - z % 32) (p ∙ max-eq_right (omega (arith, l))) ∙ e)) g
+    go (inr l) = subst (λ (z : ℕ). T (bit rest (31 - z % 32))) (sym (p ∙ max-eq_left l)) h
 
 -- ---- members of a set
 

@@ -2,14 +2,12 @@
 #![tactic(auto)]
 
 ghost use Rattle.std.specs.Prelude.{◌≡◌, ◌≤◌, length, take};
-ghost use Rattle.std.specs.Io.{ReadsAtMost};
 ghost use Rattle.fields.specs.Print.{input_limit};
 ghost use Rattle.moved.specs.Move.{move_job};
 ghost use Rattle.move_sheet.specs.Text.{moved_text};
 
-use moved::Moved;
 use std::io;
-use std::io::{Input, Read};
+use std::io::Input;
 
 // What the program writes for a sheet, at the front of a buffer: the moved sheet, or the line of a refusal. How long it is.
 fn put_moved(sheet: &[u8], out: &mut [u8]) -> usize
@@ -17,26 +15,10 @@ fn put_moved(sheet: &[u8], out: &mut [u8]) -> usize
     ensures text { take result out.new ≡ moved_text (move_job sheet.now out.old) }
     ensures within { result ≤ 16904 }
 {
-    let a = moved::move_sheet(sheet, out);
-    match a {
-        Moved::Written(n) => n,
-        Moved::Refused(r) => text::put_refused_line(out, 0, moved::move_number(r) as usize),
+    match moved::move_sheet(sheet, out) {
+        Ok(n) => n,
+        Err(r) => text::put_refused_line(out, 0, u8::from(r) as usize),
     }
-}
-
-// Reads until the buffer is full or the input ends: how many bytes stand at its front then.
-fn read_full<R: Read>(input: &mut R, buf: &mut [u8]) -> io::Result<usize>
-    ensures { ReadsAtMost result buf.new }
-{
-    let mut done = 0;
-    while done < buf.len() {
-        let n = input.read(&mut buf[done..])?;
-        if n == 0 {
-            break;
-        }
-        done += n;
-    }
-    Ok(done)
 }
 
 // The move of what standard input holds, up to the format's limit: the buffer for it has just that length. The target has room for the
@@ -44,7 +26,7 @@ fn read_full<R: Read>(input: &mut R, buf: &mut [u8]) -> io::Result<usize>
 fn print_moved<R: Input + Print>(rt: &R, sheet: &mut [u8]) -> io::Result<()>
     requires { length sheet.old ≡ input_limit }
 {
-    let n = read_full(&mut rt.reader(), sheet)?;
+    let n = whole_input::read_full(&mut rt.reader(), sheet)?;
     let mut out = [0u8; 16904];
     let k = put_moved(&sheet[..n], &mut out);
     rt.write_all(&out[..k])

@@ -1,10 +1,10 @@
 -- What the number of the exported call tells: a refusal leaves the target as it was, everything else is a multiple of 256 from which the bytes
 -- written come back. Stated over the definition that the contract cites. Assumes nothing.
+use Rattle.std.specs.Prelude.{Ok, Err}
 use mathlib.Core.Path.{◌≡◌, sym, ◌∙◌, refl, ap}
 use mathlib.Core.List.{List}
 use Prim.Native.Nat.{ℕ, ◌/◌, ◌%◌, ◌^◌, ◌≤◌, ◌<◌}
-use Rattle.moved.specs.Move.{move_job, move_number, moved_bytes, MoveResult}
-use Rattle.moved.specs.declared.Moved.{Moved}
+use Rattle.moved.specs.Move.{Moved, move_job, move_number, moved_bytes, MoveResult}
 use Rattle.moved.specs.Call.{move_crossed, move_call, MoveCall}
 use mathlib.Core.Logic.{◌⊎◌, inl, inr, ◌≢◌, ◌↔◌}
 use native.Mathlib.Omega.{arith}
@@ -16,7 +16,6 @@ use Rattle.buffers.specs.Written.{fronted}
 use Rattle.boundary.proofs.Answers.{Refuses, refused_keeps, taken_iff, written_unpacked}
 use Rattle.moved.specs.declared.MoveRefusal.{MoveRefusal}
 use Rattle.moved.specs.declared.MoveRefusal.TheVariants as not_moved
-use Rattle.moved.specs.declared.Moved.TheVariants as moved
 use Rattle.moved.proofs.Causes.{move_unaltered, move_written}
 use Rattle.moved.proofs.Demands.{move_again, move_longest}
 use Rattle.boundary.specs.Numbers.{written_number}
@@ -33,7 +32,7 @@ move_listed not_moved.Target = (omega arith, omega arith)
 
 module _ (s b : List ℕ) where
   -- accepted: the bytes written come back, and fit their bits; the target is the job's
-  pub move_unpacked : (w : ℕ) → (move_job s b).answer ≡ moved.Written w
+  pub move_unpacked : (w : ℕ) → (move_job s b).answer ≡ Ok w
       → ((move_call s b).answer % 256 ≡ 0) × ((move_call s b).answer / 256 ≡ w) × (w < 2 ^ 24) × ((move_call s b).target ≡ (move_job s b).target)
   move_unpacked w o =
       let e = sym (move_says s b _ _ refl refl _ o) in
@@ -41,17 +40,17 @@ module _ (s b : List ℕ) where
       (u.0, u.1, u.2, ap (λ (y : MoveCall). y.target) e)
 
   abbrev pub MoveTaken : Type 0
-  MoveTaken = (w : ℕ) × ((move_job s b).answer ≡ moved.Written w)
+  MoveTaken = (w : ℕ) × ((move_job s b).answer ≡ Ok w)
 
   abbrev pub MoveKept : Type 0
-  MoveKept = ((r : MoveRefusal) × ((move_job s b).answer ≡ moved.Refused r) × ((move_call s b).answer ≡ move_number r)) × ((move_call s b).target ≡ b)
+  MoveKept = ((r : MoveRefusal) × ((move_job s b).answer ≡ Err r) × ((move_call s b).answer ≡ move_number r)) × ((move_call s b).target ≡ b)
 
   move_either : MoveTaken ⊎ (Refuses (move_call s b).answer × MoveKept)
   move_either = go (move_job s b).answer refl
     where
       go : (o : Moved) → (move_job s b).answer ≡ o → MoveTaken ⊎ (Refuses (move_call s b).answer × MoveKept)
-      go (moved.Written w) o = inl (w, o)
-      go (moved.Refused r) o =
+      go (Ok w) o = inl (w, o)
+      go (Err r) o =
           let e = sym (move_says s b _ _ refl refl _ o) in
           let q = ap (λ (y : MoveCall). y.answer) e in
           let l = move_listed r in

@@ -1,4 +1,5 @@
 -- What each answer of a move says: for each its cause, and no other; and what is left in the target. Assumes nothing.
+use Rattle.std.specs.Prelude.{Ok, Err}
 use mathlib.Core.Path.{◌≡◌, refl, sym, ap, ◌∙◌}
 use mathlib.Core.List.{List}
 use mathlib.Core.Logic.{◌⊎◌, inl, inr, ◌↔◌}
@@ -17,11 +18,9 @@ use Rattle.jobs.proofs.SheetCause.{Told, sheet_iff}
 use Rattle.jobs.specs.Causes.{Whose, Sheets, Own, SheetCause}
 use Rattle.compose.specs.Compose.{sheet_bytes}
 use Rattle.compose.proofs.Over.{sheet_stands}
-use Rattle.moved.specs.Move.{moved_number, other_version, moved_bytes, MoveResult, move_refused, move_done, move_over, move_job}
+use Rattle.moved.specs.Move.{Moved, moved_number, other_version, moved_bytes, MoveResult, move_refused, move_done, move_over, move_job}
 use Rattle.moved.specs.declared.MoveRefusal.{MoveRefusal}
 use Rattle.moved.specs.declared.MoveRefusal.TheVariants as refusal
-use Rattle.moved.specs.declared.Moved.{Moved}
-use Rattle.moved.specs.declared.Moved.TheVariants.{Written, Refused}
 use Rattle.moved.proofs.Job.{move_short_over, move_done_over, move_sheet_refused, move_kept}
 
 -- ---- over a problem
@@ -29,22 +28,22 @@ use Rattle.moved.proofs.Job.{move_short_over, move_done_over, move_sheet_refused
 module _ (v : ℕ) (P : Problem) (b : List ℕ) where
   -- Why a problem's writing in version v answers as it does.
   abbrev pub MoveCauseOver : Moved → Type 0
-  MoveCauseOver (Refused (refusal.Sheet r)) = ⊥
+  MoveCauseOver (Err (refusal.Sheet r)) = ⊥
   -- 26: "the target buffer is shorter than the moved sheet"
-  MoveCauseOver (Refused refusal.Target) = length b < length (sheet_bytes layout v P)
-  MoveCauseOver (Written w) = (length (sheet_bytes layout v P) ≤ length b) × (w ≡ length (sheet_bytes layout v P))
+  MoveCauseOver (Err refusal.Target) = length b < length (sheet_bytes layout v P)
+  MoveCauseOver (Ok w) = (length (sheet_bytes layout v P) ≤ length b) × (w ≡ length (sheet_bytes layout v P))
 
   cause_moves : (x : Moved) → MoveCauseOver x → (move_over v P b).answer ≡ x
-  cause_moves (Refused (refusal.Sheet r)) c = absurd c
-  cause_moves (Refused refusal.Target) c = ap (λ (y : MoveResult). y.answer) (move_short_over v P b c)
-  cause_moves (Written w) (l, e) = ap (λ (y : MoveResult). y.answer) (move_done_over v P b l) ∙ ap Written (sym e)
+  cause_moves (Err (refusal.Sheet r)) c = absurd c
+  cause_moves (Err refusal.Target) c = ap (λ (y : MoveResult). y.answer) (move_short_over v P b c)
+  cause_moves (Ok w) (l, e) = ap (λ (y : MoveResult). y.answer) (move_done_over v P b l) ∙ ap Ok (sym e)
 
   some_cause : (x : Moved) × MoveCauseOver x
   some_cause = go (lt_dec (length b) (length (sheet_bytes layout v P)))
     where
       go : (length b < length (sheet_bytes layout v P)) ⊎ (length (sheet_bytes layout v P) ≤ length b) → (x : Moved) × MoveCauseOver x
-      go (inl h) = (Refused refusal.Target, h)
-      go (inr h) = (Written (length (sheet_bytes layout v P)), (h, refl))
+      go (inl h) = (Err refusal.Target, h)
+      go (inr h) = (Ok (length (sheet_bytes layout v P)), (h, refl))
 
   pub move_iff_over : (x : Moved) → ((move_over v P b).answer ≡ x) ↔ MoveCauseOver x
   move_iff_over = cause_iff (move_over v P b).answer MoveCauseOver cause_moves some_cause
@@ -52,14 +51,14 @@ module _ (v : ℕ) (P : Problem) (b : List ℕ) where
 -- ---- over a sheet
 
 abbrev pub whose_move : Moved → Whose
-whose_move (Refused (refusal.Sheet r)) = Sheets r
-whose_move (Refused refusal.Target) = Own
-whose_move (Written w) = Own
+whose_move (Err (refusal.Sheet r)) = Sheets r
+whose_move (Err refusal.Target) = Own
+whose_move (Ok w) = Own
 
-told : (x : Moved) → Told (λ r. Refused (refusal.Sheet r)) (whose_move x) x
-told (Refused (refusal.Sheet r)) = refl
-told (Refused refusal.Target) = tt
-told (Written w) = tt
+told : (x : Moved) → Told (λ r. Err (refusal.Sheet r)) (whose_move x) x
+told (Err (refusal.Sheet r)) = refl
+told (Err refusal.Target) = tt
+told (Ok w) = tt
 
 module _ (s b : List ℕ) where
   -- Why a move answers as it does: the sheet's own fault, or the cause over its problem, written in the other version.
@@ -75,23 +74,23 @@ module _ (s b : List ℕ) where
 
   -- ---- by number
 
-  number_back : (x : Moved) → 26 ≤ moved_number x → Refused refusal.Target ≡ x
-  number_back (Written w) h = absurd (omega arith)
-  number_back (Refused (refusal.Sheet r)) h = let m = sheet_number_lem r in absurd (omega arith)
-  number_back (Refused refusal.Target) h = refl
+  number_back : (x : Moved) → 26 ≤ moved_number x → Err refusal.Target ≡ x
+  number_back (Ok w) h = absurd (omega arith)
+  number_back (Err (refusal.Sheet r)) h = let m = sheet_number_lem r in absurd (omega arith)
+  number_back (Err refusal.Target) h = refl
 
   -- 26 comes after the sheet's own
   pub move_26 : (moved_number (move_job s b).answer ≡ 26) ↔ (Keeps layout s × (length b < length (moved_bytes s)))
   unfolding moved_bytes
-  move_26 = number_iff (move_job s b).answer MoveCause move_iff moved_number (λ n. Refused refusal.Target) (λ n. 26 ≤ n) number_back (Refused refusal.Target) (omega arith)
+  move_26 = number_iff (move_job s b).answer MoveCause move_iff moved_number (λ n. Err refusal.Target) (λ n. 26 ≤ n) number_back (Err refusal.Target) (omega arith)
 
   -- ---- the target
 
   -- a refusal leaves every byte as it was
-  pub move_unaltered : (r : MoveRefusal) → (move_job s b).answer ≡ Refused r → move_job s b ≡ move_refused r b
-  move_unaltered r e = go r ((move_iff (Refused r)).0 e)
+  pub move_unaltered : (r : MoveRefusal) → (move_job s b).answer ≡ Err r → move_job s b ≡ move_refused r b
+  move_unaltered r e = go r ((move_iff (Err r)).0 e)
     where
-      go : (r : MoveRefusal) → MoveCause (Refused r) → move_job s b ≡ move_refused r b
+      go : (r : MoveRefusal) → MoveCause (Err r) → move_job s b ≡ move_refused r b
       go (refusal.Sheet r) x = move_sheet_refused s b r x
       go refusal.Target (K, l) = move_kept s b K ∙ move_short_over _ _ b l
 
@@ -108,10 +107,10 @@ module _ (s b : List ℕ) where
     pub front : AtFront (moved_bytes s) b (move_job s b).target
     pub sheet : take w (move_job s b).target ≡ moved_bytes s
 
-  pub move_written : (w : ℕ) → (move_job s b).answer ≡ Written w → SheetMoved w
+  pub move_written : (w : ℕ) → (move_job s b).answer ≡ Ok w → SheetMoved w
   unfolding moved_bytes
   move_written w e =
-      let c = (move_iff (Written w)).0 e in
+      let c = (move_iff (Ok w)).0 e in
       let l = c.1.0 in
       let q = ap (λ (y : MoveResult). y.target) (move_done_lem c.0 l) in
       record {

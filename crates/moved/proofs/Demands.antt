@@ -1,4 +1,5 @@
 -- What a moved sheet is. Assumes nothing.
+use Rattle.std.specs.Prelude.{Ok}
 use mathlib.Core.Path.{◌≡◌, refl, sym, ap, ◌∙◌}
 use mathlib.Core.Bool.{true}
 use mathlib.Core.List.{List, ◌∷◌}
@@ -12,8 +13,7 @@ use Rattle.problem.specs.PutBack.{solves_whole}
 use Rattle.buffers.specs.Bytes.{AreBytes}
 use Rattle.sheet.specs.Sheet.{layout, version_of, variables_of, size_at, Keeps}
 use Rattle.sheet.specs.Relation.{rows_of, problem_of}
-use Rattle.sheet.specs.declared.Rows.{Rows}
-use Rattle.sheet.specs.declared.Rows.TheVariants.{At, Unconstrained}
+use Rattle.std.specs.Prelude.{None, Option, Some}
 use Rattle.sheet.proofs.Accepted.{facts, problem_bounded}
 use Rattle.sheet.proofs.Versions.{both_versions, width_wide}
 use Rattle.sheet.specs.Causes.{KnownVersion}
@@ -25,7 +25,6 @@ use Rattle.compose.proofs.Written.{written_keeps, written_problem, written_short
 use Rattle.compose.proofs.Canonical.{written_canonical}
 use Rattle.compose.proofs.Widths.{first_byte_only, version_2_short}
 use Rattle.moved.specs.Move.{other_version, moved_bytes, move_done, move_job}
-use Rattle.moved.specs.declared.Moved.TheVariants.{Written}
 use Rattle.moved.proofs.Job.{other_twice, moved_taken}
 use Rattle.moved.proofs.Causes.{move_done_lem, move_written}
 
@@ -84,7 +83,7 @@ module _ (s : List ℕ) (K : Keeps layout s) where
     move_longer e = let l = version_2_short (problem_of layout s) (problem_bounded s K) in let q = lengths 2 1 e refl in omega arith
 
     -- "Where no block's j has 8 settings or fewer the two differ in byte 0 only."
-    pub move_wide : ((i j r : ℕ) → rows_of layout s i j ≡ At r → 8 < size_at s j) → moved_bytes s ≡ other_version (version_of s) ∷ drop 1 s
+    pub move_wide : ((i j r : ℕ) → rows_of layout s i j ≡ Some r → 8 < size_at s j) → moved_bytes s ≡ other_version (version_of s) ∷ drop 1 s
     unfolding moved_bytes
     move_wide wide =
         first_byte_only layout (problem_of layout s) (version_of s) (other_version (version_of s)) (λ x h. two (both_versions s K) (large x h))
@@ -98,10 +97,10 @@ module _ (s : List ℕ) (K : Keeps layout s) where
             let z = sized layout s (x % 32) (omega arith) in
             go (rows_of layout s (x / 32) (x % 32)) refl b.rises (let y : x % 32 < variables_of s = omega arith in y) b.bar z
           where
-            go : (r : Rows) → rows_of layout s (x / 32) (x % 32) ≡ r → x / 32 < x % 32 → x % 32 < variables_of s → pair_bars (problem_of layout s) (x / 32) (x % 32) ≡ true
+            go : (r : Option ℕ) → rows_of layout s (x / 32) (x % 32) ≡ r → x / 32 < x % 32 → x % 32 < variables_of s → pair_bars (problem_of layout s) (x / 32) (x % 32) ≡ true
                 → (problem_of layout s).size (x % 32) ≡ size_at s (x % 32) → 8 < (problem_of layout s).size (x % 32)
-            go (At r) e h l b z = let m = wide (x / 32) (x % 32) r e in omega arith
-            go Unconstrained e h l b z = absurd (clash b (free_none layout s K (x / 32) (x % 32) h l e))
+            go (Some r) e h l b z = let m = wide (x / 32) (x % 32) r e in omega arith
+            go None e h l b z = absurd (clash b (free_none layout s K (x / 32) (x % 32) h l e))
 
         two : KnownVersion (version_of s) → {z : ℕ} → 8 < z → layout.width (other_version (version_of s)) z ≡ layout.width (version_of s) z
         two (inl e) {z} h = rw e (width_wide z h)
@@ -119,12 +118,12 @@ move_again s c K bytes h =
     move_done_lem (moved_bytes s) c (move_keeps s K) (omega arith) ∙ ap (λ (x : List ℕ). move_done x c) back
 
 -- the same of what a move wrote, lent to another
-pub move_twice : (s b c : List ℕ) → AreBytes s → (w : ℕ) → (move_job s b).answer ≡ Written w → length s ≤ length c
+pub move_twice : (s b c : List ℕ) → AreBytes s → (w : ℕ) → (move_job s b).answer ≡ Ok w → length s ≤ length c
     → move_job (take w (move_job s b).target) c ≡ move_done s c
 move_twice s b c bytes w e h =
     let m = move_written s b w e in
     ap (λ (x : List ℕ). move_job x c) m.sheet ∙ move_again s c m.keeps bytes h
 
 -- the bytes written are few
-pub move_longest : (s b : List ℕ) (w : ℕ) → (move_job s b).answer ≡ Written w → w ≤ 16904
+pub move_longest : (s b : List ℕ) (w : ℕ) → (move_job s b).answer ≡ Ok w → w ≤ 16904
 move_longest s b w e = let m = move_written s b w e in let l = move_short s m.keeps in omega (arith, m.length_is)

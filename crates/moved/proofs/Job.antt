@@ -1,4 +1,5 @@
 -- The job's parts make the job. Assumes nothing.
+use Rattle.std.specs.Prelude.{Result, Ok, Err, IsErrAnd}
 use mathlib.Core.Path.{◌≡◌, sym, ap, ◌∙◌}
 use mathlib.Core.Bool.{true}
 use mathlib.Core.List.{List}
@@ -11,18 +12,16 @@ use Rattle.problem.specs.Problem.{Problem}
 use Rattle.sheet.specs.Sheet.{layout, version_of, read_sheet, Keeps}
 use Rattle.sheet.specs.Relation.{problem_of}
 use Rattle.sheet.specs.declared.SheetRefusal.{SheetRefusal}
-use Rattle.sheet.specs.declared.SheetRead.TheVariants as read
+use Rattle.std.specs.Prelude.{Err}
 use Rattle.sheet.proofs.Versions.{both_versions}
 use Rattle.sheet.specs.Causes.{KnownVersion}
 use Rattle.jobs.proofs.Opened.{sheet_refused, sheet_kept}
 use Rattle.compose.specs.Compose.{sheet_bytes, SheetResult, sheet_over}
-use Rattle.compose.specs.declared.Composed.{Composed}
-use Rattle.compose.specs.declared.Composed.TheVariants as composed
+use Rattle.compose.specs.declared.TooShort.{TooShort}
 use Rattle.compose.proofs.Over.{sheet_over_short, sheet_over_done}
-use Rattle.moved.specs.Move.{other_version, MoveResult, move_refused, move_done, move_over, move_job}
+use Rattle.moved.specs.Move.{Moved, other_version, MoveResult, move_refused, move_done, move_over, move_job}
+use Rattle.moved.specs.declared.MoveRefusal.{MoveRefusal}
 use Rattle.moved.specs.declared.MoveRefusal.TheVariants.{Sheet, Target}
-use Rattle.moved.specs.declared.Moved.{Moved}
-use Rattle.moved.specs.declared.Moved.TheVariants.{Written, Refused}
 
 -- the other version is taken
 pub other_taken : (v : ℕ) → KnownVersion v → layout.takes (other_version v) ≡ true
@@ -32,12 +31,19 @@ other_taken v t = ⊎_elim (λ (e : v ≡ 1). rw e) (λ (e : v ≡ 2). rw e) t
 pub other_twice : (v : ℕ) → KnownVersion v → other_version (other_version v) ≡ v
 other_twice v t = ⊎_elim (λ (e : v ≡ 1). rw e) (λ (e : v ≡ 2). rw e) t
 
+-- ---- refusals
+
+-- a refusal that is made from an error
+pub err_is : (r : Moved) (x : MoveRefusal) → IsErrAnd r (λ y. y ≡ x) → r ≡ Err x
+err_is (Ok w) x e = absurd e
+err_is (Err y) x e = ap Err e
+
 -- ---- over a problem
 
 -- what the writer answers and leaves, as the job does
-abbrev pub moved_of : Composed → Moved
-moved_of (composed.Written w) = Written w
-moved_of composed.TooShort = Refused Target
+abbrev pub moved_of : Result ℕ TooShort → Moved
+moved_of (Ok w) = Ok w
+moved_of (Err e) = Err Target
 
 abbrev moved_by : SheetResult → MoveResult
 moved_by r = record { answer = moved_of r.answer; target = r.buffer }
@@ -68,7 +74,7 @@ module _ (v : ℕ) (P : Problem) (b : List ℕ) where
 -- ---- over a sheet
 
 module _ (s b : List ℕ) where
-  pub move_sheet_refused : (r : SheetRefusal) → read_sheet layout s ≡ read.Refused r → move_job s b ≡ move_refused (Sheet r) b
+  pub move_sheet_refused : (r : SheetRefusal) → read_sheet layout s ≡ Err r → move_job s b ≡ move_refused (Sheet r) b
   unfolding move_job
   move_sheet_refused r e = sheet_refused s _ _ r e
 

@@ -1,9 +1,7 @@
 -- What the exported call that moves a sheet answers, as one number, and what it leaves in the target.
 -- A refusal is a number from 1 to 255, and every other answer is a multiple of 256.
-use Rattle.std.specs.Prelude.{List, ℕ}
-use Rattle.moved.specs.Move.{move_number, move_job}
-use Rattle.moved.specs.declared.Moved.{Moved}
-use Rattle.moved.specs.declared.Moved.TheVariants as moved
+use Rattle.std.specs.Prelude.{List, ℕ, Ok, Err}
+use Rattle.moved.specs.Move.{Moved, move_number, move_job}
 use Rattle.boundary.specs.Numbers.{written_number}
 
 -- the answer and the target
@@ -13,8 +11,8 @@ pub record MoveCall : Type 0 where
 
 -- from what the job answers and the target b as it leaves it
 abbrev pub move_crossed : Moved → List ℕ → MoveCall
-move_crossed (moved.Written w) b = record { answer = written_number w; target = b }
-move_crossed (moved.Refused r) b = record { answer = move_number r; target = b }
+move_crossed (Ok w) b = record { answer = written_number w; target = b }
+move_crossed (Err r) b = record { answer = move_number r; target = b }
 
 -- the sheet s and the target b
 unfoldable pub move_call : (s b : List ℕ) → MoveCall

@@ -1,5 +1,5 @@
 -- docs/FORMAT.md, "Moving a sheet to the other version", as a job: lent a sheet and a target buffer.
-use Rattle.std.specs.Prelude.{cond, List, ℕ, eqb, ltb, length}
+use Rattle.std.specs.Prelude.{cond, List, ℕ, eqb, ltb, length, Result, Ok, Err}
 use Rattle.problem.specs.Problem.{Problem}
 use Rattle.sheet.specs.Sheet.{layout, version_of, sheet_number}
 use Rattle.sheet.specs.Relation.{problem_of}
@@ -8,8 +8,10 @@ use Rattle.jobs.specs.WithSheet.{with_sheet}
 use Rattle.compose.specs.Compose.{sheet_bytes}
 use Rattle.moved.specs.declared.MoveRefusal.{MoveRefusal}
 use Rattle.moved.specs.declared.MoveRefusal.TheVariants.{Sheet, Target}
-use Rattle.moved.specs.declared.Moved.{Moved}
-use Rattle.moved.specs.declared.Moved.TheVariants.{Written, Refused}
+
+-- the job's answer: the bytes written, or the refusal
+abbrev pub Moved : Type 0
+Moved = Result ℕ MoveRefusal
 
 -- ---- the format's number for each refusal, in the order of its table; and of an answer, 0 where there is no refusal
 
@@ -18,8 +20,8 @@ move_number (Sheet r) = sheet_number r
 move_number Target = 26
 
 abbrev pub moved_number : Moved → ℕ
-moved_number (Written w) = 0
-moved_number (Refused r) = move_number r
+moved_number (Ok w) = 0
+moved_number (Err r) = move_number r
 
 -- ---- the moved sheet
 
@@ -40,11 +42,11 @@ pub record MoveResult : Type 0 where
 
 -- "A refused move answers the number only; its target is as it was."
 abbrev pub move_refused : MoveRefusal → List ℕ → MoveResult
-move_refused r b = record { answer = Refused r; target = b }
+move_refused r b = record { answer = Err r; target = b }
 
 -- "A move writes the other version at the target's front, old bytes after"; "The job answers the bytes written."
 abbrev pub move_done : (w b : List ℕ) → MoveResult
-move_done w b = record { answer = Written (length w); target = fronted w b }
+move_done w b = record { answer = Ok (length w); target = fronted w b }
 
 -- the problem P, written in version v into the target b: 26, "the target buffer is shorter than the moved sheet"
 unfoldable pub move_over : (v : ℕ) → Problem → List ℕ → MoveResult

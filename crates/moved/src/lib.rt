@@ -5,10 +5,11 @@ ghost use Rattle.moved.specs.Call.{move_call};
 ghost use Rattle.std.specs.Prelude.{◌≡◌};
 ghost use Rattle.problem.specs.Held.{held, RowTable};
 ghost use Rattle.compose.specs.Parts.{Version};
+ghost use Rattle.moved.specs.declared.MoveRefusal.TheVariants.{Sheet, Target};
 ghost use Rattle.moved.specs.Move.{move_number, other_version, move_over, move_job};
 
-use compose::Composed;
-use sheet::{SheetRead, SheetRefusal};
+use compose::TooShort;
+use sheet::SheetRefusal;
 
 // Why a move is turned away: the sheet's own refusals, then the target's.
 #[derive(Clone, Copy)]
@@ -17,20 +18,33 @@ pub enum MoveRefusal {
     Target,
 }
 
-// The job's answer: the bytes written, or the refusal.
-#[derive(Clone, Copy)]
-pub enum Moved {
-    Written(usize),
-    Refused(MoveRefusal),
+// The format's number for a refusal.
+impl From<MoveRefusal> for u8 {
+    ghost from_gives = { λ r n. n ≡ move_number r };
+
+    fn from(r: MoveRefusal) -> u8 {
+        match r {
+            MoveRefusal::Sheet(x) => u8::from(x),
+            MoveRefusal::Target => 26,
+        }
+    }
 }
 
-// The format's number for a refusal.
-pub fn move_number(r: MoveRefusal) -> u8
-    ensures { result ≡ move_number r }
-{
-    match r {
-        MoveRefusal::Sheet(x) => sheet::sheet_number(x),
-        MoveRefusal::Target => 26,
+// 1 to 11: the sheet's own.
+impl From<SheetRefusal> for MoveRefusal {
+    ghost from_gives = { λ x r. r ≡ Sheet x };
+
+    fn from(x: SheetRefusal) -> MoveRefusal {
+        Self::Sheet(x)
+    }
+}
+
+// 26: the target is too short for the moved sheet.
+impl From<TooShort> for MoveRefusal {
+    ghost from_gives = { λ _ r. r ≡ Target };
+
+    fn from(_e: TooShort) -> MoveRefusal {
+        Self::Target
     }
 }
 
@@ -42,29 +56,23 @@ fn other_version(v: usize) -> usize
 }
 
 // The problem of a filled table, written in version v. A target that is too short stays as it was.
-fn move_over(t: &[u16], v: usize, target: &mut [u8]) -> Moved
+fn move_over(t: &[u16], v: usize, target: &mut [u8]) -> Result<usize, MoveRefusal>
     requires { RowTable t.now × Version v }
     ensures answer { result ≡ (move_over v (held t.now) target.old).answer }
     ensures target { target.new ≡ (move_over v (held t.now) target.old).target }
 {
-    match compose::write_sheet(t, v, target) {
-        Composed::TooShort => Moved::Refused(MoveRefusal::Target),
-        Composed::Written(w) => Moved::Written(w),
-    }
+    Ok(compose::write_sheet(t, v, target)?)
 }
 
-// Writes the sheet in the other version at the target's front. A refused move leaves the target as it was.
-pub fn move_sheet(sheet: &[u8], target: &mut [u8]) -> Moved
+// Writes the sheet in the other version at the target's front: the bytes written, or the refusal. A refused move leaves the target as it was.
+pub fn move_sheet(sheet: &[u8], target: &mut [u8]) -> Result<usize, MoveRefusal>
     ensures answer { result ≡ (move_job sheet.now target.old).answer }
     ensures target { target.new ≡ (move_job sheet.now target.old).target }
 {
     let mut t = table::blank_table();
     match read_sheet::read_table(sheet, &mut t) {
-        SheetRead::Refused(r) => Moved::Refused(MoveRefusal::Sheet(r)),
-        SheetRead::Accepted {
-            variables: _,
-            blocks: _,
-        } => move_over(&t, other_version(buffers::byte(sheet, 0)), target),
+        Ok(_) => move_over(&t, other_version(buffers::byte(sheet, 0)), target),
+        Err(r) => Err(MoveRefusal::from(r)),
     }
 }
 
@@ -77,7 +85,7 @@ pub fn move_call(sheet: &[u8], target: &mut [u8]) -> u64
     ensures target { target.new ≡ (move_call sheet.now target.old).target }
 {
     match move_sheet(sheet, target) {
-        Moved::Refused(r) => move_number(r) as u64,
-        Moved::Written(w) => 256 * w as u64,
+        Ok(w) => 256 * w as u64,
+        Err(r) => u8::from(r) as u64,
     }
 }

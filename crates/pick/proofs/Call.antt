@@ -22,15 +22,14 @@ use Rattle.boundary.specs.State.{state_length, masks_bytes}
 use Rattle.boundary.specs.Numbers.{bad_state}
 use Rattle.boundary.proofs.Answers.{Refuses, refused_keeps, taken_iff}
 use Rattle.run.proofs.Call.{end_small, run_small}
-use Rattle.pick.specs.Pick.{pick_number, PickResult, outcome_of, pick_job}
+use Rattle.pick.specs.Pick.{pick_number, PickResult, outcome_of, pick_job, PickOutcome}
 use Rattle.pick.specs.declared.PickRefusal.{PickRefusal}
 use Rattle.pick.specs.declared.PickRefusal.TheVariants as refusal
-use Rattle.pick.specs.declared.PickOutcome.{PickOutcome}
-use Rattle.pick.specs.declared.PickOutcome.TheVariants.{Plan, None, Refused}
 use Rattle.pick.specs.declared.Picked.{Picked}
 use Rattle.pick.proofs.Causes.{pick_unaltered}
 use Rattle.pick.proofs.Demands.{pick_run, pick_plan, none_says, none_keeps}
 use Rattle.pick.specs.Call.{PickCall, done_number, crossed_number, crossed_state, pick_call, PickFits}
+use Rattle.std.specs.Prelude.{Ok, Err}
 
 -- a number of the format's table
 pub pick_listed : (r : PickRefusal) → (1 ≤ pick_number r) × (pick_number r ≤ 20)
@@ -68,9 +67,8 @@ module _ (s t p b : List ℕ) where
   pick_fits = go job.answer.outcome refl
     where
       go : (o : PickOutcome) → job.answer.outcome ≡ o → PickFits o
-      go (Plan e k w) q = let l = few true e k w q in (omega arith, omega arith)
-      go (None e k w) q = let l = few false e k w q in (omega arith, omega arith)
-      go (Refused r) q = tt
+      go (Ok c) q = let l = few c.plan c.run.end c.run.steps c.run.written q in (omega arith, omega arith)
+      go (Err r) q = tt
 
   -- ---- accepted
 
@@ -125,9 +123,8 @@ module _ (s t p b : List ℕ) where
   pick_either = go (eq_dec (length b) state_length)
     where
       by_job : length b ≡ state_length → (o : PickOutcome) → job.answer.outcome ≡ o → PickTaken ⊎ (Refuses call.answer × PickKept)
-      by_job l (Plan e k w) o = inl (l, true, e, k, w, o)
-      by_job l (None e k w) o = inl (l, false, e, k, w, o)
-      by_job l (Refused r) o =
+      by_job l (Ok c) o = inl (l, c.plan, c.run.end, c.run.steps, c.run.written, o)
+      by_job l (Err r) o =
           let g = pick_good l in
           let u = pick_unaltered s t p r o in
           let n : call.answer ≡ pick_number r = ap (λ (x : PickCall). x.answer) g ∙ ap crossed_number o in
@@ -167,9 +164,8 @@ module _ (s t p b : List ℕ) where
       taken a l y e k w o = let z = (pick_unpacked l y e k w o).accepted in omega arith
 
       go : call.answer ≡ bad_state → length b ≡ state_length → (o : PickOutcome) → job.answer.outcome ≡ o → ⊥
-      go a l (Plan e k w) o = taken a l true e k w o
-      go a l (None e k w) o = taken a l false e k w o
-      go a l (Refused r) o =
+      go a l (Ok c) o = taken a l c.plan c.run.end c.run.steps c.run.written o
+      go a l (Err r) o =
           let n : call.answer ≡ pick_number r = ap (λ (x : PickCall). x.answer) (pick_good l) ∙ ap crossed_number o in
           let f = pick_listed r in
           omega arith

@@ -17,17 +17,15 @@ use Rattle.problem.specs.declared.End.{End}
 use Rattle.sheet.specs.Sheet.{layout, read_sheet, Keeps}
 use Rattle.sheet.specs.Relation.{problem_of}
 use Rattle.sheet.specs.declared.SheetRefusal.{SheetRefusal}
-use Rattle.sheet.specs.declared.SheetRead.TheVariants as read
+use Rattle.std.specs.Prelude.{Ok, Err}
 use Rattle.sheet.proofs.Accepted.{problem_bounded}
 use Rattle.sheet.proofs.Refusals.{sheet_number_lem}
 use Rattle.jobs.proofs.Opened.{sheet_refused, sheet_kept}
 use Rattle.jobs.proofs.SheetCause.{Told, sheet_iff}
 use Rattle.jobs.specs.Causes.{Whose, Sheets, Own, SheetCause}
-use Rattle.pick.specs.Pick.{picked_number, left_by, run_trace, first_left, PickResult, pick_refused, outcome_of, pick_done, pick_over, pick_job}
+use Rattle.pick.specs.Pick.{picked_number, left_by, run_trace, first_left, PickResult, pick_refused, outcome_of, pick_done, pick_over, pick_job, PickOutcome}
 use Rattle.pick.specs.declared.PickRefusal.{PickRefusal}
 use Rattle.pick.specs.declared.PickRefusal.TheVariants as refusal
-use Rattle.pick.specs.declared.PickOutcome.{PickOutcome}
-use Rattle.pick.specs.declared.PickOutcome.TheVariants.{Plan, None, Refused}
 use Rattle.pick.proofs.Left.{HasPlan, found_iff}
 
 -- ---- over a problem
@@ -57,16 +55,20 @@ module _ (P : Problem) (b p : List ℕ) where
   abbrev pub RunsOwn : End → (k w : ℕ) → Type 0
   RunsOwn e k w = (e ≡ end_of P (left_by P)) × ((k ≡ length (run P (full P))) × (w ≡ length (run_trace P)))
 
+  -- "It says "none" exactly when no choice of settings at all is a plan of the full sheet"
+  abbrev pub PlanSays : Bool → Type 0
+  PlanSays true = HasPlan P
+  PlanSays false = HasPlan P → ⊥
+
   -- Why picking over a problem answers as it does.
   abbrev pub PickCauseOver : PickOutcome → Type 0
-  PickCauseOver (Refused (refusal.Sheet r)) = ⊥
+  PickCauseOver (Err (refusal.Sheet r)) = ⊥
   -- 10: "shorter than 1 + 5 × the sum of the sizes"
-  PickCauseOver (Refused refusal.Buffer) = length b < 1 + 5 * size_sum P
+  PickCauseOver (Err refusal.Buffer) = length b < 1 + 5 * size_sum P
   -- 20, after 10: "the lent plan is not n bytes"
-  PickCauseOver (Refused refusal.ResultLength) = (1 + 5 * size_sum P ≤ length b) × (length p ≢ P.n)
-  PickCauseOver (Plan e k w) = RightLengths × (RunsOwn e k w × HasPlan P)
-  -- "It says "none" exactly when no choice of settings at all is a plan of the full sheet"
-  PickCauseOver (None e k w) = RightLengths × (RunsOwn e k w × (HasPlan P → ⊥))
+  PickCauseOver (Err refusal.ResultLength) = (1 + 5 * size_sum P ≤ length b) × (length p ≢ P.n)
+  -- otherwise a plan or none
+  PickCauseOver (Ok c) = RightLengths × (RunsOwn c.run.end c.run.steps c.run.written × PlanSays c.plan)
 
   module _ (B : Bounded P) where
     answered : (y : Bool) → (first_left P).ok ≡ y → (e : End) (k w : ℕ) → RightLengths → RunsOwn e k w → (pick_over P b p).answer.outcome ≡ outcome_of y e k w
@@ -75,26 +77,29 @@ module _ (P : Problem) (b p : List ℕ) where
         ap (λ (r : PickResult). r.answer.outcome) (pick_accepted_over l n)
         ∙ (λ i. outcome_of (o i) (sym x i) (sym u i) (sym v i))
 
+    plan_told : (y : Bool) → PlanSays y → (first_left P).ok ≡ y
+    plan_told true h = T_true (first_left P).ok ((found_iff P B).1 h)
+    plan_told false h = T_false (first_left P).ok (λ t. h ((found_iff P B).0 t))
+
     cause_picks : (o : PickOutcome) → PickCauseOver o → (pick_over P b p).answer.outcome ≡ o
-    cause_picks (Refused (refusal.Sheet r)) x = absurd x
-    cause_picks (Refused refusal.Buffer) l = ap (λ (r : PickResult). r.answer.outcome) (pick_buffer_over l)
-    cause_picks (Refused refusal.ResultLength) (l, d) = ap (λ (r : PickResult). r.answer.outcome) (pick_length_over l d)
-    cause_picks (Plan e k w) (l, (x, h)) = answered true (T_true (first_left P).ok ((found_iff P B).1 h)) e k w l x
-    cause_picks (None e k w) (l, (x, h)) = answered false (T_false (first_left P).ok (λ t. h ((found_iff P B).0 t))) e k w l x
+    cause_picks (Err (refusal.Sheet r)) x = absurd x
+    cause_picks (Err refusal.Buffer) l = ap (λ (r : PickResult). r.answer.outcome) (pick_buffer_over l)
+    cause_picks (Err refusal.ResultLength) (l, d) = ap (λ (r : PickResult). r.answer.outcome) (pick_length_over l d)
+    cause_picks (Ok c) (l, (x, h)) = answered c.plan (plan_told c.plan h) c.run.end c.run.steps c.run.written l x
 
     some_cause : (o : PickOutcome) × PickCauseOver o
     some_cause = by_buffer (lt_dec (length b) (1 + 5 * size_sum P))
       where
         by_plan : RightLengths → T (first_left P).ok ⊎ (T (first_left P).ok → ⊥) → (o : PickOutcome) × PickCauseOver o
-        by_plan l (inl t) = (Plan _ _ _, (l, ((refl, (refl, refl)), (found_iff P B).0 t)))
-        by_plan l (inr h) = (None _ _ _, (l, ((refl, (refl, refl)), λ x. h ((found_iff P B).1 x))))
+        by_plan l (inl t) = (outcome_of true _ _ _, (l, ((refl, (refl, refl)), (found_iff P B).0 t)))
+        by_plan l (inr h) = (outcome_of false _ _ _, (l, ((refl, (refl, refl)), λ x. h ((found_iff P B).1 x))))
 
         by_length : 1 + 5 * size_sum P ≤ length b → (length p ≡ P.n) ⊎ (length p ≢ P.n) → (o : PickOutcome) × PickCauseOver o
         by_length l (inl e) = by_plan (l, e) (T_dec (first_left P).ok)
-        by_length l (inr d) = (Refused refusal.ResultLength, (l, d))
+        by_length l (inr d) = (Err refusal.ResultLength, (l, d))
 
         by_buffer : (length b < 1 + 5 * size_sum P) ⊎ (1 + 5 * size_sum P ≤ length b) → (o : PickOutcome) × PickCauseOver o
-        by_buffer (inl l) = (Refused refusal.Buffer, l)
+        by_buffer (inl l) = (Err refusal.Buffer, l)
         by_buffer (inr l) = by_length l (eq_dec (length p) P.n)
 
     -- Picking over a problem that a table can hold answers as it does for its cause and for no other.
@@ -104,18 +109,16 @@ module _ (P : Problem) (b p : List ℕ) where
 -- ---- over a sheet
 
 abbrev pub whose_pick : PickOutcome → Whose
-whose_pick (Refused (refusal.Sheet r)) = Sheets r
-whose_pick (Refused refusal.Buffer) = Own
-whose_pick (Refused refusal.ResultLength) = Own
-whose_pick (Plan e k w) = Own
-whose_pick (None e k w) = Own
+whose_pick (Err (refusal.Sheet r)) = Sheets r
+whose_pick (Err refusal.Buffer) = Own
+whose_pick (Err refusal.ResultLength) = Own
+whose_pick (Ok _) = Own
 
-told : (o : PickOutcome) → Told (λ r. Refused (refusal.Sheet r)) (whose_pick o) o
-told (Refused (refusal.Sheet r)) = refl
-told (Refused refusal.Buffer) = tt
-told (Refused refusal.ResultLength) = tt
-told (Plan e k w) = tt
-told (None e k w) = tt
+told : (o : PickOutcome) → Told (λ r. Err (refusal.Sheet r)) (whose_pick o) o
+told (Err (refusal.Sheet r)) = refl
+told (Err refusal.Buffer) = tt
+told (Err refusal.ResultLength) = tt
+told (Ok _) = tt
 
 module _ (s b p : List ℕ) where
   -- Why picking answers as it does: the sheet's own fault, or the cause over its problem.
@@ -129,7 +132,7 @@ module _ (s b p : List ℕ) where
       sheet_iff s _ _ (λ (y : PickResult). y.answer.outcome) whose_pick told (λ r. refl) (λ P. PickCauseOver P b p) (λ P r x. x)
       (λ K. pick_iff_over (problem_of layout s) b p (problem_bounded s K))
 
-  pub pick_sheet_refused : (r : SheetRefusal) → read_sheet layout s ≡ read.Refused r → pick_job s b p ≡ pick_refused (refusal.Sheet r) b p
+  pub pick_sheet_refused : (r : SheetRefusal) → read_sheet layout s ≡ Err r → pick_job s b p ≡ pick_refused (refusal.Sheet r) b p
   unfolding pick_job
   pick_sheet_refused r e = sheet_refused s _ _ r e
 
@@ -140,32 +143,31 @@ module _ (s b p : List ℕ) where
   -- ---- by number
 
   abbrev refused_as : ℕ → PickOutcome
-  refused_as n = cond (eqb n 10) (Refused refusal.Buffer) (Refused refusal.ResultLength)
+  refused_as n = cond (eqb n 10) (Err refusal.Buffer) (Err refusal.ResultLength)
 
   number_back : (o : PickOutcome) → 10 ≤ picked_number o → refused_as (picked_number o) ≡ o
-  number_back (Plan e k w) h = absurd (omega arith)
-  number_back (None e k w) h = absurd (omega arith)
-  number_back (Refused (refusal.Sheet r)) h = let m = sheet_number_lem r in absurd (omega arith)
-  number_back (Refused refusal.Buffer) h = refl
-  number_back (Refused refusal.ResultLength) h = refl
+  number_back (Ok _) h = absurd (omega arith)
+  number_back (Err (refusal.Sheet r)) h = let m = sheet_number_lem r in absurd (omega arith)
+  number_back (Err refusal.Buffer) h = refl
+  number_back (Err refusal.ResultLength) h = refl
 
   by_number : (o : PickOutcome) → 10 ≤ picked_number o → (picked_number (pick_job s b p).answer.outcome ≡ picked_number o) ↔ PickCause o
   by_number = number_iff (pick_job s b p).answer.outcome PickCause pick_iff picked_number refused_as (λ k. 10 ≤ k) number_back
 
   pub pick_10 : (picked_number (pick_job s b p).answer.outcome ≡ 10) ↔ (Keeps layout s × (length b < 1 + 5 * size_sum (problem_of layout s)))
-  pick_10 = by_number (Refused refusal.Buffer) (omega arith)
+  pick_10 = by_number (Err refusal.Buffer) (omega arith)
 
   -- 20 comes after 10
   pub pick_20 : (picked_number (pick_job s b p).answer.outcome ≡ 20)
       ↔ (Keeps layout s × ((1 + 5 * size_sum (problem_of layout s) ≤ length b) × (length p ≢ (problem_of layout s).n)))
-  pick_20 = by_number (Refused refusal.ResultLength) (omega arith)
+  pick_20 = by_number (Err refusal.ResultLength) (omega arith)
 
   -- ---- what a refusal leaves: "A refusal [..] leaves all lent bytes unchanged": neither the trace nor the plan is altered
 
-  pub pick_unaltered : (r : PickRefusal) → (pick_job s b p).answer.outcome ≡ Refused r → pick_job s b p ≡ pick_refused r b p
-  pick_unaltered r e = go r ((pick_iff (Refused r)).0 e)
+  pub pick_unaltered : (r : PickRefusal) → (pick_job s b p).answer.outcome ≡ Err r → pick_job s b p ≡ pick_refused r b p
+  pick_unaltered r e = go r ((pick_iff (Err r)).0 e)
     where
-      go : (r : PickRefusal) → PickCause (Refused r) → pick_job s b p ≡ pick_refused r b p
+      go : (r : PickRefusal) → PickCause (Err r) → pick_job s b p ≡ pick_refused r b p
       go (refusal.Sheet r) x = pick_sheet_refused r x
       go refusal.Buffer (K, l) = pick_kept K ∙ pick_buffer_over (problem_of layout s) b p l
       go refusal.ResultLength (K, (l, d)) = pick_kept K ∙ pick_length_over (problem_of layout s) b p l d

@@ -16,19 +16,17 @@ use Rattle.problem.specs.declared.End.{End}
 use Rattle.sheet.specs.Sheet.{layout, read_sheet, Keeps}
 use Rattle.sheet.specs.Relation.{problem_of}
 use Rattle.sheet.specs.declared.SheetRefusal.{SheetRefusal}
-use Rattle.sheet.specs.declared.SheetRead.TheVariants as read
+use Rattle.run.specs.Numbers.{ran}
+use Rattle.std.specs.Prelude.{Err, Ok}
 use Rattle.sheet.proofs.Accepted.{problem_bounded}
 use Rattle.run.specs.Run.{RunResult, run_done, run_over, run_job}
 use Rattle.put_back.specs.PutBack.{PutBackResult, plan_fits, put_back_over, put_back_job}
-use Rattle.put_back.specs.declared.PutBackOutcome.TheVariants.{Done}
-use Rattle.run.specs.declared.RunOutcome.TheVariants as reduced
 use Rattle.jobs.proofs.Opened.{sheet_or}
 use Rattle.run.proofs.Opened.{run_accepted_over, run_kept}
 use Rattle.put_back.proofs.Opened.{put_back_kept}
 use Rattle.first_plan.specs.First.{NotAfter}
 use Rattle.putting_back.proofs.Demands.{put_back_accepted_over, put_back_plan}
 use Rattle.pick.specs.Pick.{left_by, run_trace, first_left, left_plan, PickResult, outcome_of, pick_done, pick_over, pick_job}
-use Rattle.pick.specs.declared.PickOutcome.TheVariants.{Plan, None}
 use Rattle.pick.proofs.Left.{found_iff, plan_with, plan_without, left_plan_lem, left_least, left_back, plan_not_read}
 use Rattle.pick.proofs.Causes.{RightLengths, RunsOwn, pick_buffer_over, pick_length_over, pick_accepted_over, pick_iff_over, pick_sheet_refused, pick_kept, pick_iff}
 
@@ -41,7 +39,7 @@ trace_front P b p w e = rw e (take-append_seam (run_trace P) (drop (length (run_
 -- run does with the same buffer
 pub record RunsAnswer (x : PickResult) (y : RunResult) (e : End) (k w : ℕ) : Type 0 where
   pub trace : x.trace ≡ y.buffer
-  pub answer : y.answer ≡ record { outcome = reduced.Done e k w; state = x.answer.state }
+  pub answer : y.answer ≡ record { outcome = ran e k w; state = x.answer.state }
 
 -- a plan of P is picked: x is what picking answers and leaves, w are the bytes of the run's trace, and `put_back` puts a plan back by a
 -- trace into the lent plan
@@ -52,7 +50,7 @@ pub record PlanPicked (P : Problem) (put_back : List ℕ → List ℕ → PutBac
   pub fits : T (plan_fits P (left_by P) first)
   pub least : (q : ℕ → ℕ) → T (solves P (left_by P) q) → NotAfter (left_by P) (plan_of first) q
   -- "puts the first plan in that order back into the lent plan": by the run's own trace
-  pub back : put_back (take w x.trace) first ≡ record { answer = Done; result = x.plan }
+  pub back : put_back (take w x.trace) first ≡ record { answer = Ok tt; result = x.plan }
   -- that is a plan of the full sheet
   pub whole : T (solves_whole P (plan_of x.plan))
 
@@ -62,7 +60,7 @@ NoPlan P = (q : ℕ → ℕ) → T (solves_whole P q) → ⊥
 
 -- the end, the steps and the bytes that a "none" carries
 abbrev pub SaysNone : PickResult → Type 0
-SaysNone x = (e : End) × (k : ℕ) × (w : ℕ) × (x.answer.outcome ≡ None e k w)
+SaysNone x = (e : End) × (k : ℕ) × (w : ℕ) × (x.answer.outcome ≡ outcome_of false e k w)
 
 -- two results with the same answer and the same trace
 abbrev pub SameAnswer : PickResult → PickResult → Type 0
@@ -76,12 +74,12 @@ module _ (P : Problem) (B : Bounded P) (b p : List ℕ) where
 
   -- a plan or none is answered where both buffers have the lengths that are asked for, and with the run's own
   answers : (y : Bool) (e : End) (k w : ℕ) → picked.answer.outcome ≡ outcome_of y e k w → RightLengths P b p × RunsOwn P b p e k w
-  answers true e k w o = let x = (pick_iff_over P b p B (Plan e k w)).0 o in (x.0, x.1.0)
-  answers false e k w o = let x = (pick_iff_over P b p B (None e k w)).0 o in (x.0, x.1.0)
+  answers true e k w o = let x = (pick_iff_over P b p B (outcome_of true e k w)).0 o in (x.0, x.1.0)
+  answers false e k w o = let x = (pick_iff_over P b p B (outcome_of false e k w)).0 o in (x.0, x.1.0)
 
   -- a plan is answered where there is a first plan of what is left
-  found : (e : End) (k w : ℕ) → picked.answer.outcome ≡ Plan e k w → (first_left P).ok ≡ true
-  found e k w o = T_true (first_left P).ok ((found_iff P B).1 ((pick_iff_over P b p B (Plan e k w)).0 o).1.1)
+  found : (e : End) (k w : ℕ) → picked.answer.outcome ≡ outcome_of true e k w → (first_left P).ok ≡ true
+  found e k w o = T_true (first_left P).ok ((found_iff P B).1 ((pick_iff_over P b p B (outcome_of true e k w)).0 o).1.1)
 
   -- y tells whether it is a plan or none
   pub pick_run_over : (y : Bool) (e : End) (k w : ℕ) → picked.answer.outcome ≡ outcome_of y e k w → RunsAnswer picked (run_over P b) e k w
@@ -94,10 +92,10 @@ module _ (P : Problem) (B : Bounded P) (b p : List ℕ) where
         trace = ap (λ (z : PickResult). z.trace) d ∙ sym (ap (λ (z : RunResult). z.buffer) r);
         answer =
             ap (λ (z : RunResult). z.answer) r
-            ∙ (λ i. record { outcome = reduced.Done (sym x.1.0 i) (sym x.1.1.0 i) (sym x.1.1.1 i); state = ap (λ (z : PickResult). z.answer.state) (sym d) i });
+            ∙ (λ i. record { outcome = ran (sym x.1.0 i) (sym x.1.1.0 i) (sym x.1.1.1 i); state = ap (λ (z : PickResult). z.answer.state) (sym d) i });
       }
 
-  pub pick_plan_over : (e : End) (k w : ℕ) → picked.answer.outcome ≡ Plan e k w → PlanPicked P (λ t f. put_back_over P t f p) picked w
+  pub pick_plan_over : (e : End) (k w : ℕ) → picked.answer.outcome ≡ outcome_of true e k w → PlanPicked P (λ t f. put_back_over P t f p) picked w
   unfolding pick_done
   pick_plan_over e k w o =
       let x = answers true e k w o in
@@ -107,7 +105,7 @@ module _ (P : Problem) (B : Bounded P) (b p : List ℕ) where
       let q : picked.plan ≡ (put_back_over P t (left_plan P) p).result = ap (λ (z : PickResult). z.plan) d ∙ plan_with P p ok in
       let f : take w picked.trace ≡ t = ap (λ (z : PickResult). take w z.trace) d ∙ trace_front P b p w x.1.1.1 in
       let l = left_back P B ok p x.0.1 in
-      let back : put_back_over P t (left_plan P) p ≡ record { answer = Done; result = picked.plan } = l ∙ (λ i. record { answer = Done; result = (ap (λ (z : PutBackResult). z.result) (sym l) ∙ sym q) i }) in
+      let back : put_back_over P t (left_plan P) p ≡ record { answer = Ok tt; result = picked.plan } = l ∙ (λ i. record { answer = Ok tt; result = (ap (λ (z : PutBackResult). z.result) (sym l) ∙ sym q) i }) in
       record {
         first = left_plan P;
         fits = left_plan_lem P B ok;
@@ -119,14 +117,14 @@ module _ (P : Problem) (B : Bounded P) (b p : List ℕ) where
   -- "It says "none" exactly when no choice of settings at all is a plan of the full sheet, and then leaves the lent plan untouched."
   pub none_iff_over : RightLengths P b p → SaysNone picked ↔ NoPlan P
   none_iff_over l = (
-    λ (e, k, w, o) q t. ((pick_iff_over P b p B (None e k w)).0 o).1.1 (q, t),
-    λ h. (_, _, _, (pick_iff_over P b p B (None _ _ _)).1 (l, ((refl, (refl, refl)), λ (q, t). h q t))),
+    λ (e, k, w, o) q t. ((pick_iff_over P b p B (outcome_of false e k w)).0 o).1.1 (q, t),
+    λ h. (_, _, _, (pick_iff_over P b p B (outcome_of false _ _ _)).1 (l, ((refl, (refl, refl)), λ (q, t). h q t))),
   )
 
-  pub none_keeps_over : (e : End) (k w : ℕ) → picked.answer.outcome ≡ None e k w → picked.plan ≡ p
+  pub none_keeps_over : (e : End) (k w : ℕ) → picked.answer.outcome ≡ outcome_of false e k w → picked.plan ≡ p
   unfolding pick_done
   none_keeps_over e k w o =
-      let x = (pick_iff_over P b p B (None e k w)).0 o in
+      let x = (pick_iff_over P b p B (outcome_of false e k w)).0 o in
       ap (λ (z : PickResult). z.plan) (pick_accepted_over P b p x.0.0 x.0.1) ∙ plan_without P p (T_false (first_left P).ok (λ t. x.1.1 ((found_iff P B).0 t)))
 
 module _ (P : Problem) (b p q : List ℕ) (same : length p ≡ length q) where
@@ -144,7 +142,7 @@ module _ (P : Problem) (b p q : List ℕ) (same : length p ≡ length q) where
       by_buffer (inr l) = by_length l (eq_dec (length p) P.n)
 
   -- and so is a plan that is picked
-  pub plan_alike_over : Bounded P → (e : End) (k w : ℕ) → (pick_over P b p).answer.outcome ≡ Plan e k w → (pick_over P b p).plan ≡ (pick_over P b q).plan
+  pub plan_alike_over : Bounded P → (e : End) (k w : ℕ) → (pick_over P b p).answer.outcome ≡ outcome_of true e k w → (pick_over P b p).plan ≡ (pick_over P b q).plan
   unfolding pick_done
   plan_alike_over B e k w o =
       let l = (answers P B b p true e k w o).0 in
@@ -163,13 +161,13 @@ module _ (s b p : List ℕ) where
   over y e k w o = let K = go y o in (K, sym (ap (λ (z : PickResult). z.answer.outcome) (pick_kept s b p K)) ∙ o)
     where
       go : (y : Bool) → (pick_job s b p).answer.outcome ≡ outcome_of y e k w → Keeps layout s
-      go true o = ((pick_iff s b p (Plan e k w)).0 o).0
-      go false o = ((pick_iff s b p (None e k w)).0 o).0
+      go true o = ((pick_iff s b p (outcome_of true e k w)).0 o).0
+      go false o = ((pick_iff s b p (outcome_of false e k w)).0 o).0
 
   pub pick_run : (y : Bool) (e : End) (k w : ℕ) → (pick_job s b p).answer.outcome ≡ outcome_of y e k w → RunsAnswer (pick_job s b p) (run_job s b) e k w
   pick_run y e k w o = let (K, u) = over y e k w o in rw (pick_kept s b p K, run_kept s b K) (pick_run_over problem (problem_bounded s K) b p y e k w u)
 
-  pub pick_plan : (e : End) (k w : ℕ) → (pick_job s b p).answer.outcome ≡ Plan e k w → PlanPicked problem (λ t f. put_back_job s t f p) (pick_job s b p) w
+  pub pick_plan : (e : End) (k w : ℕ) → (pick_job s b p).answer.outcome ≡ outcome_of true e k w → PlanPicked problem (λ t f. put_back_job s t f p) (pick_job s b p) w
   pick_plan e k w o =
       let (K, u) = over true e k w o in
       let x = pick_plan_over problem (problem_bounded s K) b p e k w u in
@@ -180,21 +178,21 @@ module _ (s b p : List ℕ) where
   none_iff K l = rw (pick_kept s b p K) (none_iff_over problem (problem_bounded s K) b p l)
 
   -- where it says "none", no choice of settings at all is a plan of the full sheet
-  pub none_says : (e : End) (k w : ℕ) → (pick_job s b p).answer.outcome ≡ None e k w → NoPlan problem
-  none_says e k w o q t = ((pick_iff s b p (None e k w)).0 o).1.1.1 (q, t)
+  pub none_says : (e : End) (k w : ℕ) → (pick_job s b p).answer.outcome ≡ outcome_of false e k w → NoPlan problem
+  none_says e k w o q t = ((pick_iff s b p (outcome_of false e k w)).0 o).1.1.1 (q, t)
 
-  pub none_keeps : (e : End) (k w : ℕ) → (pick_job s b p).answer.outcome ≡ None e k w → (pick_job s b p).plan ≡ p
+  pub none_keeps : (e : End) (k w : ℕ) → (pick_job s b p).answer.outcome ≡ outcome_of false e k w → (pick_job s b p).plan ≡ p
   none_keeps e k w o = let (K, u) = over false e k w o in ap (λ (z : PickResult). z.plan) (pick_kept s b p K) ∙ none_keeps_over problem (problem_bounded s K) b p e k w u
 
 module _ (s b p q : List ℕ) (same : length p ≡ length q) where
   pub pick_not_read : SameAnswer (pick_job s b p) (pick_job s b q)
   pick_not_read = go (sheet_or s)
     where
-      go : ((r : SheetRefusal) × (read_sheet layout s ≡ read.Refused r)) ⊎ Keeps layout s → SameAnswer (pick_job s b p) (pick_job s b q)
+      go : ((r : SheetRefusal) × (read_sheet layout s ≡ Err r)) ⊎ Keeps layout s → SameAnswer (pick_job s b p) (pick_job s b q)
       go (inl (r, e)) = rw (pick_sheet_refused s b p r e, pick_sheet_refused s b q r e) (refl, refl)
       go (inr K) = rw (pick_kept s b p K, pick_kept s b q K) (pick_not_read_over (problem_of layout s) b p q same)
 
-  pub plan_alike : (e : End) (k w : ℕ) → (pick_job s b p).answer.outcome ≡ Plan e k w → (pick_job s b p).plan ≡ (pick_job s b q).plan
+  pub plan_alike : (e : End) (k w : ℕ) → (pick_job s b p).answer.outcome ≡ outcome_of true e k w → (pick_job s b p).plan ≡ (pick_job s b q).plan
   plan_alike e k w o =
       let (K, u) = over s b p true e k w o in
       rw (pick_kept s b p K, pick_kept s b q K) (plan_alike_over (problem_of layout s) b p q same (problem_bounded s K) e k w u)

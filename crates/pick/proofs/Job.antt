@@ -15,8 +15,8 @@ use Rattle.problem.proofs.HeldTable.{held_few}
 use Rattle.run.specs.Run.{RunResult, run_done}
 use Rattle.put_back.specs.PutBack.{put_back_over}
 use Rattle.run.specs.declared.RunAnswer.{RunAnswer}
-use Rattle.run.specs.declared.RunOutcome.{RunOutcome}
-use Rattle.run.specs.declared.RunOutcome.TheVariants.{Done, Refused}
+use Rattle.run.specs.Numbers.{RunOutcome, ran}
+use Rattle.std.specs.Prelude.{Err}
 use Rattle.run.specs.declared.RunRefusal.{RunRefusal}
 use Rattle.run.specs.declared.RunRefusal.TheVariants.{Sheet, Buffer}
 use Rattle.run.proofs.Opened.{run_accepted_over}
@@ -57,17 +57,17 @@ module _ (P : Problem) (b : List ℕ) (l : 1 + 5 * size_sum P ≤ length b) (r :
   caused : (o : RunOutcome) → r.outcome ≡ o → RunCauseOver P b o
   caused o e = (ran_iff_over P b o).0 (ap (λ (y : RunResult). y.answer.outcome) (run_accepted_over P b l) ∙ ap (λ (y : RunAnswer). y.outcome) (sym is) ∙ e)
 
-  pub not_refused : (x : RunRefusal) → r.outcome ≡ Refused x → ⊥
-  not_refused (Sheet x) e = caused (Refused (Sheet x)) e
-  not_refused Buffer e = let h = caused (Refused Buffer) e in omega arith
+  pub not_refused : (x : RunRefusal) → r.outcome ≡ Err x → ⊥
+  not_refused (Sheet x) e = caused (Err (Sheet x)) e
+  not_refused Buffer e = let h = caused (Err Buffer) e in omega arith
 
   pub state_left : r.state ≡ masks_of (left_by P)
   unfolding run_done left_by
   state_left = ap (λ (y : RunAnswer). y.state) is
 
-  module _ (e : End) (k w : ℕ) (o : r.outcome ≡ Done e k w) (x : List ℕ) (f : x ≡ (run_done P b).buffer) where
+  module _ (e : End) (k w : ℕ) (o : r.outcome ≡ ran e k w) (x : List ℕ) (f : x ≡ (run_done P b).buffer) where
     written : w ≡ length (run_trace P)
-    written = (caused (Done e k w) o).1.1.1
+    written = (caused (ran e k w) o).1.1.1
 
     pub trace_room : w ≤ length x
     unfolding run_done
@@ -89,5 +89,5 @@ module _ (P : Problem) (b : List ℕ) (l : 1 + 5 * size_sum P ≤ length b) (r :
         → record { answer = record { outcome = outcome_of y e k w; state = r.state }; trace = x; plan = q } ≡ pick_done P b p
     unfolding pick_done run_done left_by
     picked_done p y q u z =
-        let c = (caused (Done e k w) o).1 in
+        let c = (caused (ran e k w) o).1 in
         λ i. record { answer = record { outcome = outcome_of (u i) (c.0 i) (c.1.0 i) (c.1.1 i); state = state_left i }; trace = f i; plan = z i }

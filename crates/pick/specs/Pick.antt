@@ -1,5 +1,5 @@
 -- docs/FORMAT.md, "Picking a plan", as a job: lent a problem, a trace buffer and a buffer for the plan; as a job, a sheet and these.
-use Rattle.std.specs.Prelude.{Bool, true, false, cond, List, ℕ, eqb, length, replicate, take}
+use Rattle.std.specs.Prelude.{Bool, true, false, cond, List, ℕ, eqb, length, replicate, take, Result, Ok, Err}
 use Rattle.problem.specs.Problem.{Problem, State, full}
 use Rattle.problem.specs.Run.{run, after_trace, end_of}
 use Rattle.problem.specs.Masks.{masks_of, empty_masks}
@@ -14,9 +14,18 @@ use Rattle.first_plan.specs.First.{first_plan}
 use Rattle.first_plan.specs.declared.Found.{Found}
 use Rattle.pick.specs.declared.PickRefusal.{PickRefusal}
 use Rattle.pick.specs.declared.PickRefusal.TheVariants.{Sheet, Buffer, ResultLength}
-use Rattle.pick.specs.declared.PickOutcome.{PickOutcome}
-use Rattle.pick.specs.declared.PickOutcome.TheVariants.{Plan, None, Refused}
+use Rattle.pick.specs.declared.Sought.{Sought}
 use Rattle.pick.specs.declared.Picked.{Picked}
+
+-- ---- what picking answers beside the run's last state
+
+-- whether there is a plan, with what the run answers; or why picking is refused
+abbrev pub PickOutcome : Type 0
+PickOutcome = Result Sought PickRefusal
+
+-- a plan or none, and with either "the answer carries the run's own": the end, the number of steps and the bytes written
+abbrev pub outcome_of : Bool → End → (k w : ℕ) → PickOutcome
+outcome_of y e k w = Ok (record { plan = y; run = record { end = e; steps = k; written = w } })
 
 -- ---- the format's number for each refusal, in the order of its table; and of an answer, 0 where there is no refusal
 
@@ -26,9 +35,8 @@ pick_number Buffer = 10
 pick_number ResultLength = 20
 
 abbrev pub picked_number : PickOutcome → ℕ
-picked_number (Plan e k w) = 0
-picked_number (None e k w) = 0
-picked_number (Refused r) = pick_number r
+picked_number (Ok _) = 0
+picked_number (Err r) = pick_number r
 
 -- ---- what is left after the run, and its first plan
 
@@ -62,12 +70,7 @@ pub record PickResult : Type 0 where
 
 -- "A refused pick answers the number only.", and leaves the buffers as they were
 abbrev pub pick_refused : PickRefusal → (b p : List ℕ) → PickResult
-pick_refused r b p = record { answer = record { outcome = Refused r; state = empty_masks }; trace = b; plan = p }
-
--- a plan or none, and with either "the answer carries the run's own": the end, the number of steps and the bytes written
-abbrev pub outcome_of : Bool → End → (k w : ℕ) → PickOutcome
-outcome_of true = Plan
-outcome_of false = None
+pick_refused r b p = record { answer = record { outcome = Err r; state = empty_masks }; trace = b; plan = p }
 
 -- The first plan of what is left is put back into the lent plan p by the run's own trace; where there is none, p stays as it was.
 unfoldable pub plan_left : Problem → List ℕ → List ℕ

@@ -1,59 +1,52 @@
 // Picking a plan, as a job: the run, the first plan of what it leaves, and that put back.
 #![tactic(auto)]
 
-ghost use Rattle.std.specs.Prelude.{◌≡◌, [], ◌≤◌, ◌<◌, ◌+◌, ◌*◌, length};
+ghost use Rattle.std.specs.Prelude.{◌≡◌, Ok, [], ◌≤◌, ◌<◌, ◌+◌, ◌*◌, length};
 ghost use Rattle.boundary.specs.State.{state_length};
-ghost use Rattle.pick.specs.Call.{done_number, crossed_number, crossed_state, PickFits, pick_call};
+ghost use Rattle.pick.specs.Call.{crossed_number, crossed_state, PickFits, pick_call};
 ghost use Rattle.problem.specs.Problem.{size_sum};
 ghost use Rattle.problem.specs.Held.{held, RowTable};
 ghost use Rattle.problem.specs.Masks.{masks_of};
-ghost use Rattle.pick.specs.Pick.{pick_number, left_by, run_trace, first_left, plan_left, pick_refused, outcome_of, pick_done, pick_over, pick_job};
+ghost use Rattle.pick.specs.Pick.{pick_number, left_by, run_trace, first_left, plan_left, pick_refused, pick_done, pick_over, pick_job};
 
 use boundary::put_state;
 use held::size_sum;
-use problem::{End, Masks};
-use run::RunOutcome;
-use sheet::{SheetRead, SheetRefusal};
+use problem::Masks;
+use run::Finished;
+use sheet::SheetRefusal;
 
 // Why picking is refused.
-#[derive(Clone, Copy)]
+#[derive(Clone, Copy, Debug, PartialEq, Eq)]
 pub enum PickRefusal {
     Sheet(SheetRefusal),
     Buffer,
     ResultLength,
 }
 
-// A plan was put back into the lent plan, or there is none; either with what the run answers.
+// Whether a plan was put back into the lent plan, or there is none; either with what the run answers.
 #[derive(Clone, Copy)]
-pub enum PickOutcome {
-    Plan {
-        end: End,
-        steps: usize,
-        written: usize,
-    },
-    None {
-        end: End,
-        steps: usize,
-        written: usize,
-    },
-    Refused(PickRefusal),
+pub struct Sought {
+    pub plan: bool,
+    pub run: Finished,
 }
 
-// The answer, with the run's last state beside it; a refused pick has the empty state there.
+// The answer, with the run's last state beside it: `pick_refused` of specs/Pick.antt says that a refused pick has the empty state there.
 #[derive(Clone, Copy)]
 pub struct Picked {
-    pub outcome: PickOutcome,
+    pub outcome: Result<Sought, PickRefusal>,
     pub state: Masks,
 }
 
 // The format's number for a refusal.
-pub fn pick_number(r: PickRefusal) -> u8
-    ensures { result ≡ pick_number r }
-{
-    match r {
-        PickRefusal::Sheet(s) => sheet::sheet_number(s),
-        PickRefusal::Buffer => 10,
-        PickRefusal::ResultLength => 20,
+impl From<PickRefusal> for u8 {
+    ghost from_gives = { λ r n. n ≡ pick_number r };
+
+    fn from(r: PickRefusal) -> u8 {
+        match r {
+            PickRefusal::Sheet(s) => u8::from(s),
+            PickRefusal::Buffer => 10,
+            PickRefusal::ResultLength => 20,
+        }
     }
 }
 
@@ -63,27 +56,8 @@ fn refused(r: PickRefusal) -> Picked
 {
     let state = problem::empty_masks();
     Picked {
-        outcome: PickOutcome::Refused(r),
+        outcome: Err(r),
         state,
-    }
-}
-
-// A plan or none, with what the run answers.
-fn outcome_of(plan: bool, end: End, steps: usize, written: usize) -> PickOutcome
-    ensures { result ≡ outcome_of plan end steps written }
-{
-    if plan {
-        PickOutcome::Plan {
-            end,
-            steps,
-            written,
-        }
-    } else {
-        PickOutcome::None {
-            end,
-            steps,
-            written,
-        }
     }
 }
 
@@ -98,7 +72,8 @@ fn put_first(t: &[u16], last: Masks, trace: &[u8], plan: &mut [u8]) -> bool
     }
     let first = found.plan;
     let n = plan.len();
-    putting_back::put_back_over(t, trace, &first[..n], plan);
+    // This plan is never refused: it is one of what the run left, and has a byte for each variable.
+    let _ = putting_back::put_back_over(t, trace, &first[..n], plan);
     true
 }
 
@@ -111,18 +86,15 @@ fn pick_sized(t: &[u16], trace: &mut [u8], plan: &mut [u8]) -> Picked
 {
     let done = waiting_run::run_table(t, trace);
     let state = done.state;
-    let outcome = done.outcome;
-    match outcome {
-        RunOutcome::Refused(_) => refused(PickRefusal::Buffer),
-        RunOutcome::Done {
-            end,
-            steps,
-            written,
-        } => {
-            let plan = put_first(t, state, &trace[..written], plan);
-            let outcome = outcome_of(plan, end, steps, written);
-            Picked { outcome, state }
+    match done.outcome {
+        Ok(run) => {
+            let plan = put_first(t, state, &trace[..run.written], plan);
+            Picked {
+                outcome: Ok(Sought { plan, run }),
+                state,
+            }
         }
+        Err(_) => refused(PickRefusal::Buffer),
     }
 }
 
@@ -151,67 +123,46 @@ pub fn pick(s: &[u8], trace: &mut [u8], plan: &mut [u8]) -> Picked
 {
     let mut t = table::blank_table();
     match read_sheet::read_table(s, &mut t) {
-        SheetRead::Refused(r) => refused(PickRefusal::Sheet(r)),
-        SheetRead::Accepted {
-            variables: _,
-            blocks: _,
-        } => pick_over(&t, trace, plan),
+        Ok(_) => pick_over(&t, trace, plan),
+        Err(r) => refused(PickRefusal::Sheet(r)),
     }
 }
 
 // ---- from C
 
 // The number of an answer that is no refusal.
-fn done_number(plan: bool, end: End, steps: usize, written: usize) -> u64
-    requires { (steps < 65536) × (written < 65536) }
-    ensures { result ≡ done_number plan end steps written }
+fn done_number(found: Sought) -> u64
+    requires { PickFits (Ok found) }
+    ensures { result ≡ crossed_number (Ok found) }
 {
-    256 * (run::end_number(end) as u64
-        + 256 * (steps as u64 + 65536 * (written as u64 + 65536 * bounded::one_if(plan) as u64)))
+    let run = found.run;
+    256 * (run::end_number(run.end) as u64
+        + 256
+            * (run.steps as u64
+                + 65536 * (run.written as u64 + 65536 * bounded::one_if(found.plan) as u64)))
 }
 
 // The number of an answer: the refusal's, or the run's own and whether a plan was written.
-pub fn picked_number(o: PickOutcome) -> u64
+pub fn picked_number(o: Result<Sought, PickRefusal>) -> u64
     requires { PickFits o }
     ensures { result ≡ crossed_number o }
 {
     match o {
-        PickOutcome::Plan {
-            end,
-            steps,
-            written,
-        } => done_number(true, end, steps, written),
-        PickOutcome::None {
-            end,
-            steps,
-            written,
-        } => done_number(false, end, steps, written),
-        PickOutcome::Refused(r) => pick_number(r) as u64,
+        Ok(found) => done_number(found),
+        Err(r) => u8::from(r) as u64,
     }
 }
 
 // The last state, with a plan and with none; a refusal writes nothing.
-pub fn put_picked_state(b: &mut [u8], o: PickOutcome, m: Masks)
+pub fn put_picked_state(b: &mut [u8], o: Result<Sought, PickRefusal>, m: Masks)
     requires { length b.old ≡ state_length }
     ensures { b.new ≡ crossed_state o m b.old }
 {
     match o {
-        PickOutcome::Plan {
-            end: _,
-            steps: _,
-            written: _,
-        } => put_state(b, m),
-        PickOutcome::None {
-            end: _,
-            steps: _,
-            written: _,
-        } => put_state(b, m),
-        PickOutcome::Refused(_) => {}
+        Ok(_) => put_state(b, m),
+        Err(_) => {}
     }
 }
-
-// The bytes of a run's state: the active variables in 4, then 32 domains in 2 each, big-endian.
-const STATE_LENGTH: usize = 68;
 
 // Picking a plan. As the run's answer, and bit 48: whether a plan was written. The state is written with a plan and with none, the plan
 // only with one. A refused pick writes nothing.
@@ -221,7 +172,7 @@ pub fn pick_call(sheet: &[u8], trace: &mut [u8], plan: &mut [u8], state: &mut [u
     ensures plan { plan.new ≡ (pick_call sheet.now trace.old plan.old state.old).plan }
     ensures state { state.new ≡ (pick_call sheet.now trace.old plan.old state.old).state }
 {
-    if state.len() != STATE_LENGTH {
+    if state.len() != boundary::STATE_LENGTH {
         return boundary::bad_state();
     }
     let done = pick(sheet, trace, plan);

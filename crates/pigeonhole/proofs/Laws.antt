@@ -1,6 +1,6 @@
 -- Why a pigeonhole has no solution: the values of variables that all differ are as many as the variables. Assumes nothing.
 use mathlib.Core.Path.{◌≡◌, refl, sym, ap, subst, ◌∙◌}
-use mathlib.Core.Bool.{Bool, true, false, ◌||◌, cond}
+use mathlib.Core.Bool.{Bool, true, false, ◌||◌}
 use mathlib.Core.List.{List}
 use mathlib.Core.Logic.{◌⊎◌, inl, inr, ◌≢◌, ⊎_elim}
 use Prim.Native.Nat.{ℕ, zero, suc, ◌+◌, ◌/◌, ◌%◌, ◌^◌, ◌≤◌, ◌<◌}
@@ -61,13 +61,17 @@ sift_none P i far l = record { small = l; each = λ j on off. absurd (off on) }
 small : (n x j : ℕ) → x < 2 ^ n → T (bit x j) → j < n
 small n x j l t = elim (lt_dec j n) [ inl h ↦ h | inr h ↦ absurd (T_not (bit_high n x j l h) t) ]
 
-pub sift_more : (P : Problem) (i far rest : ℕ) (b : Bool) (j : ℕ) → j < 32 → ApartIf P i j b → Sifted P i far rest → Sifted P i (cond b far (without 32 far j)) (without 32 rest j)
-sift_more P i far rest true j l H S = record { small = S.small; each = λ k on off. go k on off (T_dec (bit rest k)) }
+-- j is apart, and stays
+pub sift_kept : (P : Problem) (i far rest : ℕ) {b : Bool} (j : ℕ) → j < 32 → ApartIf P i j b → b ≡ true → Sifted P i far rest → Sifted P i far (without 32 rest j)
+sift_kept P i far rest j l H e S = record { small = S.small; each = λ k on off. go k on off (T_dec (bit rest k)) }
   where
     go : (k : ℕ) → T (bit far k) → (T (bit (without 32 rest j) k) → ⊥) → T (bit rest k) ⊎ (T (bit rest k) → ⊥) → Apart P i k
-    go k on off (inl y) = subst (Apart P i) (sym (without_gone 32 bit_without32 rest j l k (small 32 far k S.small on) y off)) (H.apart refl)
+    go k on off (inl y) = subst (Apart P i) (sym (without_gone 32 bit_without32 rest j l k (small 32 far k S.small on) y off)) (H.apart e)
     go k on off (inr n) = S.each k on n
-sift_more P i far rest false j l H S = record { small = less; each = λ k on off. go k on off (T_dec (bit rest k)) }
+
+-- j goes
+pub sift_gone : (P : Problem) (i far rest : ℕ) (j : ℕ) → j < 32 → Sifted P i far rest → Sifted P i (without 32 far j) (without 32 rest j)
+sift_gone P i far rest j l S = record { small = less; each = λ k on off. go k on off (T_dec (bit rest k)) }
   where
     less : without 32 far j < 2 ^ 32
     less = lt_of_le_of_lt (and_le_l far _) S.small

@@ -1,24 +1,14 @@
 // More variables that must all differ than values for them: such a state has no solution. Consistency of pairs does not see it, and a
-// search would go through every order of the values.
+// search would go through every order of the values. Crate most_apart looks further and is to take this one's place: other sets, another order.
 #![tactic(auto)]
 
-ghost use Rattle.std.specs.Prelude.{◌≡◌, cond, ◌≢◌, ◌<◌};
-ghost use Rattle.bounded.specs.Mask.{without as without_of};
+ghost use Rattle.std.specs.Prelude.{◌≢◌, ◌<◌};
 ghost use Rattle.problem.specs.Held.{held, RowTable};
 ghost use Rattle.problem.specs.Masks.{state_of, sets, Proper};
-ghost use Rattle.held.specs.Ready.{Ready};
 ghost use Rattle.pigeonhole.specs.Pigeonhole.{ApartIf, AllApart, Rows, Pigeonhole, Unsolved};
 
-use bounded::{has16, lowest32, without32};
-use held::{row, size};
-
-// The set x, without j where b does not hold.
-fn without_unless(x: u32, b: bool, j: usize) -> u32
-    requires { j < 32 }
-    ensures { result ≡ cond b x (without_of 32 x j) }
-{
-    if b { x } else { without32(x, j) }
-}
+use bounded::Set;
+use held::{View, row, size};
 
 // ---- variables that are apart
 
@@ -28,12 +18,10 @@ fn apart_pair(t: &[u16], i: usize, j: usize) -> bool
     ensures { ApartIf (held t.now) i j result }
 {
     let n = size(t, i);
-    let mut a: usize = 0;
-    while a < n {
-        if has16(row(t, i, j, a), a) {
+    for a in 0..n {
+        if row(t, i, j, a).has(a) {
             return false;
         }
-        a += 1;
     }
     true
 }
@@ -43,12 +31,14 @@ fn apart_from(t: &[u16], active: u32, i: usize) -> u32
     requires { RowTable t.now × (i < 32) }
     ensures { AllApart (held t.now) i result }
 {
-    let mut rest = without32(active, i);
+    let mut rest = active.without(i);
     let mut far = rest;
     while rest != 0 {
-        let j = lowest32(rest);
-        rest = without32(rest, j);
-        far = without_unless(far, apart_pair(t, i, j), j);
+        let j = rest.lowest();
+        rest = rest.without(j);
+        if !apart_pair(t, i, j) {
+            far = far.without(j);
+        }
     }
     far
 }
@@ -61,8 +51,8 @@ fn apart_all(t: &[u16], active: u32) -> [u32; 32]
     let mut far = [0u32; 32];
     let mut rest = active;
     while rest != 0 {
-        let i = lowest32(rest);
-        rest = without32(rest, i);
+        let i = rest.lowest();
+        rest = rest.without(i);
         far[i] = apart_from(t, active, i);
     }
     far
@@ -80,11 +70,11 @@ fn overfull_among(active: u32, on: &[u16; 32], far: &[u32; 32], first: u32) -> b
     let mut values: u16 = 0;
     let mut count: u32 = 0;
     while rest != 0 {
-        let j = lowest32(rest);
-        rest = without32(rest, j) & far[j];
-        values = values | on[j];
+        let j = rest.lowest();
+        rest = rest.without(j) & far[j];
+        values |= on[j];
         count += 1;
-        if count > u16::count_ones(values) {
+        if count > values.count_ones() {
             return true;
         }
     }
@@ -93,17 +83,17 @@ fn overfull_among(active: u32, on: &[u16; 32], far: &[u32; 32], first: u32) -> b
 
 // Some active variables that must all differ are more than the values that they have together. Looked for from each active variable
 // with those that are apart from it.
-pub fn overfull(t: &[u16], active: u32, on: &[u16; 32]) -> bool
-    requires { Ready t.now (sets active on.now) }
-    ensures { Unsolved (held t.now) (state_of (sets active on.now)) result }
+pub fn overfull(view: View) -> bool
+    ensures { Unsolved (held view.entry.table.now) (state_of view.entry.state.now) result }
 {
-    let far = apart_all(t, active);
+    let active = view.state.active;
+    let far = apart_all(view.table, active);
     let mut rest = active;
     while rest != 0 {
-        let i = lowest32(rest);
-        rest = without32(rest, i);
+        let i = rest.lowest();
+        rest = rest.without(i);
         let first = far[i] | (1u32 << i);
-        if overfull_among(active, on, &far, first) {
+        if overfull_among(active, &view.state.domains, &far, first) {
             return true;
         }
     }

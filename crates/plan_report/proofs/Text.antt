@@ -1,6 +1,6 @@
 -- The text from the pick's answer: what an answer says of the sheet, and the lines of what it says. Assumes nothing.
 use mathlib.Core.Path.{◌≡◌, refl, sym, ap, ◌∙◌, subst}
-use mathlib.Core.Bool.{Bool, true, false}
+use mathlib.Core.Bool.{Bool, false}
 use mathlib.Core.List.{List, ◌∷◌, ◌++◌}
 use Prim.Native.Nat.{ℕ, zero, suc, ◌≤◌}
 use native.Mathlib.Nat.{zero-add}
@@ -10,10 +10,11 @@ use Rattle.problem.specs.Problem.{Problem}
 use Rattle.problem.specs.declared.End.{End}
 use Rattle.problem.specs.declared.Masks.{Masks}
 use Rattle.problem.proofs.Count.{sizes_most}
-use Rattle.sheet.specs.Sheet.{layout, read_sheet, sheet_number, Keeps}
+use Rattle.sheet.specs.Sheet.{layout, read_sheet, sheet_number, Keeps, accepted}
 use Rattle.sheet.specs.Relation.{problem_of}
 use Rattle.sheet.specs.declared.SheetRefusal.{SheetRefusal}
-use Rattle.sheet.specs.declared.SheetRead.TheVariants as read
+use Rattle.std.specs.Prelude.{Ok, Err}
+use Rattle.sheet.proofs.Laws.{accepted_parts}
 use Rattle.sheet.proofs.Accepted.{keeps, problem_bounded}
 use Rattle.fields.specs.Print.{refused_line, run_lines}
 use Rattle.jobs.proofs.Opened.{sheet_refused, sheet_kept}
@@ -21,10 +22,8 @@ use Rattle.buffers.specs.Written.{written}
 use Rattle.fields.proofs.Laws.{Puts, after}
 use Rattle.report.specs.Report.{Ran}
 use Rattle.report.proofs.Text.{done_ran}
-use Rattle.pick.specs.Pick.{first_left, PickResult, outcome_of, pick_done, pick_job}
+use Rattle.pick.specs.Pick.{first_left, PickResult, outcome_of, pick_done, pick_job, PickOutcome}
 use Rattle.pick.specs.declared.Picked.{Picked}
-use Rattle.pick.specs.declared.PickOutcome.{PickOutcome}
-use Rattle.pick.specs.declared.PickOutcome.TheVariants.{Plan, None, Refused}
 use Rattle.pick.specs.declared.PickRefusal.{PickRefusal}
 use Rattle.pick.proofs.Causes.{pick_kept, pick_accepted_over}
 use Rattle.pick.proofs.Demands.{pick_run}
@@ -32,7 +31,7 @@ use Rattle.plan_report.specs.Planned.{found_line, pick_lines, planned_lines, Pic
 
 -- ---- the text of a refused sheet and of one that is read
 
-pub refused_lines : (s : List ℕ) (r : SheetRefusal) → read_sheet layout s ≡ read.Refused r → refused_line (sheet_number r) ≡ planned_lines s
+pub refused_lines : (s : List ℕ) (r : SheetRefusal) → read_sheet layout s ≡ Err r → refused_line (sheet_number r) ≡ planned_lines s
 unfolding planned_lines
 refused_lines s r e = sym (sheet_refused s _ _ r e)
 
@@ -62,10 +61,10 @@ front_filled a (suc n) zero l = absurd (omega arith)
 front_filled a (suc n) (suc k) l = ap (λ (w : List ℕ). a ∷ w) (front_filled a n k (omega arith))
 
 -- the items that the reader tells are those of the problem: so many bytes of 255 are its buffer
-module _ (s : List ℕ) (n m : ℕ) (e : read_sheet layout s ≡ read.Accepted n m) where
+module _ (s : List ℕ) (n m : ℕ) (e : read_sheet layout s ≡ accepted n m) where
   items : n ≡ (problem_of layout s).n
   unfolding problem_of
-  items = let k = keeps layout s n m e in cc
+  items = (accepted_parts (sym e ∙ keeps layout s n m e)).0
 
   pub few_items : n ≤ 32
   few_items = omega (arith, items, (problem_bounded s (keeps layout s n m e)).few)
@@ -76,17 +75,11 @@ module _ (s : List ℕ) (n m : ℕ) (e : read_sheet layout s ≡ read.Accepted n
 -- ---- what the pick's answer says
 
 abbrev is_plan : PickOutcome → Bool
-is_plan (Plan e k w) = true
-is_plan (None e k w) = false
-is_plan (Refused r) = false
+is_plan (Ok c) = c.plan
+is_plan (Err r) = false
 
-is_plan_lem : (y : Bool) (e : End) (k w : ℕ) → is_plan (outcome_of y e k w) ≡ y
-is_plan_lem true e k w = refl
-is_plan_lem false e k w = refl
-
-never_refused : (y : Bool) (e : End) (k w : ℕ) (r : PickRefusal) → outcome_of y e k w ≡ Refused r → ⊥
-never_refused true e k w r q = let z : ◌≡◌ {A = ℕ} 0 1 = cc in omega arith
-never_refused false e k w r q = let z : ◌≡◌ {A = ℕ} 0 1 = cc in omega arith
+never_refused : (y : Bool) (e : End) (k w : ℕ) (r : PickRefusal) → outcome_of y e k w ≡ Err r → ⊥
+never_refused y e k w r q = let z : ◌≡◌ {A = ℕ} 0 1 = cc in omega arith
 
 -- with a trace's buffer of 1 + 5 × 512 bytes and the plan's buffer p, of 255 for each item
 module _ (s : List ℕ) (K : Keeps layout s) (b : List ℕ) (long : 2561 ≤ length b) (p : List ℕ) (filled : p ≡ replicate (problem_of layout s).n 255) where
@@ -99,7 +92,7 @@ module _ (s : List ℕ) (K : Keeps layout s) (b : List ℕ) (long : 2561 ≤ len
   few = omega (arith, ap length filled, length-replicate {A = ℕ} (problem s K).n 255, (problem_bounded s K).few)
 
   module _ (x : Picked) (a : x ≡ (pick_job s b p).answer) where
-    pub not_refused : (r : PickRefusal) → x.outcome ≡ Refused r → ⊥
+    pub not_refused : (r : PickRefusal) → x.outcome ≡ Err r → ⊥
     unfolding pick_done
     not_refused r o = never_refused (first_left (problem s K)).ok _ _ _ r (sym (ap (λ (y : PickResult). y.answer.outcome) done) ∙ ap (λ (y : Picked). y.outcome) (sym a) ∙ o)
 
@@ -111,7 +104,7 @@ module _ (s : List ℕ) (K : Keeps layout s) (b : List ℕ) (long : 2561 ≤ len
         let R = pick_run s b p y e k n h in
         record {
           ran = subst (Ran (problem s K) w e k) (ap (λ (y : Picked). y.state) (sym a)) (done_ran s b long _ (sym R.answer) e k n refl w (f ∙ R.trace));
-          some = sym (is_plan_lem y e k n) ∙ ap is_plan (sym h ∙ ap (λ (y : PickResult). y.answer.outcome) done) ∙ is_plan_lem (first_left (problem s K)).ok _ _ _;
+          some = ap is_plan (sym h ∙ ap (λ (y : PickResult). y.answer.outcome) done);
           is = g ∙ ap (λ (y : PickResult). y.plan) done ∙ (λ i. (pick_done (problem s K) b (filled i)).plan);
           few = omega (arith, few);
         }

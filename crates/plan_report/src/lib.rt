@@ -9,9 +9,7 @@ ghost use Rattle.fields.specs.Print.{fields_text};
 ghost use Rattle.plan_report.specs.Planned.{plan_line, found_line, planned_lines, planned_room, planned_text, Picks};
 
 use fields::{put_byte, put_bytes, put_field};
-use pick::PickOutcome;
 use problem::{End, Masks};
-use sheet::SheetRead;
 
 // ---- the plan's line
 
@@ -22,10 +20,8 @@ fn put_settings(out: &mut [u8], at: usize, plan: &[u8]) -> usize
     ensures within { result ≤ at + 6 * length plan.now }
 {
     let mut end = at;
-    let mut k: usize = 0;
-    while k < plan.len() {
+    for k in 0..plan.len() {
         end = put_field(out, end, plan[k] as usize);
-        k += 1;
     }
     end
 }
@@ -83,20 +79,21 @@ fn put_kept(out: &mut [u8], s: &[u8], plan: &mut [u8]) -> usize
 {
     let mut trace = [0u8; 2561];
     let picked = pick::pick(s, &mut trace, plan);
-    let state = picked.state;
-    let outcome = picked.outcome;
-    match outcome {
-        PickOutcome::Plan {
-            end,
-            steps,
-            written: _,
-        } => put_picked(out, s, &trace, plan, true, end, steps, state),
-        PickOutcome::None {
-            end,
-            steps,
-            written: _,
-        } => put_picked(out, s, &trace, plan, false, end, steps, state),
-        PickOutcome::Refused(_) => 0,
+    match picked.outcome {
+        Ok(found) => {
+            let run = found.run;
+            put_picked(
+                out,
+                s,
+                &trace,
+                plan,
+                found.plan,
+                run.end,
+                run.steps,
+                picked.state,
+            )
+        }
+        Err(_) => 0,
     }
 }
 
@@ -107,14 +104,11 @@ fn put_sheet(out: &mut [u8], s: &[u8]) -> usize
     ensures within { result ≤ planned_room }
 {
     match read_sheet::read_sheet(s) {
-        SheetRead::Refused(r) => text::put_refused_line(out, 0, sheet::sheet_number(r) as usize),
-        SheetRead::Accepted {
-            variables,
-            blocks: _,
-        } => {
+        Ok(counts) => {
             let mut plan = [255u8; 32];
-            put_kept(out, s, &mut plan[..variables])
+            put_kept(out, s, &mut plan[..counts.variables])
         }
+        Err(r) => text::put_refused_line(out, 0, u8::from(r) as usize),
     }
 }
 

@@ -1,4 +1,5 @@
 -- A record is its kind and its fields, and what its kind's number says. Assumes nothing.
+use Rattle.std.specs.Prelude.{Some, None}
 use mathlib.Core.Path.{◌≡◌, refl, sym, ap, ◌∙◌, subst}
 use mathlib.Core.List.{List, [], ◌∷◌, ◌++◌, append-nil}
 use mathlib.Core.Logic.{◌⊎◌, inl, inr}
@@ -10,19 +11,18 @@ use Rattle.problem.specs.Run.{kind_bound}
 use Rattle.problem.specs.declared.Record.{Record}
 use Rattle.problem.specs.declared.Record.TheVariants.{Unsupported, Snake, Triangle, Neighbourhood, SnakeSubstitution}
 use Rattle.problem.specs.declared.Parts.{Parts}
-use Rattle.problem.specs.declared.Numbered.TheVariants.{Kind, NoKind}
 use Rattle.problem.specs.declared.Effect.TheVariants.{Eliminates}
 
 none : ◌≡◌ {A = ℕ} 0 1 → ⊥
 none e = omega arith
 
-same : {x y : Record} → Kind x ≡ Kind y → x ≡ y
+same : {x y : Record} → Some x ≡ Some y → x ≡ y
 same e = cc
 
 -- ---- the kind's number
 
 -- a record is the one that its kind and its fields make, whatever stands after them
-pub kind_fields : (r : Record) (more : List ℕ) → record_of (kind_of r) (get_or (fields_of r ++ more) 0 0) (get_or (fields_of r ++ more) 1 0) (get_or (fields_of r ++ more) 2 0) ≡ Kind r
+pub kind_fields : (r : Record) (more : List ℕ) → record_of (kind_of r) (get_or (fields_of r ++ more) 0 0) (get_or (fields_of r ++ more) 1 0) (get_or (fields_of r ++ more) 2 0) ≡ Some r
 unfolding record_of
 kind_fields (Unsupported i b k) more = refl
 kind_fields (Snake i v) more = refl
@@ -30,14 +30,14 @@ kind_fields (Triangle i j) more = refl
 kind_fields (Neighbourhood i b a) more = refl
 kind_fields (SnakeSubstitution i b a) more = refl
 
-pub kind_record : (r : Record) → record_of (kind_of r) (item_of r) (third_of r) (fourth_of r) ≡ Kind r
-kind_record r = subst (λ (l : List ℕ). record_of (kind_of r) (get_or l 0 0) (get_or l 1 0) (get_or l 2 0) ≡ Kind r) (append-nil (fields_of r)) (kind_fields r [])
+pub kind_record : (r : Record) → record_of (kind_of r) (item_of r) (third_of r) (fourth_of r) ≡ Some r
+kind_record r = subst (λ (l : List ℕ). record_of (kind_of r) (get_or l 0 0) (get_or l 1 0) (get_or l 2 0) ≡ Some r) (append-nil (fields_of r)) (kind_fields r [])
 
 -- and back: what a number makes of fields has the number for its kind and these fields, of which it may take no third
 abbrev pub Made : (k i x y : ℕ) → Record → Type 0
 Made k i x y r = (kind_of r ≡ k) × ((fields_of r ≡ i ∷ x ∷ []) ⊎ (fields_of r ≡ i ∷ x ∷ y ∷ []))
 
-pub record_made : (k i x y : ℕ) (r : Record) → record_of k i x y ≡ Kind r → Made k i x y r
+pub record_made : (k i x y : ℕ) (r : Record) → record_of k i x y ≡ Some r → Made k i x y r
 unfolding record_of
 record_made zero i x y r e = absurd (none cc)
 record_made (suc zero) i x y r e = subst (Made 1 i x y) (same e) (refl, inr refl)
@@ -52,7 +52,7 @@ pub same_record : (x y : Record) → kind_of x ≡ kind_of y → item_of x ≡ i
 same_record x y k i b c = cc (kind_record x, kind_record y)
 
 -- no kind has another number
-pub no_kind : (k i x y : ℕ) → (k ≡ 1 → ⊥) → (k ≡ 2 → ⊥) → (k ≡ 3 → ⊥) → (k ≡ 4 → ⊥) → (k ≡ 5 → ⊥) → NoKind ≡ record_of k i x y
+pub no_kind : (k i x y : ℕ) → (k ≡ 1 → ⊥) → (k ≡ 2 → ⊥) → (k ≡ 3 → ⊥) → (k ≡ 4 → ⊥) → (k ≡ 5 → ⊥) → None ≡ record_of k i x y
 unfolding record_of
 no_kind zero i x y a b c d e = refl
 no_kind (suc zero) i x y a b c d e = absurd (a refl)

@@ -1,5 +1,6 @@
 -- "the next step is of the lowest kind that holds anywhere, then the lowest i, then the lowest third field, then the lowest fourth": the
 -- order of the records, and that the search finds the first lawful record in it. Assumes nothing.
+use Rattle.std.specs.Prelude.{Option, Some, None}
 use mathlib.Core.Path.{◌≡◌, refl, sym, ap, subst, ◌∙◌}
 use mathlib.Core.Bool.{Bool}
 use mathlib.Core.List.{List, [], ◌∷◌, ◌++◌}
@@ -15,8 +16,6 @@ use Rattle.problem.specs.Record.{kind_of, item_of, third_of, fourth_of}
 use Rattle.problem.specs.Order.{Before, FirstLawful}
 use Rattle.problem.specs.declared.Record.{Record}
 use Rattle.problem.specs.declared.Record.TheVariants.{Unsupported, Snake, Triangle, Neighbourhood, SnakeSubstitution}
-use Rattle.problem.specs.declared.Next.{Next}
-use Rattle.problem.specs.declared.Next.TheVariants.{Step, Nothing}
 use Rattle.problem.proofs.Apart.{same_record, kind_within}
 use Rattle.problem.proofs.Reflect.{unsupported_iff, snake_iff, triangle_iff, neighbourhood_iff, snake_substitution_iff}
 use Rattle.problem.specs.Sentences.{Fits}
@@ -72,18 +71,18 @@ before_one_way x y =
 -- ---- searching: the first of a family A of records, in an order Lt
 
 -- what is found is of the family, and none of the family stands before it; where nothing is found the family is empty
-abbrev Least : (Record → Type 0) → (Record → Record → Type 0) → Next → Type 0
-Least A Lt f = ((r : Record) → f ≡ Step r → A r × ((x : Record) → A x → Lt x r → ⊥)) × (f ≡ Nothing → (x : Record) → A x → ⊥)
+abbrev Least : (Record → Type 0) → (Record → Record → Type 0) → Option Record → Type 0
+Least A Lt f = ((r : Record) → f ≡ Some r → A r × ((x : Record) → A x → Lt x r → ⊥)) × (f ≡ None → (x : Record) → A x → ⊥)
 
 -- a search over the values of one field, which finds the first at each value, finds the first
-first_least : (g : Record → ℕ) (n : ℕ) (f : ℕ → Next) (A : Record → Type 0) (Lt : Record → Record → Type 0) → ((x : Record) → A x → g x < n) → ((k : ℕ) → k < n → Least (λ x. A x × (g x ≡ k)) Lt (f k))
+first_least : (g : Record → ℕ) (n : ℕ) (f : ℕ → Option Record) (A : Record → Type 0) (Lt : Record → Record → Type 0) → ((x : Record) → A x → g x < n) → ((k : ℕ) → k < n → Least (λ x. A x × (g x ≡ k)) Lt (f k))
     → Least A (λ x y. (g x < g y) ⊎ ((g x ≡ g y) × Lt x y)) (first n f)
 first_least g n f A Lt bound each = (found, λ e x a. (each (g x) (bound x a)).1 (first_each n f e (g x) (bound x a)) x (a, refl))
   where
-    found : (r : Record) → first n f ≡ Step r → A r × ((x : Record) → A x → (g x < g r) ⊎ ((g x ≡ g r) × Lt x r) → ⊥)
+    found : (r : Record) → first n f ≡ Some r → A r × ((x : Record) → A x → (g x < g r) ⊎ ((g x ≡ g r) × Lt x r) → ⊥)
     found r e = (y.0.0, none)
       where
-        w : (k : ℕ) × (k < n) × (f k ≡ Step r) × ((j : ℕ) → j < k → f j ≡ Nothing)
+        w : (k : ℕ) × (k < n) × (f k ≡ Some r) × ((j : ℕ) → j < k → f j ≡ None)
         w = first_where n f r e
 
         y : (A r × (g r ≡ w.0)) × ((x : Record) → A x × (g x ≡ w.0) → Lt x r → ⊥)
@@ -228,7 +227,7 @@ module _ {P : Problem} {s : State} (F : Fits P s) where
   -- ---- the next step
 
   -- the step found is lawful, and no lawful record stands before it
-  pub next_least : (r : Record) → next P s ≡ Step r → FirstLawful P s r
+  pub next_least : (r : Record) → next P s ≡ Some r → FirstLawful P s r
   next_least r e = (next_lawful P s r e, none)
     where
       none : (x : Record) → T (lawful P s x) → Before x r → ⊥
@@ -237,24 +236,24 @@ module _ {P : Problem} {s : State} (F : Fits P s) where
           (search_least.0 r (sym (next_open P s (T_true (none_empty P s) y.0)) ∙ e)).1 x y.1 l
 
   -- nothing is found exactly where no record is lawful
-  pub next_nothing : (next P s ≡ Nothing) ↔ ((x : Record) → T (lawful P s x) → ⊥)
+  pub next_nothing : (next P s ≡ None) ↔ ((x : Record) → T (lawful P s x) → ⊥)
   next_nothing = (next_complete P s F, λ n. go n (next P s) refl)
     where
-      go : ((x : Record) → T (lawful P s x) → ⊥) → (y : Next) → next P s ≡ y → next P s ≡ Nothing
-      go n Nothing e = e
-      go n (Step r) e = absurd (n r (next_lawful P s r e))
+      go : ((x : Record) → T (lawful P s x) → ⊥) → (y : Option Record) → next P s ≡ y → next P s ≡ None
+      go n None e = e
+      go n (Some r) e = absurd (n r (next_lawful P s r e))
 
   -- no other step is: where a record is lawful and none stands before it, the search finds it
-  pub next_only : (r : Record) → FirstLawful P s r → next P s ≡ Step r
+  pub next_only : (r : Record) → FirstLawful P s r → next P s ≡ Some r
   next_only r h = go (next P s) refl
     where
-      go : (y : Next) → next P s ≡ y → next P s ≡ Step r
-      go Nothing e = absurd (next_nothing.0 e r h.0)
-      go (Step y) e = at (before_total y r)
+      go : (y : Option Record) → next P s ≡ y → next P s ≡ Some r
+      go None e = absurd (next_nothing.0 e r h.0)
+      go (Some y) e = at (before_total y r)
         where
-          at : Before y r ⊎ ((y ≡ r) ⊎ Before r y) → next P s ≡ Step r
+          at : Before y r ⊎ ((y ≡ r) ⊎ Before r y) → next P s ≡ Some r
           at (inl l) = absurd (h.1 y (next_lawful P s y e) l)
-          at (inr (inl q)) = e ∙ ap Step q
+          at (inr (inl q)) = e ∙ ap Some q
           at (inr (inr l)) = absurd ((next_least y e).1 r h.0 l)
 
 -- ---- the run

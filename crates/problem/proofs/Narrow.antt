@@ -1,5 +1,6 @@
 -- The slide rule of before keeps i among the items where e covers d. Wherever it holds a cover holds, and a cover is looked for before it:
 -- by that rulebook a run takes no slide. Assumes nothing.
+use Rattle.std.specs.Prelude.{Option, Some, None}
 use mathlib.Core.Path.{◌≡◌, refl, sym, subst, ◌∙◌}
 use mathlib.Core.Bool.{Bool, true, false}
 use mathlib.Core.List.{List, ◌∷◌, ◌++◌}
@@ -12,9 +13,6 @@ use Rattle.problem.specs.Run.{next_unsupported, next_snake, next_triangle, next_
 use Rattle.problem.specs.Record.{kind_of}
 use Rattle.problem.specs.declared.Record.{Record}
 use Rattle.problem.specs.declared.Record.TheVariants.{Unsupported, Snake, Triangle, Neighbourhood, SnakeSubstitution}
-use Rattle.problem.specs.declared.Break.{Break}
-use Rattle.problem.specs.declared.Break.TheVariants.{At, Nowhere}
-use Rattle.problem.specs.declared.Next.TheVariants.{Step, Nothing}
 use Rattle.problem.proofs.Reflect.{neighbourhood_iff, snake_substitution_iff}
 use Rattle.problem.specs.Sentences.{Allowed, Fits}
 use Rattle.problem.proofs.Spoiler.{break_iff}
@@ -29,9 +27,9 @@ module _ (P : Problem) {s : State} (F : Fits P s) where
   pub substitution_covered : (i b a : ℕ) → T (snake_substitution P s substitution_keeps i b a) → (k : ℕ) × (d : ℕ) × (e : ℕ) × T (neighbourhood P s k d e)
   substitution_covered i b a h = go (first_break P s i b a) ((break_iff F i b a (first_break P s i b a)).0 refl)
     where
-      go : (x : Break) → BreakSays P s i b a x → (k : ℕ) × (d : ℕ) × (e : ℕ) × T (neighbourhood P s k d e)
-      go Nowhere c = let x = (snake_substitution_iff F substitution_keeps i b a).0 h in (i, b, a, (neighbourhood_iff F i b a).1 (x.0, (x.1.0, (x.1.1.0, c))))
-      go (At k d) y =
+      go : (x : Option (ℕ × ℕ)) → BreakSays P s i b a x → (k : ℕ) × (d : ℕ) × (e : ℕ) × T (neighbourhood P s k d e)
+      go None c = let x = (snake_substitution_iff F substitution_keeps i b a).0 h in (i, b, a, (neighbourhood_iff F i b a).1 (x.0, (x.1.0, (x.1.1.0, c))))
+      go (Some (k, d)) y =
           let l = y.0.0 in
           let c = y.1.0 in
           let z = ((snake_substitution_iff F substitution_keeps i b a).0 h).1.1.1 k l.0 l.1.0 d c.0 c.1.0 in
@@ -44,7 +42,7 @@ abbrev Low : Record → Type 0
 Low r = kind_of r < 5
 
 module _ (P : Problem) (s : State) where
-  kind_low : (k : ℕ) → k < 5 → (r : Record) → next_of_kind_by before_four P s k ≡ Step r → Low r
+  kind_low : (k : ℕ) → k < 5 → (r : Record) → next_of_kind_by before_four P s k ≡ Some r → Low r
   unfolding next_of_kind_by next_unsupported next_snake next_triangle next_neighbourhood
   kind_low zero l r e = absurd (never e)
   kind_low (suc zero) l r e = first_found Low _ _ (λ i. first_found Low _ _ (λ b. first_found Low _ _ (λ k. step_if_found Low (unsupported P s i b k) (Unsupported i b k) (λ t. omega arith)))) r e
@@ -55,7 +53,7 @@ module _ (P : Problem) (s : State) where
 
 module _ (P : Problem) {s : State} (F : Fits P s) where
   -- where no cover is found no slide is
-  substitution_never : next_neighbourhood P s ≡ Nothing → (r : Record) → next_snake_substitution_by before_four P s ≡ Step r → ⊥
+  substitution_never : next_neighbourhood P s ≡ None → (r : Record) → next_snake_substitution_by before_four P s ≡ Some r → ⊥
   unfolding next_snake_substitution_by
   substitution_never n = first_found Never _ _ (λ i. first_found Never _ _ (λ b. first_found Never _ _ (λ a. step_if_found Never (snake_substitution P s substitution_keeps i b a) (SnakeSubstitution i b a) (λ h. none i b a h))))
     where
@@ -66,12 +64,12 @@ module _ (P : Problem) {s : State} (F : Fits P s) where
       none i b a h = let x = substitution_covered P F i b a h in neighbourhood_complete P s F n x.0 x.1 x.2 x.3
 
   -- the next step is found at one of the kinds before the slide
-  pub next_early : (r : Record) → next_by before_four P s ≡ Step r
-      → (none_empty P s ≡ true) × ((k : ℕ) × (k < 5) × (next_of_kind_by before_four P s k ≡ Step r) × ((j : ℕ) → j < k → next_of_kind_by before_four P s j ≡ Nothing))
+  pub next_early : (r : Record) → next_by before_four P s ≡ Some r
+      → (none_empty P s ≡ true) × ((k : ℕ) × (k < 5) × (next_of_kind_by before_four P s k ≡ Some r) × ((j : ℕ) → j < k → next_of_kind_by before_four P s j ≡ None))
   unfolding next_of_kind_by
   next_early r e = by_empty (none_empty P s) refl
     where
-      at : (k : ℕ) → k < kind_bound → next_of_kind_by before_four P s k ≡ Step r → ((j : ℕ) → j < k → next_of_kind_by before_four P s j ≡ Nothing) → k < 5
+      at : (k : ℕ) → k < kind_bound → next_of_kind_by before_four P s k ≡ Some r → ((j : ℕ) → j < k → next_of_kind_by before_four P s j ≡ None) → k < 5
       at zero l f h = omega arith
       at (suc zero) l f h = omega arith
       at (suc (suc zero)) l f h = omega arith
@@ -80,7 +78,7 @@ module _ (P : Problem) {s : State} (F : Fits P s) where
       at (suc (suc (suc (suc (suc zero))))) l f h = absurd (substitution_never (h 4 (omega arith)) r f)
       at (suc (suc (suc (suc (suc (suc k)))))) l f h = absurd (never f)
 
-      by_empty : (b : Bool) → none_empty P s ≡ b → (none_empty P s ≡ true) × ((k : ℕ) × (k < 5) × (next_of_kind_by before_four P s k ≡ Step r) × ((j : ℕ) → j < k → next_of_kind_by before_four P s j ≡ Nothing))
+      by_empty : (b : Bool) → none_empty P s ≡ b → (none_empty P s ≡ true) × ((k : ℕ) × (k < 5) × (next_of_kind_by before_four P s k ≡ Some r) × ((j : ℕ) → j < k → next_of_kind_by before_four P s j ≡ None))
       by_empty true p = let x = first_where kind_bound (next_of_kind_by before_four P s) r (sym (next_by_open before_four P s p) ∙ e) in (p, (x.0, at x.0 x.1 x.2 x.3, x.2, x.3))
       by_empty false p = absurd (never (sym (next_by_shut before_four P s p) ∙ e))
 

@@ -1,4 +1,5 @@
 -- Each test of specs/Problem.antt holds exactly where its sentence of specs/Sentences.antt does, in a state that fits. Assumes nothing.
+use Rattle.std.specs.Prelude.{Option, None}
 use mathlib.Core.Path.{◌≡◌, refl, sym, subst}
 use mathlib.Core.Bool.{Bool, true, false, not, ◌&&◌}
 use mathlib.Core.Logic.Iff
@@ -10,8 +11,6 @@ use Rattle.bounded.proofs.Truth.{T_dec, and_iff, imp_iff, imp_fails, not_iff, eq
 use Rattle.bounded.proofs.Quantifiers.{all_iff, any_iff, all_or, lowest_is}
 use Rattle.problem.specs.Problem.{Problem, State, full, max_variables, max_values, all_active, all_live, any_live, lowest_live, all_other, all_third, state_fits, none_empty, unspoilt, spoils, spoiler, unsupported, snake_serves, snake, triangle_serves, triangle, neighbourhood, substitution_serves, snake_substitution, remove, eliminate}
 use Rattle.problem.specs.Sentences.{Active, Live, Allowed, Fits, Spoils, Substitutes, Unsupported, SnakeServes, Snake, TriangleServes, Triangle, Neighbourhood, SubstitutionServes, SnakeSubstitution, Supported, ArcConsistent, Finished, NoneEmpty}
-use Rattle.problem.specs.declared.Cover.{Cover}
-use Rattle.problem.specs.declared.Cover.TheVariants.{Holds}
 use Rattle.problem.specs.Hand.{supported, arc_consistent, finished}
 
 pub turn : (P : Problem) (i a j b : ℕ) → Allowed P i a j b → Allowed P j b i a
@@ -77,11 +76,11 @@ all_active_or P s f = elim (all_or P.n (λ l. imp (s.active l) (f l))) [ inl t �
 -- ---- the rules and their tests
 
 -- whatever setting is answered, it says that the cover does not hold
-unspoilt_at : (n : ℕ) (f : ℕ → Bool) (g : ℕ → Cover) → ((c : ℕ) → unspoilt (g c) ≡ false) → unspoilt (at_lowest n f g Holds) ≡ not (any_below n f)
+unspoilt_at : (n : ℕ) (f : ℕ → Bool) (g : ℕ → Option ℕ) → ((c : ℕ) → unspoilt (g c) ≡ false) → unspoilt (at_lowest n f g None) ≡ not (any_below n f)
 unfolding at_lowest
 unspoilt_at n f g h = go (any_below n f)
   where
-    go : (x : Bool) → unspoilt (elim x [ true ↦ g (lowest n f) | false ↦ Holds ]) ≡ not x
+    go : (x : Bool) → unspoilt (elim x [ true ↦ g (lowest n f) | false ↦ None ]) ≡ not x
     go true = h (lowest n f)
     go false = refl
 

@@ -1,4 +1,5 @@
 -- The search for the next step is complete, kind by kind; the run's records are lawful and it goes on until no rule holds. Assumes nothing.
+use Rattle.std.specs.Prelude.{Option, Some, None}
 use mathlib.Core.Path.{◌≡◌, refl, sym, ap, subst, ◌∙◌}
 use mathlib.Core.Bool.{Bool, true, false}
 use mathlib.Core.List.{List, [], ◌∷◌, ◌++◌}
@@ -16,8 +17,6 @@ use Rattle.problem.specs.Rulebook.{Rulebook, in_force}
 use Rattle.problem.specs.Run.{holds_by, lawful_by, lawful, after, lawful_trace_by, lawful_trace, after_trace, step_if, first, next_unsupported, next_snake, next_triangle, next_neighbourhood, next_snake_substitution_by, kind_bound, next_of_kind_by, next_of_kind, next_by, next, run_from_by, run_from, run_by, run, end_of}
 use Rattle.problem.specs.declared.Record.{Record}
 use Rattle.problem.specs.declared.Record.TheVariants.{Unsupported, Snake, Triangle, Neighbourhood, SnakeSubstitution}
-use Rattle.problem.specs.declared.Next.{Next}
-use Rattle.problem.specs.declared.Next.TheVariants.{Step, Nothing}
 use Rattle.problem.specs.declared.End.TheVariants.{Impossible, Solved, Rest}
 use Rattle.problem.proofs.Reflect.{all_active_or, any_live_iff, none_empty_iff, unsupported_iff, snake_iff, triangle_iff, neighbourhood_iff, snake_substitution_iff}
 use Rattle.problem.specs.Sentences.{EndSays, Active, Fits}
@@ -25,58 +24,58 @@ use Rattle.problem.proofs.Trace.{after_fits, trace_fits, step_by_falls, lawful_b
 
 -- ---- searching
 
-pub never : {r : Record} → Nothing ≡ Step r → ⊥
+pub never : {r : Record} → None ≡ Some r → ⊥
 never e = let z : ◌≡◌ {A = ℕ} 0 1 = cc in omega arith
 
-never_step : {r : Record} → Step r ≡ Nothing → ⊥
+never_step : {r : Record} → Some r ≡ None → ⊥
 never_step e = let z : ◌≡◌ {A = ℕ} 0 1 = cc in omega arith
 
-same_step : {r x : Record} → Step r ≡ Step x → r ≡ x
+same_step : {r x : Record} → Some r ≡ Some x → r ≡ x
 same_step e = cc
 
 -- what is found is found somewhere, so what holds of every step found holds of it
-pub first_found : (Q : Record → Type 0) (n : ℕ) (f : ℕ → Next) → ((k : ℕ) (r : Record) → f k ≡ Step r → Q r) → (r : Record) → first n f ≡ Step r → Q r
+pub first_found : (Q : Record → Type 0) (n : ℕ) (f : ℕ → Option Record) → ((k : ℕ) (r : Record) → f k ≡ Some r → Q r) → (r : Record) → first n f ≡ Some r → Q r
 unfolding first
 first_found Q zero f h r e = absurd (never e)
 first_found Q (suc n) f h r e = go (f zero) refl e (first_found Q n (λ k. f (suc k)) (λ k. h (suc k)) r)
   where
-    go : (x : Next) → f zero ≡ x → (elim x as (λ y. Next) [ Step r ↦ Step r | Nothing ↦ first n (λ k. f (suc k)) ]) ≡ Step r → (first n (λ k. f (suc k)) ≡ Step r → Q r) → Q r
-    go Nothing p e ih = ih e
-    go (Step x) p e ih = h zero r (p ∙ e)
+    go : (x : Option Record) → f zero ≡ x → (elim x as (λ y. Option Record) [ Some r ↦ Some r | None ↦ first n (λ k. f (suc k)) ]) ≡ Some r → (first n (λ k. f (suc k)) ≡ Some r → Q r) → Q r
+    go None p e ih = ih e
+    go (Some x) p e ih = h zero r (p ∙ e)
 
-pub step_if_found : (Q : Record → Type 0) (b : Bool) (r : Record) → (T b → Q r) → (x : Record) → step_if b r ≡ Step x → Q x
+pub step_if_found : (Q : Record → Type 0) (b : Bool) (r : Record) → (T b → Q r) → (x : Record) → step_if b r ≡ Some x → Q x
 unfolding step_if
 step_if_found Q true r h x e = subst Q (same_step e) (h tt)
 step_if_found Q false r h x e = absurd (never e)
 
 -- where none is found there is none anywhere
-pub first_each : (n : ℕ) (f : ℕ → Next) → first n f ≡ Nothing → (k : ℕ) → k < n → f k ≡ Nothing
+pub first_each : (n : ℕ) (f : ℕ → Option Record) → first n f ≡ None → (k : ℕ) → k < n → f k ≡ None
 unfolding first
 first_each zero f e k h = absurd (not-suc-le-zero h)
 first_each (suc n) f e k h = go (f zero) refl e k h (first_each n (λ k. f (suc k)))
   where
-    go : (x : Next) → f zero ≡ x → ◌≡◌ {A = Next} (elim x as (λ y. Next) [ Step r ↦ Step r | Nothing ↦ first n (λ k. f (suc k)) ]) Nothing → (k : ℕ) → k < suc n → (first n (λ k. f (suc k)) ≡ Nothing → (k : ℕ) → k < n → f (suc k) ≡ Nothing) → f k ≡ Nothing
-    go Nothing p e zero h ih = p
-    go Nothing p e (suc k) h ih = ih e k (le_of_suc-le-suc h)
-    go (Step x) p e k h ih = absurd (never_step e)
+    go : (x : Option Record) → f zero ≡ x → ◌≡◌ {A = Option Record} (elim x as (λ y. Option Record) [ Some r ↦ Some r | None ↦ first n (λ k. f (suc k)) ]) None → (k : ℕ) → k < suc n → (first n (λ k. f (suc k)) ≡ None → (k : ℕ) → k < n → f (suc k) ≡ None) → f k ≡ None
+    go None p e zero h ih = p
+    go None p e (suc k) h ih = ih e k (le_of_suc-le-suc h)
+    go (Some x) p e k h ih = absurd (never_step e)
 
 -- where a step is found, and that nothing is found before
-pub first_where : (n : ℕ) (f : ℕ → Next) (r : Record) → first n f ≡ Step r → (k : ℕ) × (k < n) × (f k ≡ Step r) × ((j : ℕ) → j < k → f j ≡ Nothing)
+pub first_where : (n : ℕ) (f : ℕ → Option Record) (r : Record) → first n f ≡ Some r → (k : ℕ) × (k < n) × (f k ≡ Some r) × ((j : ℕ) → j < k → f j ≡ None)
 unfolding first
 first_where zero f r e = absurd (never e)
 first_where (suc n) f r e = go (f zero) refl e (first_where n (λ k. f (suc k)) r)
   where
-    go : (x : Next) → f zero ≡ x → (elim x as (λ y. Next) [ Step r ↦ Step r | Nothing ↦ first n (λ k. f (suc k)) ]) ≡ Step r
-        → (first n (λ k. f (suc k)) ≡ Step r → (k : ℕ) × (k < n) × (f (suc k) ≡ Step r) × ((j : ℕ) → j < k → f (suc j) ≡ Nothing))
-        → (k : ℕ) × (k < suc n) × (f k ≡ Step r) × ((j : ℕ) → j < k → f j ≡ Nothing)
-    go (Step x) p e ih = (zero, omega arith, p ∙ e, λ j l. absurd (not-suc-le-zero l))
-    go Nothing p e ih = let y = ih e in (suc y.0, omega (arith, y.1), y.2, before y.0 y.3)
+    go : (x : Option Record) → f zero ≡ x → (elim x as (λ y. Option Record) [ Some r ↦ Some r | None ↦ first n (λ k. f (suc k)) ]) ≡ Some r
+        → (first n (λ k. f (suc k)) ≡ Some r → (k : ℕ) × (k < n) × (f (suc k) ≡ Some r) × ((j : ℕ) → j < k → f (suc j) ≡ None))
+        → (k : ℕ) × (k < suc n) × (f k ≡ Some r) × ((j : ℕ) → j < k → f j ≡ None)
+    go (Some x) p e ih = (zero, omega arith, p ∙ e, λ j l. absurd (not-suc-le-zero l))
+    go None p e ih = let y = ih e in (suc y.0, omega (arith, y.1), y.2, before y.0 y.3)
       where
-        before : (k : ℕ) → ((j : ℕ) → j < k → f (suc j) ≡ Nothing) → (j : ℕ) → j < suc k → f j ≡ Nothing
+        before : (k : ℕ) → ((j : ℕ) → j < k → f (suc j) ≡ None) → (j : ℕ) → j < suc k → f j ≡ None
         before k h zero l = p
         before k h (suc j) l = h j (le_of_suc-le-suc l)
 
-pub step_if_none : (b : Bool) (r : Record) → step_if b r ≡ Nothing → T b → ⊥
+pub step_if_none : (b : Bool) (r : Record) → step_if b r ≡ None → T b → ⊥
 unfolding step_if
 step_if_none true r e t = never_step e
 step_if_none false r e t = t
@@ -84,26 +83,26 @@ step_if_none false r e t = t
 module _ (P : Problem) (s : State) where
   -- ---- kinds 1 to 4, which read no slide: where no step is found none holds, whatever its fields
 
-  unsupported_complete : Fits P s → next_unsupported P s ≡ Nothing → (i b k : ℕ) → T (unsupported P s i b k) → ⊥
+  unsupported_complete : Fits P s → next_unsupported P s ≡ None → (i b k : ℕ) → T (unsupported P s i b k) → ⊥
   unfolding next_unsupported
   unsupported_complete F e i b k h =
       let x = (unsupported_iff F i b k).0 h in
       step_if_none (unsupported P s i b k) (Unsupported i b k)
       (first_each _ _ (first_each _ _ (first_each _ _ e i (F.active_lt i (F.live_active i b x.0))) b (F.live_lt i b x.0)) k (F.active_lt k x.1)) h
 
-  snake_complete : Fits P s → next_snake P s ≡ Nothing → (i v : ℕ) → T (snake P s i v) → ⊥
+  snake_complete : Fits P s → next_snake P s ≡ None → (i v : ℕ) → T (snake P s i v) → ⊥
   unfolding next_snake
   snake_complete F e i v h =
       let x = (snake_iff F i v).0 h in
       step_if_none (snake P s i v) (Snake i v) (first_each _ _ (first_each _ _ e i (F.active_lt i (F.live_active i v x.0))) v (F.live_lt i v x.0)) h
 
-  triangle_complete : Fits P s → next_triangle P s ≡ Nothing → (i j : ℕ) → T (triangle P s i j) → ⊥
+  triangle_complete : Fits P s → next_triangle P s ≡ None → (i j : ℕ) → T (triangle P s i j) → ⊥
   unfolding next_triangle
   triangle_complete F e i j h =
       let x = (triangle_iff F i j).0 h in
       step_if_none (triangle P s i j) (Triangle i j) (first_each _ _ (first_each _ _ e i (F.active_lt i x.0)) j (F.active_lt j x.1.0)) h
 
-  pub neighbourhood_complete : Fits P s → next_neighbourhood P s ≡ Nothing → (i b a : ℕ) → T (neighbourhood P s i b a) → ⊥
+  pub neighbourhood_complete : Fits P s → next_neighbourhood P s ≡ None → (i b a : ℕ) → T (neighbourhood P s i b a) → ⊥
   unfolding next_neighbourhood
   neighbourhood_complete F e i b a h =
       let x = (neighbourhood_iff F i b a).0 h in
@@ -119,27 +118,27 @@ module _ (book : Rulebook) (P : Problem) (s : State) where
 
   -- ---- each kind: a step that is found holds; and the slide as kinds 1 to 4
 
-  unsupported_found : (r : Record) → next_unsupported P s ≡ Step r → Holds r
+  unsupported_found : (r : Record) → next_unsupported P s ≡ Some r → Holds r
   unfolding next_unsupported holds_by
   unsupported_found = first_found Holds _ _ (λ i. first_found Holds _ _ (λ b. first_found Holds _ _ (λ k. step_if_found Holds (unsupported P s i b k) (Unsupported i b k) (λ t. t))))
 
-  snake_found : (r : Record) → next_snake P s ≡ Step r → Holds r
+  snake_found : (r : Record) → next_snake P s ≡ Some r → Holds r
   unfolding next_snake holds_by
   snake_found = first_found Holds _ _ (λ i. first_found Holds _ _ (λ v. step_if_found Holds (snake P s i v) (Snake i v) (λ t. t)))
 
-  triangle_found : (r : Record) → next_triangle P s ≡ Step r → Holds r
+  triangle_found : (r : Record) → next_triangle P s ≡ Some r → Holds r
   unfolding next_triangle holds_by
   triangle_found = first_found Holds _ _ (λ i. first_found Holds _ _ (λ j. step_if_found Holds (triangle P s i j) (Triangle i j) (λ t. t)))
 
-  neighbourhood_found : (r : Record) → next_neighbourhood P s ≡ Step r → Holds r
+  neighbourhood_found : (r : Record) → next_neighbourhood P s ≡ Some r → Holds r
   unfolding next_neighbourhood holds_by
   neighbourhood_found = first_found Holds _ _ (λ i. first_found Holds _ _ (λ b. first_found Holds _ _ (λ a. step_if_found Holds (neighbourhood P s i b a) (Neighbourhood i b a) (λ t. t))))
 
-  substitution_found : (r : Record) → next_snake_substitution_by book P s ≡ Step r → Holds r
+  substitution_found : (r : Record) → next_snake_substitution_by book P s ≡ Some r → Holds r
   unfolding next_snake_substitution_by holds_by
   substitution_found = first_found Holds _ _ (λ i. first_found Holds _ _ (λ b. first_found Holds _ _ (λ a. step_if_found Holds (snake_substitution P s book.spares i b a) (SnakeSubstitution i b a) (λ t. t))))
 
-  substitution_complete : Fits P s → next_snake_substitution_by book P s ≡ Nothing → (i b a : ℕ) → T (snake_substitution P s book.spares i b a) → ⊥
+  substitution_complete : Fits P s → next_snake_substitution_by book P s ≡ None → (i b a : ℕ) → T (snake_substitution P s book.spares i b a) → ⊥
   unfolding next_snake_substitution_by
   substitution_complete F e i b a h =
       let x = (snake_substitution_iff F book.spares i b a).0 h in
@@ -148,7 +147,7 @@ module _ (book : Rulebook) (P : Problem) (s : State) where
 
   -- ---- the kinds joined
 
-  kind_by_found : (k : ℕ) (r : Record) → next_of_kind_by book P s k ≡ Step r → Holds r
+  kind_by_found : (k : ℕ) (r : Record) → next_of_kind_by book P s k ≡ Some r → Holds r
   unfolding next_of_kind_by
   kind_by_found zero r e = absurd (never e)
   kind_by_found (suc zero) r e = unsupported_found r e
@@ -163,11 +162,11 @@ module _ (book : Rulebook) (P : Problem) (s : State) where
   unfolding next_by
   next_by_open e = rw (e, next_by)
 
-  pub next_by_shut : none_empty P s ≡ false → next_by book P s ≡ Nothing
+  pub next_by_shut : none_empty P s ≡ false → next_by book P s ≡ None
   unfolding next_by
   next_by_shut e = rw (e, next_by)
 
-  pub next_by_lawful : (r : Record) → next_by book P s ≡ Step r → T (lawful_by book P s r)
+  pub next_by_lawful : (r : Record) → next_by book P s ≡ Some r → T (lawful_by book P s r)
   next_by_lawful r e = go (none_empty P s) refl
     where
       go : (b : Bool) → none_empty P s ≡ b → T (lawful_by book P s r)
@@ -175,14 +174,14 @@ module _ (book : Rulebook) (P : Problem) (s : State) where
       go false p = absurd (never (sym (next_by_shut p) ∙ e))
 
   -- where no step is found, no record of any kind with any fields is lawful
-  pub next_by_complete : Fits P s → next_by book P s ≡ Nothing → (r : Record) → T (lawful_by book P s r) → ⊥
+  pub next_by_complete : Fits P s → next_by book P s ≡ None → (r : Record) → T (lawful_by book P s r) → ⊥
   unfolding holds_by next_of_kind_by
   next_by_complete F e r t = by_kind r x.1
     where
       x : T (none_empty P s) × T (holds_by book P s r)
       x = (lawful_by_iff book P s r).0 t
 
-      none : (k : ℕ) → k < kind_bound → next_of_kind_by book P s k ≡ Nothing
+      none : (k : ℕ) → k < kind_bound → next_of_kind_by book P s k ≡ None
       none = first_each kind_bound (next_of_kind_by book P s) (sym (next_by_open (T_true (none_empty P s) x.0)) ∙ e)
 
       by_kind : (r : Record) → T (holds_by book P s r) → ⊥
@@ -198,13 +197,13 @@ module _ (P : Problem) (s : State) where
   pub next_open : none_empty P s ≡ true → next P s ≡ first kind_bound (next_of_kind P s)
   next_open = next_by_open in_force P s
 
-  pub next_shut : none_empty P s ≡ false → next P s ≡ Nothing
+  pub next_shut : none_empty P s ≡ false → next P s ≡ None
   next_shut = next_by_shut in_force P s
 
-  pub next_lawful : (r : Record) → next P s ≡ Step r → T (lawful P s r)
+  pub next_lawful : (r : Record) → next P s ≡ Some r → T (lawful P s r)
   next_lawful = next_by_lawful in_force P s
 
-  pub next_complete : Fits P s → next P s ≡ Nothing → (r : Record) → T (lawful P s r) → ⊥
+  pub next_complete : Fits P s → next P s ≡ None → (r : Record) → T (lawful P s r) → ⊥
   next_complete = next_by_complete in_force P s
 
 -- ---- the run
@@ -215,41 +214,41 @@ not_nil [] u r e = let z : ◌≡◌ {A = ℕ} 0 1 = cc in omega arith
 not_nil (x ∷ t) u r e = let z : ◌≡◌ {A = ℕ} 0 1 = cc in omega arith
 
 module _ (book : Rulebook) (P : Problem) where
-  pub run_by_step : (f : ℕ) (s : State) (r : Record) → next_by book P s ≡ Step r → run_from_by book (suc f) P s ≡ r ∷ run_from_by book f P (after P s r)
+  pub run_by_step : (f : ℕ) (s : State) (r : Record) → next_by book P s ≡ Some r → run_from_by book (suc f) P s ≡ r ∷ run_from_by book f P (after P s r)
   unfolding run_from_by
   run_by_step f s r e = rw (e, run_from_by)
 
-  pub run_by_stop : (f : ℕ) (s : State) → next_by book P s ≡ Nothing → run_from_by book f P s ≡ []
+  pub run_by_stop : (f : ℕ) (s : State) → next_by book P s ≡ None → run_from_by book f P s ≡ []
   unfolding run_from_by
   run_by_stop zero s e = refl
   run_by_stop (suc f) s e = rw (e, run_from_by)
 
-  run_by_ends : (f : ℕ) (s : State) → Fits P s → live_count P s < f → next_by book P (after_trace P s (run_from_by book f P s)) ≡ Nothing
+  run_by_ends : (f : ℕ) (s : State) → Fits P s → live_count P s < f → next_by book P (after_trace P s (run_from_by book f P s)) ≡ None
   unfolding run_from_by after_trace
   run_by_ends zero s F h = absurd (not-suc-le-zero h)
   run_by_ends (suc f) s F h = go (next_by book P s) refl (λ q. run_by_ends f q)
     where
-      go : (x : Next) → next_by book P s ≡ x → ((q : State) → Fits P q → live_count P q < f → next_by book P (after_trace P q (run_from_by book f P q)) ≡ Nothing) → next_by book P (after_trace P s (run_from_by book (suc f) P s)) ≡ Nothing
-      go Nothing e ih = rw (run_by_stop (suc f) s e) e
-      go (Step r) e ih = rw (run_by_step f s r e) (ih (after P s r) (after_fits P F r) (omega (arith, step_by_falls book P F r (next_by_lawful book P s r e))))
+      go : (x : Option Record) → next_by book P s ≡ x → ((q : State) → Fits P q → live_count P q < f → next_by book P (after_trace P q (run_from_by book f P q)) ≡ None) → next_by book P (after_trace P s (run_from_by book (suc f) P s)) ≡ None
+      go None e ih = rw (run_by_stop (suc f) s e) e
+      go (Some r) e ih = rw (run_by_step f s r e) (ih (after P s r) (after_fits P F r) (omega (arith, step_by_falls book P F r (next_by_lawful book P s r e))))
 
-  run_by_next_from : (f : ℕ) (s : State) (t : List Record) (r : Record) (u : List Record) → run_from_by book f P s ≡ t ++ (r ∷ u) → next_by book P (after_trace P s t) ≡ Step r
+  run_by_next_from : (f : ℕ) (s : State) (t : List Record) (r : Record) (u : List Record) → run_from_by book f P s ≡ t ++ (r ∷ u) → next_by book P (after_trace P s t) ≡ Some r
   unfolding run_from_by after_trace
   run_by_next_from zero s t r u e = absurd (not_nil t u r e)
   run_by_next_from (suc f) s t r u e = go (next_by book P s) refl (λ q. run_by_next_from f q) t e
     where
-      go : (x : Next) → next_by book P s ≡ x → ((q : State) (t : List Record) (r : Record) (u : List Record) → run_from_by book f P q ≡ t ++ (r ∷ u) → next_by book P (after_trace P q t) ≡ Step r)
-          → (t : List Record) → run_from_by book (suc f) P s ≡ t ++ (r ∷ u) → next_by book P (after_trace P s t) ≡ Step r
-      go Nothing p ih t e = absurd (not_nil t u r (sym (run_by_stop (suc f) s p) ∙ e))
-      go (Step x) p ih [] e = let z = sym (run_by_step f s x p) ∙ e in let same : x ≡ r = cc in p ∙ ap Step same
-      go (Step x) p ih (y ∷ t) e =
+      go : (x : Option Record) → next_by book P s ≡ x → ((q : State) (t : List Record) (r : Record) (u : List Record) → run_from_by book f P q ≡ t ++ (r ∷ u) → next_by book P (after_trace P q t) ≡ Some r)
+          → (t : List Record) → run_from_by book (suc f) P s ≡ t ++ (r ∷ u) → next_by book P (after_trace P s t) ≡ Some r
+      go None p ih t e = absurd (not_nil t u r (sym (run_by_stop (suc f) s p) ∙ e))
+      go (Some x) p ih [] e = let z = sym (run_by_step f s x p) ∙ e in let same : x ≡ r = cc in p ∙ ap Some same
+      go (Some x) p ih (y ∷ t) e =
           let z = sym (run_by_step f s x p) ∙ e in
           let same : x ≡ y = cc in
           let rest : run_from_by book f P (after P s x) ≡ t ++ (r ∷ u) = cc in
-          subst (λ (w : Record). next_by book P (after_trace P (after P s w) t) ≡ Step r) same (ih (after P s x) t r u rest)
+          subst (λ (w : Record). next_by book P (after_trace P (after P s w) t) ≡ Some r) same (ih (after P s x) t r u rest)
 
   -- every record of the run is the next step of the state that it was taken in
-  pub run_by_next : (s : State) (before : List Record) (r : Record) (rest : List Record) → run_by book P s ≡ before ++ (r ∷ rest) → next_by book P (after_trace P s before) ≡ Step r
+  pub run_by_next : (s : State) (before : List Record) (r : Record) (rest : List Record) → run_by book P s ≡ before ++ (r ∷ rest) → next_by book P (after_trace P s before) ≡ Some r
   unfolding run_by
   run_by_next s = run_by_next_from (suc (live_count P s)) s
 
@@ -265,21 +264,21 @@ module _ (book : Rulebook) (P : Problem) where
   run_by_enough (suc f) zero s F h k = absurd (not-suc-le-zero k)
   run_by_enough (suc f) (suc g) s F h k = go (next_by book P s) refl (λ q. run_by_enough f g q)
     where
-      go : (x : Next) → next_by book P s ≡ x → ((q : State) → Fits P q → live_count P q < f → live_count P q < g → run_from_by book f P q ≡ run_from_by book g P q) → run_from_by book (suc f) P s ≡ run_from_by book (suc g) P s
-      go Nothing e ih = run_by_stop (suc f) s e ∙ sym (run_by_stop (suc g) s e)
-      go (Step r) e ih =
+      go : (x : Option Record) → next_by book P s ≡ x → ((q : State) → Fits P q → live_count P q < f → live_count P q < g → run_from_by book f P q ≡ run_from_by book g P q) → run_from_by book (suc f) P s ≡ run_from_by book (suc g) P s
+      go None e ih = run_by_stop (suc f) s e ∙ sym (run_by_stop (suc g) s e)
+      go (Some r) e ih =
           let l = step_by_falls book P F r (next_by_lawful book P s r e) in
           run_by_step f s r e ∙ ap (λ (t : List Record). r ∷ t) (ih (after P s r) (after_fits P F r) (omega arith) (omega arith)) ∙ sym (run_by_step g s r e)
 
 module _ (P : Problem) where
-  pub run_step : (f : ℕ) (s : State) (r : Record) → next P s ≡ Step r → run_from (suc f) P s ≡ r ∷ run_from f P (after P s r)
+  pub run_step : (f : ℕ) (s : State) (r : Record) → next P s ≡ Some r → run_from (suc f) P s ≡ r ∷ run_from f P (after P s r)
   run_step = run_by_step in_force P
 
-  pub run_stop : (f : ℕ) (s : State) → next P s ≡ Nothing → run_from f P s ≡ []
+  pub run_stop : (f : ℕ) (s : State) → next P s ≡ None → run_from f P s ≡ []
   run_stop = run_by_stop in_force P
 
   -- every record of the run is the next step of the state that it was taken in
-  pub run_next : (s : State) (before : List Record) (r : Record) (rest : List Record) → run P s ≡ before ++ (r ∷ rest) → next P (after_trace P s before) ≡ Step r
+  pub run_next : (s : State) (before : List Record) (r : Record) (rest : List Record) → run P s ≡ before ++ (r ∷ rest) → next P (after_trace P s before) ≡ Some r
   run_next = run_by_next in_force P
 
   -- the run stops only where no record of any kind with any fields is lawful
@@ -291,9 +290,9 @@ module _ (P : Problem) where
   run_from_lawful zero s = tt
   run_from_lawful (suc f) s = go (next P s) refl (λ q. run_from_lawful f q)
     where
-      go : (x : Next) → next P s ≡ x → ((q : State) → T (lawful_trace P q (run_from f P q))) → T (lawful_trace P s (run_from (suc f) P s))
-      go Nothing e ih = rw (run_stop (suc f) s e) tt
-      go (Step r) e ih = rw (run_step f s r e) ((trace_iff P s r (run_from f P (after P s r))).1 (next_lawful P s r e, ih (after P s r)))
+      go : (x : Option Record) → next P s ≡ x → ((q : State) → T (lawful_trace P q (run_from f P q))) → T (lawful_trace P s (run_from (suc f) P s))
+      go None e ih = rw (run_stop (suc f) s e) tt
+      go (Some r) e ih = rw (run_step f s r e) ((trace_iff P s r (run_from f P (after P s r))).1 (next_lawful P s r e, ih (after P s r)))
 
   -- any number of steps that is large enough gives the same run
   pub run_enough : (f g : ℕ) (s : State) → Fits P s → live_count P s < f → live_count P s < g → run_from f P s ≡ run_from g P s

@@ -1,5 +1,6 @@
 -- The rulebook after request Four against the one before it. Its slide is wider, so what was lawful is lawful; and a run goes as it went, to
 -- its end, and from there on only by a slide that was not lawful. Assumes nothing.
+use Rattle.std.specs.Prelude.{Option, Some, None}
 use mathlib.Core.Path.{◌≡◌, refl, ap, subst, ◌∙◌}
 use mathlib.Core.List.{List, [], ◌∷◌, ◌++◌}
 use mathlib.Core.Logic.{◌⊎◌, inl, inr}
@@ -12,8 +13,6 @@ use Rattle.problem.specs.Rulebook.{before_four, after_four}
 use Rattle.problem.specs.Run.{holds_by, lawful_by, after, lawful_trace_by, after_trace, kind_bound, next_of_kind_by, next_by, run_from_by, run_by}
 use Rattle.problem.specs.declared.Record.{Record}
 use Rattle.problem.specs.declared.Record.TheVariants.{Unsupported, Snake, Triangle, Neighbourhood, SnakeSubstitution}
-use Rattle.problem.specs.declared.Next.{Next}
-use Rattle.problem.specs.declared.Next.TheVariants.{Step, Nothing}
 use Rattle.problem.proofs.Reflect.{snake_substitution_iff}
 use Rattle.problem.specs.Sentences.{Fits}
 use Rattle.problem.proofs.Trace.{after_fits, trace_fits, step_by_falls, lawful_by_iff, trace_by_iff}
@@ -77,7 +76,7 @@ module _ (P : Problem) where
   kinds_alike s (suc (suc (suc (suc (suc k))))) l = absurd (omega arith)
 
   -- the step that was next is next
-  pub next_stays : {s : State} → Fits P s → (r : Record) → next_by before_four P s ≡ Step r → next_by after_four P s ≡ Step r
+  pub next_stays : {s : State} → Fits P s → (r : Record) → next_by before_four P s ≡ Some r → next_by after_four P s ≡ Some r
   next_stays {s} F r e =
       let x = next_early P F r e in
       let k = x.1 in
@@ -97,11 +96,11 @@ module _ (P : Problem) where
   extends_from zero s F h = absurd (not-suc-le-zero h)
   extends_from (suc f) s F h = go (next_by before_four P s) refl (λ q. extends_from f q)
     where
-      go : (x : Next) → next_by before_four P s ≡ x
+      go : (x : Option Record) → next_by before_four P s ≡ x
           → ((q : State) → Fits P q → live_count P q < f → run_from_by after_four f P q ≡ run_from_by before_four f P q ++ run_by after_four P (after_trace P q (run_from_by before_four f P q)))
           → run_from_by after_four (suc f) P s ≡ run_from_by before_four (suc f) P s ++ run_by after_four P (after_trace P s (run_from_by before_four (suc f) P s))
-      go Nothing e ih = rw (run_by_stop before_four P (suc f) s e) (run_whole (suc f) s F h)
-      go (Step r) e ih =
+      go None e ih = rw (run_by_stop before_four P (suc f) s e) (run_whole (suc f) s F h)
+      go (Some r) e ih =
           let n = next_stays F r e in
           run_by_step after_four P f s r n ∙ rw (run_by_step before_four P f s r e) (ap (λ (t : List Record). r ∷ t) (ih (after P s r) (after_fits P F r) (omega (arith, step_by_falls after_four P F r (next_by_lawful after_four P s r n)))))
 
@@ -116,9 +115,9 @@ module _ (P : Problem) where
   unfolding run_by
   added_here {s} F n = go (next_by after_four P s) refl
     where
-      go : (x : Next) → next_by after_four P s ≡ x → Added s (run_by after_four P s)
-      go Nothing e = inl (run_by_stop after_four P (suc (live_count P s)) s e)
-      go (Step r) e =
+      go : (x : Option Record) → next_by after_four P s ≡ x → Added s (run_by after_four P s)
+      go None e = inl (run_by_stop after_four P (suc (live_count P s)) s e)
+      go (Some r) e =
           let l = next_by_lawful after_four P s r e in
           let x = added_substitution F n r l in
           let q = x.3 in

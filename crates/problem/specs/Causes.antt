@@ -1,14 +1,10 @@
 -- What an answer says: the cover test's, where a cover breaks, what is named of a record that is not lawful, and why a hand call answers as it
 -- does. proofs/Spoiler.antt and OneCall.antt show that each is answered for its cause and for no other.
-use Rattle.std.specs.Prelude.{◌⊎◌, ◌≢◌, ℕ, ◌≤◌, ◌<◌, T}
+use Rattle.std.specs.Prelude.{◌⊎◌, ◌≢◌, ℕ, ◌≤◌, ◌<◌, T, Option, Some, None}
 use Rattle.problem.specs.Problem.{Problem, State, snake}
 use Rattle.problem.specs.Sentences.{Active, Live, Fits, Spoils, Substitutes, NoneEmpty}
 use Rattle.problem.specs.declared.Record.{Record}
 use Rattle.problem.specs.declared.Record.TheVariants.{Unsupported, Snake, Triangle, Neighbourhood, SnakeSubstitution}
-use Rattle.problem.specs.declared.Cover.{Cover}
-use Rattle.problem.specs.declared.Cover.TheVariants.{Spoilt, Holds}
-use Rattle.problem.specs.declared.Break.{Break}
-use Rattle.problem.specs.declared.Break.TheVariants.{At, Nowhere}
 use Rattle.problem.specs.declared.Call.{Call}
 use Rattle.problem.specs.declared.Call.TheVariants.{Eliminated, Misfit, NotActive, Emptied, NoSnake}
 
@@ -20,18 +16,18 @@ Lowest p c = p c × ((d : ℕ) → d < c → p d → ⊥)
 
 module _ (P : Problem) (s : State) where
   -- what each answer says: "the lowest setting at l that spoils it, or that there is none", which is where a covers b
-  abbrev pub SpoilerSays : (i a j b l : ℕ) → Cover → Type 0
-  SpoilerSays i a j b l (Spoilt c) = Lowest (Spoils P s i a j b l) c
-  SpoilerSays i a j b l Holds = Substitutes P s i a j b l
+  abbrev pub SpoilerSays : (i a j b l : ℕ) → Option ℕ → Type 0
+  SpoilerSays i a j b l (Some c) = Lowest (Spoils P s i a j b l) c
+  SpoilerSays i a j b l None = Substitutes P s i a j b l
 
   -- l is another item, and a does not cover b there; both are settings of i
   abbrev pub Breaks : (i b a l : ℕ) → Type 0
   Breaks i b a l = Active s l × (l ≢ i × (Substitutes P s i a i b l → ⊥))
 
   -- "the lowest item where the cover breaks and the lowest setting that spoils it there"
-  abbrev pub BreakSays : (i b a : ℕ) → Break → Type 0
-  BreakSays i b a (At l c) = Lowest (Breaks i b a) l × Lowest (Spoils P s i a i b l) c
-  BreakSays i b a Nowhere = (l : ℕ) → Active s l → l ≢ i → Substitutes P s i a i b l
+  abbrev pub BreakSays : (i b a : ℕ) → Option (ℕ × ℕ) → Type 0
+  BreakSays i b a (Some (l, c)) = Lowest (Breaks i b a) l × Lowest (Spoils P s i a i b l) c
+  BreakSays i b a None = (l : ℕ) → Active s l → l ≢ i → Substitutes P s i a i b l
 
   -- ---- what is named of a record that is not lawful
 
@@ -56,9 +52,9 @@ module _ (P : Problem) (s : State) where
   BreaksAt (SnakeSubstitution i b a) l c = ⊥
 
   -- where the cover breaks, of a record of which only the cover can be at fault; and nothing of any other
-  abbrev pub Names : Record → Break → Type 0
-  Names r (At l c) = CoverAlone r × BreaksAt r l c
-  Names r Nowhere = CoverAlone r → ⊥
+  abbrev pub Names : Record → Option (ℕ × ℕ) → Type 0
+  Names r (Some (l, c)) = CoverAlone r × BreaksAt r l c
+  Names r None = CoverAlone r → ⊥
 
   -- ---- a hand call: the causes, in the words of the table
 

@@ -1,12 +1,8 @@
 -- docs/FORMAT.md, "State and the five rules": a problem, a state of it, the five rules, and what a step does.
 -- Every test reads the problem through `n`, `size` and `allowed` only.
-use Rattle.std.specs.Prelude.{◌≡◌, refl, Bool, true, false, not, ◌&&◌, ℕ, eqb, ltb}
+use Rattle.std.specs.Prelude.{◌≡◌, refl, Bool, true, false, not, ◌&&◌, ℕ, eqb, ltb, Option, Some, None}
 use Rattle.std.proofs.Common.{lt_irrefl, lt_trans, ltb-true}
 use Rattle.bounded.specs.Quantifiers.{imp, all_below, any_below, lowest, at_lowest, sum_to, count_below}
-use Rattle.problem.specs.declared.Cover.{Cover}
-use Rattle.problem.specs.declared.Cover.TheVariants.{Spoilt, Holds}
-use Rattle.problem.specs.declared.Break.{Break}
-use Rattle.problem.specs.declared.Break.TheVariants.{At, Nowhere}
 
 -- A binary constraint problem. The format's items are variables, its settings values, both numbered from 0.
 pub record Problem : Type 0 where
@@ -57,19 +53,19 @@ abbrev pub max_values : ℕ
 max_values = 16
 
 -- the cover test's answer, where it is only asked whether the cover holds
-abbrev pub unspoilt : Cover → Bool
-unspoilt (Spoilt c) = false
-unspoilt Holds = true
+abbrev pub unspoilt : Option ℕ → Bool
+unspoilt (Some c) = false
+unspoilt None = true
 
 -- the break that the answer tells of, where the test was made at l
-abbrev pub break_at : (l : ℕ) → Cover → Break
-break_at l (Spoilt c) = At l c
-break_at l Holds = Nowhere
+abbrev pub break_at : (l : ℕ) → Option ℕ → Option (ℕ × ℕ)
+break_at l (Some c) = Some (l, c)
+break_at l None = None
 
 -- there is no break
-abbrev pub unbroken : Break → Bool
-unbroken (At l c) = false
-unbroken Nowhere = true
+abbrev pub unbroken : Option (ℕ × ℕ) → Bool
+unbroken (Some (l, c)) = false
+unbroken None = true
 
 module _ (P : Problem) (s : State) where
   -- ---- quantifiers: at every item in, at every setting on at l, at some setting on at l, and the lowest such setting
@@ -112,8 +108,8 @@ module _ (P : Problem) (s : State) where
 
   -- "the cover test answers the lowest setting at l that spoils it, or that there is none". There is none where a substitutes for b at l:
   -- "Setting a covers b at item l when every setting on at l that is allowed with b is allowed with a."
-  unfoldable pub spoiler : (i a j b l : ℕ) → Cover
-  spoiler i a j b l = at_lowest (P.size l) (spoils i a j b l) Spoilt Holds
+  unfoldable pub spoiler : (i a j b l : ℕ) → Option ℕ
+  spoiler i a j b l = at_lowest (P.size l) (spoils i a j b l) Some None
 
   -- kind 1, bare: "b is on at i and no setting on at another item k is allowed with it"
   unfoldable pub unsupported : (i b k : ℕ) → Bool
@@ -158,8 +154,8 @@ module _ (P : Problem) (s : State) where
   breaks i b a l = s.active l && (not (eqb l i) && not (unspoilt (spoiler i a i b l)))
 
   -- "the lowest item where the cover breaks and the lowest setting that spoils it there"; or nowhere
-  unfoldable pub first_break : (i b a : ℕ) → Break
-  first_break i b a = at_lowest P.n (breaks i b a) (λ l. break_at l (spoiler i a i b l)) Nowhere
+  unfoldable pub first_break : (i b a : ℕ) → Option (ℕ × ℕ)
+  first_break i b a = at_lowest P.n (breaks i b a) (λ l. break_at l (spoiler i a i b l)) None
 
   -- all that kind 4 asks but the cover: "i in, a and b different and on, and no item in left without a setting"
   unfoldable pub cover_asked : (i b a : ℕ) → Bool

@@ -1,10 +1,8 @@
 -- docs/FORMAT.md, "State and the five rules": the one place that takes a record apart. Its kind, its fields, and what its step does: whatever else goes
 -- by these does not tell the kinds apart.
-use Rattle.std.specs.Prelude.{List, [], ◌∷◌, ℕ, zero, suc, length, get_or}
+use Rattle.std.specs.Prelude.{List, [], ◌∷◌, ℕ, zero, suc, length, get_or, Option, Some, None}
 use Rattle.problem.specs.declared.Record.{Record}
 use Rattle.problem.specs.declared.Record.TheVariants.{Unsupported, Snake, Triangle, Neighbourhood, SnakeSubstitution}
-use Rattle.problem.specs.declared.Numbered.{Numbered}
-use Rattle.problem.specs.declared.Numbered.TheVariants.{Kind, NoKind}
 use Rattle.problem.specs.declared.Effect.{Effect}
 use Rattle.problem.specs.declared.Effect.TheVariants.{Removes, Eliminates}
 use Rattle.problem.specs.declared.Parts.{Parts}
@@ -34,14 +32,14 @@ effect_of (Neighbourhood i b a) = Removes i b
 effect_of (SnakeSubstitution i b a) = Removes i b
 
 -- the record of a kind with these fields, a kind of two fields taking no third; no kind has another number
-unfoldable pub record_of : (kind i x y : ℕ) → Numbered
-record_of zero i x y = NoKind
-record_of (suc zero) i x y = Kind (Unsupported i x y)
-record_of (suc (suc zero)) i x y = Kind (Snake i x)
-record_of (suc (suc (suc zero))) i x y = Kind (Triangle i x)
-record_of (suc (suc (suc (suc zero)))) i x y = Kind (Neighbourhood i x y)
-record_of (suc (suc (suc (suc (suc zero))))) i x y = Kind (SnakeSubstitution i x y)
-record_of (suc (suc (suc (suc (suc (suc k)))))) i x y = NoKind
+unfoldable pub record_of : (kind i x y : ℕ) → Option Record
+record_of zero i x y = None
+record_of (suc zero) i x y = Some (Unsupported i x y)
+record_of (suc (suc zero)) i x y = Some (Snake i x)
+record_of (suc (suc (suc zero))) i x y = Some (Triangle i x)
+record_of (suc (suc (suc (suc zero)))) i x y = Some (Neighbourhood i x y)
+record_of (suc (suc (suc (suc (suc zero))))) i x y = Some (SnakeSubstitution i x y)
+record_of (suc (suc (suc (suc (suc (suc k)))))) i x y = None
 
 -- ---- what follows from these
 

@@ -1,5 +1,5 @@
 -- A rulebook: what it says where the rules of two times differ, a word for each such place. What reads a rule that differs takes a rulebook,
--- and has a name that ends in By; the name without it is the same under the rulebook in force, and contracts speak of that.
+-- and has a name that ends in _by; the name without it is the same under the rulebook in force, and contracts speak of that.
 use Rattle.std.specs.Prelude.{Bool}
 use Rattle.problem.specs.Problem.{substitution_spares, substitution_keeps}
 

@@ -1,6 +1,6 @@
 -- Bench sheets of the format as problems, with what is claimed of each: one table, whose one statement is proofs/Samples.antt. The rows
 -- pin the definitions of this crate; the bytes of the same sheets, their refusals and numbers are a table of the crate `jobs`.
-use Rattle.std.specs.Prelude.{◌≡◌, Bool, true, false, cond, not, List, [], ◌∷◌, ℕ, zero, suc, eqb, leb, get_or, length}
+use Rattle.std.specs.Prelude.{◌≡◌, Bool, true, false, cond, not, List, [], ◌∷◌, ℕ, zero, suc, eqb, leb, get_or, length, Option, Some, None}
 use Rattle.bounded.specs.Mask.{bit}
 use Rattle.bounded.specs.Table.{tab}
 use Rattle.problem.specs.Problem.{Problem, State, both_ways, both_ways_symmetric, full, spoiler}
@@ -11,10 +11,6 @@ use Rattle.problem.specs.PutBack.{undo_trace}
 use Rattle.problem.specs.Solutions.{solution_count}
 use Rattle.problem.specs.declared.Record.{Record}
 use Rattle.problem.specs.declared.Record.TheVariants.{Unsupported, Snake, Triangle, Neighbourhood, SnakeSubstitution}
-use Rattle.problem.specs.declared.Cover.{Cover}
-use Rattle.problem.specs.declared.Cover.TheVariants.{Spoilt, Holds}
-use Rattle.problem.specs.declared.Break.{Break}
-use Rattle.problem.specs.declared.Break.TheVariants.{At, Nowhere}
 use Rattle.problem.specs.declared.End.{End}
 use Rattle.problem.specs.declared.End.TheVariants.{Impossible, Solved, Rest}
 use Rattle.problem.specs.declared.Call.{Call}
@@ -80,9 +76,9 @@ pub data Claim : Type 0 where
   Follows : List Record → Bool → Claim
   FollowedBefore : List Record → Bool → Claim
   -- the cover test at l in the full state, of a of i in the place of b of j
-  Tests : (i a j b l : ℕ) → Cover → Claim
+  Tests : (i a j b l : ℕ) → Option ℕ → Claim
   -- what is named of a record after the trace
-  Broken : List Record → Record → Break → Claim
+  Broken : List Record → Record → Option (ℕ × ℕ) → Claim
   -- how many solutions are left after the trace
   Plans : List Record → ℕ → Claim
   -- the plan put back by undoing the trace
@@ -152,12 +148,12 @@ rows =
           Runs [] Rest ∷ Plans [] 0 ∷ Follows (Neighbourhood 0 0 0 ∷ []) false ∷ Follows (SnakeSubstitution 0 0 1 ∷ []) false
           ∷ ByHand 0 NoSnake
           ∷ ByHand 3 NotActive
-          ∷ Broken [] (Neighbourhood 0 0 1) (At 1 1)
-          ∷ Broken [] (Neighbourhood 2 0 1) (At 0 1)
-          ∷ Broken [] (Neighbourhood 0 0 0) Nowhere
-          ∷ Broken [] (Neighbourhood 0 2 1) Nowhere
-          ∷ Broken [] (Neighbourhood 3 0 1) Nowhere
-          ∷ Broken [] (Snake 0 0) Nowhere
+          ∷ Broken [] (Neighbourhood 0 0 1) (Some (1, 1))
+          ∷ Broken [] (Neighbourhood 2 0 1) (Some (0, 1))
+          ∷ Broken [] (Neighbourhood 0 0 0) None
+          ∷ Broken [] (Neighbourhood 0 2 1) None
+          ∷ Broken [] (Neighbourhood 3 0 1) None
+          ∷ Broken [] (Snake 0 0) None
           ∷ [];
     }
     -- D
@@ -170,11 +166,11 @@ rows =
       claims =
           Runs (Snake 0 1 ∷ Snake 1 0 ∷ Snake 2 0 ∷ []) Solved ∷ Follows (Snake 0 0 ∷ []) false
           ∷ Undone (Snake 0 1 ∷ Snake 1 0 ∷ Snake 2 0 ∷ []) (255 ∷ 255 ∷ 255 ∷ []) (1 ∷ 0 ∷ 0 ∷ [])
-          ∷ Tests 0 1 0 0 1 (Spoilt 1)
-          ∷ Tests 1 0 1 2 2 (Spoilt 1)
-          ∷ Tests 1 2 1 0 2 Holds
-          ∷ Broken [] (Neighbourhood 1 2 0) (At 0 0)
-          ∷ Broken (Snake 0 1 ∷ []) (Neighbourhood 1 2 0) (At 2 1)
+          ∷ Tests 0 1 0 0 1 (Some 1)
+          ∷ Tests 1 0 1 2 2 (Some 1)
+          ∷ Tests 1 2 1 0 2 None
+          ∷ Broken [] (Neighbourhood 1 2 0) (Some (0, 0))
+          ∷ Broken (Snake 0 1 ∷ []) (Neighbourhood 1 2 0) (Some (2, 1))
           ∷ [];
     }
     -- G

@@ -1,12 +1,9 @@
-// The types that the definitions of specs/ share with the code, the state that holds nothing, and what an answer says where only yes or no
-// is asked.
+// The types that the definitions of specs/ share with the code, and the state that holds nothing.
 #![tactic(auto)]
 
 ghost use Rattle.std.specs.Prelude.{◌≡◌};
-ghost use Rattle.problem.specs.Problem.{unspoilt as unspoilt_of, unbroken as unbroken_of};
 ghost use Rattle.problem.specs.Masks.{empty_masks};
 ghost use Rattle.problem.specs.Record.{record_of, effect_of, parts_of};
-ghost use Rattle.problem.specs.Run.{is_step};
 
 // A state as masks: the variables that are active, and the values in the domain of each.
 #[derive(Clone, Copy)]
@@ -35,25 +32,11 @@ pub struct Parts {
     pub fourth: usize,
 }
 
-// The record that a number of kind has with given fields, or that no kind has the number.
-#[derive(Clone, Copy)]
-pub enum Numbered {
-    Kind(Record),
-    NoKind,
-}
-
 // What a step does: it removes a value of a variable, or eliminates a variable.
 #[derive(Clone, Copy)]
 pub enum Effect {
     Removes(usize, usize),
     Eliminates(usize),
-}
-
-// What a search for the next step finds.
-#[derive(Clone, Copy)]
-pub enum Next {
-    Step(Record),
-    Nothing,
 }
 
 // How a run ends.
@@ -62,20 +45,6 @@ pub enum End {
     Impossible,
     Solved,
     Rest,
-}
-
-// What the cover test answers: the lowest value that spoils the cover, or that none does.
-#[derive(Clone, Copy)]
-pub enum Cover {
-    Spoilt(usize),
-    Holds,
-}
-
-// Where a cover breaks first: at the lowest variable that has a value that spoils it, and the lowest such value there; or nowhere.
-#[derive(Clone, Copy)]
-pub enum Break {
-    At { variable: usize, value: usize },
-    Nowhere,
 }
 
 // What a hand call comes to: the value that the variable was eliminated with, or the reason why it was not.
@@ -152,50 +121,15 @@ pub fn effect_of(r: Record) -> Effect
 }
 
 // The record of a kind with these fields, a kind of two fields taking no third; of a number that no kind has, none.
-pub fn record_of(kind: usize, i: usize, x: usize, y: usize) -> Numbered
+pub fn record_of(kind: usize, i: usize, x: usize, y: usize) -> Option<Record>
     ensures { result ≡ record_of kind i x y }
 {
     match kind {
-        1 => Numbered::Kind(Record::Unsupported(i, x, y)),
-        2 => Numbered::Kind(Record::Snake(i, x)),
-        3 => Numbered::Kind(Record::Triangle(i, x)),
-        4 => Numbered::Kind(Record::Neighbourhood(i, x, y)),
-        5 => Numbered::Kind(Record::SnakeSubstitution(i, x, y)),
-        _ => Numbered::NoKind,
-    }
-}
-
-// ---- yes or no
-
-// Whether a step was found.
-pub fn is_step(x: Next) -> bool
-    ensures { result ≡ is_step x }
-{
-    match x {
-        Next::Step(_) => true,
-        Next::Nothing => false,
-    }
-}
-
-// Whether a cover holds.
-pub fn unspoilt(x: Cover) -> bool
-    ensures { result ≡ unspoilt_of x }
-{
-    match x {
-        Cover::Spoilt(_) => false,
-        Cover::Holds => true,
-    }
-}
-
-// Whether a cover breaks nowhere.
-pub fn unbroken(x: Break) -> bool
-    ensures { result ≡ unbroken_of x }
-{
-    match x {
-        Break::At {
-            variable: _,
-            value: _,
-        } => false,
-        Break::Nowhere => true,
+        1 => Some(Record::Unsupported(i, x, y)),
+        2 => Some(Record::Snake(i, x)),
+        3 => Some(Record::Triangle(i, x)),
+        4 => Some(Record::Neighbourhood(i, x, y)),
+        5 => Some(Record::SnakeSubstitution(i, x, y)),
+        _ => None,
     }
 }

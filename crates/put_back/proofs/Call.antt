@@ -3,12 +3,11 @@ use mathlib.Core.Path.{◌≡◌, sym, ◌∙◌}
 use mathlib.Core.List.{List}
 use Prim.Native.Nat.{ℕ, ◌<◌}
 use Rattle.put_back.specs.PutBack.{put_back_job}
-use Rattle.put_back.specs.declared.PutBackOutcome.{PutBackOutcome}
 use Rattle.put_back.specs.Call.{back_number, put_back_call, unlawful_fields, FieldsFit}
 use native.Mathlib.Omega.{arith}
 use Rattle.put_back.specs.declared.PutBackRefusal.{PutBackRefusal}
 use Rattle.put_back.specs.declared.PutBackRefusal.TheVariants as refusal
-use Rattle.put_back.specs.Numbers.{put_back_refusal_number}
+use Rattle.put_back.specs.Numbers.{put_back_refusal_number, PutBackOutcome}
 use Rattle.boundary.proofs.Answers.{Listed, sheet_listed}
 
 pub back_says : (s t p b : List ℕ) (x : PutBackOutcome) (w : List ℕ) → x ≡ (put_back_job s t p b).answer → w ≡ (put_back_job s t p b).result

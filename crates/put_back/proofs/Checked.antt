@@ -1,4 +1,5 @@
 -- What checking a trace finds, and why: the first fault, every record before it being lawful in the state reached. Assumes nothing.
+use Rattle.std.specs.Prelude.{Option, Some, None}
 use mathlib.Core.Path.{◌≡◌, refl, sym, ap, ◌∙◌, subst}
 use mathlib.Core.Bool.{Bool, true, false, ◌&&◌}
 use mathlib.Core.List.{List, [], ◌∷◌, ◌++◌, append_assoc, append-nil}
@@ -14,8 +15,6 @@ use Rattle.bounded.proofs.Causes.{cause_iff}
 use Rattle.problem.specs.Problem.{Problem, State, full}
 use Rattle.problem.specs.Run.{lawful, broken_cover, after, lawful_trace_by, lawful_trace, after_trace}
 use Rattle.problem.specs.declared.Record.{Record}
-use Rattle.problem.specs.declared.Break.{Break}
-use Rattle.problem.specs.declared.Break.TheVariants.{At, Nowhere}
 use Rattle.problem.proofs.Reflect.{full_fits}
 use Rattle.problem.specs.Sentences.{Fits}
 use Rattle.problem.proofs.Trace.{trace_iff, trace_fits}
@@ -81,17 +80,17 @@ carried_iff : {P : Problem} {q : State} → Fits P q → (r : Record) → (T (la
     → (unlawful_record j (broken_cover P q r) ≡ refusal.Unlawful k l c) ↔ ((j ≡ k) × Carried P q r l c)
 carried_iff {P} {q} F r n j k l c = (forth (broken_cover P q r) refl, λ x. back x.0 x.1)
   where
-    forth : (x : Break) → broken_cover P q r ≡ x → unlawful_record j x ≡ refusal.Unlawful k l c → (j ≡ k) × Carried P q r l c
-    forth (At m d) e h =
-        let y = (names_iff F r n (At m d)).0 e in
+    forth : (x : Option (ℕ × ℕ)) → broken_cover P q r ≡ x → unlawful_record j x ≡ refusal.Unlawful k l c → (j ≡ k) × Carried P q r l c
+    forth (Some (m, d)) e h =
+        let y = (names_iff F r n (Some (m, d))).0 e in
         let f : m ≡ l = cc in
         let g : d ≡ c = cc in
         (cc, inl (y.0, subst (λ (z : ℕ). BreaksAt P q r z c) f (subst (BreaksAt P q r m) g y.1)))
-    forth Nowhere e h = (cc, inr ((names_iff F r n Nowhere).0 e, cc, cc))
+    forth None e h = (cc, inr ((names_iff F r n None).0 e, cc, cc))
 
     back : j ≡ k → Carried P q r l c → unlawful_record j (broken_cover P q r) ≡ refusal.Unlawful k l c
-    back e (inl x) = ap (unlawful_record j) ((names_iff F r n (At l c)).1 x) ∙ ap (λ (z : ℕ). refusal.Unlawful z l c) e
-    back e (inr x) = ap (unlawful_record j) ((names_iff F r n Nowhere).1 x.0) ∙ (λ i. refusal.Unlawful (e i) (sym x.1 i) (sym x.2 i))
+    back e (inl x) = ap (unlawful_record j) ((names_iff F r n (Some (l, c))).1 x) ∙ ap (λ (z : ℕ). refusal.Unlawful z l c) e
+    back e (inr x) = ap (unlawful_record j) ((names_iff F r n None).1 x.0) ∙ (λ i. refusal.Unlawful (e i) (sym x.1 i) (sym x.2 i))
 
 -- ---- why the records are judged as they are
 
@@ -131,9 +130,9 @@ module _ (P : Problem) where
   unfolding records_bytes lawful_trace_by after_trace
   cause_unlawful s k d r more e l = go (broken_cover P s r) refl
     where
-      go : (x : Break) → broken_cover P s r ≡ x → RecordsCause s k d (Faulty (unlawful_record k x))
-      go (At m c) h = ([], r, more, e, tt, l, λ i. unlawful_record (add_zero k i) (h i))
-      go Nowhere h = ([], r, more, e, tt, l, λ i. unlawful_record (add_zero k i) (h i))
+      go : (x : Option (ℕ × ℕ)) → broken_cover P s r ≡ x → RecordsCause s k d (Faulty (unlawful_record k x))
+      go (Some (m, c)) h = ([], r, more, e, tt, l, λ i. unlawful_record (add_zero k i) (h i))
+      go None h = ([], r, more, e, tt, l, λ i. unlawful_record (add_zero k i) (h i))
 
   -- a lawful record in front
   cause_more : (s : State) (k : ℕ) (d : List ℕ) (r : Record) (rest : List ℕ) → d ≡ record_bytes r ++ rest → T (lawful P s r)

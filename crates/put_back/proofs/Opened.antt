@@ -9,7 +9,7 @@ use Rattle.problem.specs.Problem.{Problem}
 use Rattle.sheet.specs.Sheet.{layout, read_sheet, Keeps}
 use Rattle.sheet.specs.Relation.{problem_of}
 use Rattle.sheet.specs.declared.SheetRefusal.{SheetRefusal}
-use Rattle.sheet.specs.declared.SheetRead.TheVariants as read
+use Rattle.std.specs.Prelude.{Err}
 use Rattle.jobs.proofs.Opened.{sheet_refused, sheet_kept}
 use Rattle.put_back.specs.PutBack.{put_back_refused, check_trace, after_check, put_back_over, put_back_job}
 use Rattle.put_back.specs.declared.PutBackRefusal.TheVariants as back
@@ -31,7 +31,7 @@ module _ (P : Problem) (t p b : List ℕ) where
   put_back_checked_over e f = rw (eq-eqb (length p) P.n e, eq-eqb (length b) P.n f, put_back_over)
 
 module _ (s t p b : List ℕ) where
-  pub put_back_sheet_refused : (r : SheetRefusal) → read_sheet layout s ≡ read.Refused r → put_back_job s t p b ≡ put_back_refused (back.Sheet r) b
+  pub put_back_sheet_refused : (r : SheetRefusal) → read_sheet layout s ≡ Err r → put_back_job s t p b ≡ put_back_refused (back.Sheet r) b
   unfolding put_back_job
   put_back_sheet_refused r e = sheet_refused s _ _ r e
 

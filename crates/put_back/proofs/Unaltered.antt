@@ -13,12 +13,12 @@ use Rattle.sheet.specs.Sheet.{layout}
 use Rattle.sheet.specs.Relation.{problem_of}
 use Rattle.put_back.specs.PutBack.{PutBackResult, Checked, Lawful, Faulty, check_trace, plan_fits, after_check, put_back_over, put_back_job}
 use Rattle.put_back.specs.declared.PutBackRefusal.{PutBackRefusal}
-use Rattle.put_back.specs.declared.PutBackOutcome.TheVariants as extended
+use Rattle.std.specs.Prelude.{Err}
 use Rattle.jobs.proofs.Opened.{sheet_each}
 use Rattle.put_back.proofs.Opened.{put_back_plan_length_over, put_back_result_length_over, put_back_checked_over}
 
 -- refused putting back leaves the result's buffer as it was
-check_unaltered : (P : Problem) (p b : List ℕ) (c : Checked) (r : PutBackRefusal) → (after_check P p b c).answer ≡ extended.Refused r → (after_check P p b c).result ≡ b
+check_unaltered : (P : Problem) (p b : List ℕ) (c : Checked) (r : PutBackRefusal) → (after_check P p b c).answer ≡ Err r → (after_check P p b c).result ≡ b
 check_unaltered P p b (Faulty e) r o = refl
 check_unaltered P p b (Lawful u) r o = go (plan_fits P (after_trace P (full P) u) p) refl
   where
@@ -26,7 +26,7 @@ check_unaltered P p b (Lawful u) r o = go (plan_fits P (after_trace P (full P) u
     go true e = let z : ◌≡◌ {A = ℕ} 0 1 = cc (rw (e, after_check) at o) in absurd (omega arith)
     go false e = rw (e, after_check)
 
-pub put_back_unaltered_over : (P : Problem) (t p b : List ℕ) (r : PutBackRefusal) → (put_back_over P t p b).answer ≡ extended.Refused r → (put_back_over P t p b).result ≡ b
+pub put_back_unaltered_over : (P : Problem) (t p b : List ℕ) (r : PutBackRefusal) → (put_back_over P t p b).answer ≡ Err r → (put_back_over P t p b).result ≡ b
 put_back_unaltered_over P t p b r o = by_plan (eq_dec (length p) P.n)
   where
     by_result : length p ≡ P.n → (length b ≡ P.n) ⊎ (length b ≢ P.n) → (put_back_over P t p b).result ≡ b
@@ -39,6 +39,6 @@ put_back_unaltered_over P t p b r o = by_plan (eq_dec (length p) P.n)
     by_plan (inl l) = by_result l (eq_dec (length b) P.n)
     by_plan (inr d) = ap (λ (y : PutBackResult). y.result) (put_back_plan_length_over P t p b d)
 
-pub put_back_unaltered : (s t p b : List ℕ) (r : PutBackRefusal) → (put_back_job s t p b).answer ≡ extended.Refused r → (put_back_job s t p b).result ≡ b
+pub put_back_unaltered : (s t p b : List ℕ) (r : PutBackRefusal) → (put_back_job s t p b).answer ≡ Err r → (put_back_job s t p b).result ≡ b
 unfolding put_back_job
-put_back_unaltered s t p b r = sheet_each s _ _ (λ (y : PutBackResult). y.answer ≡ extended.Refused r → y.result ≡ b) (λ _ _ _. refl) (λ _. put_back_unaltered_over (problem_of layout s) t p b r)
+put_back_unaltered s t p b r = sheet_each s _ _ (λ (y : PutBackResult). y.answer ≡ Err r → y.result ≡ b) (λ _ _ _. refl) (λ _. put_back_unaltered_over (problem_of layout s) t p b r)

@@ -1,13 +1,11 @@
 -- What exported putting back answers, as one number, and what it leaves in the result's buffer.
 -- The low byte of the answer is the number of the refusal, from 1 to 255, or 0 where there is none. Above a refusal stands nothing, but what 17
 -- carries.
-use Rattle.std.specs.Prelude.{List, ℕ, ◌+◌, ◌*◌, ◌<◌}
-use Rattle.put_back.specs.Numbers.{put_back_refusal_number}
+use Rattle.std.specs.Prelude.{List, ℕ, ◌+◌, ◌*◌, ◌<◌, Err, Ok}
+use Rattle.put_back.specs.Numbers.{put_back_refusal_number, PutBackOutcome}
 use Rattle.put_back.specs.PutBack.{put_back_job}
 use Rattle.put_back.specs.declared.PutBackRefusal.{PutBackRefusal}
 use Rattle.put_back.specs.declared.PutBackRefusal.TheVariants as refusal
-use Rattle.put_back.specs.declared.PutBackOutcome.{PutBackOutcome}
-use Rattle.put_back.specs.declared.PutBackOutcome.TheVariants as back
 
 -- the answer and the result's buffer
 pub record PutBackCall : Type 0 where
@@ -35,13 +33,13 @@ FieldsFit refusal.Malformed = Unit {0}
 FieldsFit refusal.Plan = Unit {0}
 
 abbrev pub BackFits : PutBackOutcome → Type 0
-BackFits back.Done = Unit {0}
-BackFits (back.Refused r) = FieldsFit r
+BackFits (Ok _) = Unit {0}
+BackFits (Err r) = FieldsFit r
 
 -- bits 0-7 the refusal; of 17, bits 8-23 the record's number, bits 24-31 the variable, bits 32-39 the value
 abbrev pub back_number : PutBackOutcome → ℕ
-back_number back.Done = 0
-back_number (back.Refused r) = put_back_refusal_number r + 256 * unlawful_fields r
+back_number (Ok _) = 0
+back_number (Err r) = put_back_refusal_number r + 256 * unlawful_fields r
 
 -- the sheet s, the trace t, the plan p and the result's buffer b: the buffer is as the job leaves it
 unfoldable pub put_back_call : (s t p b : List ℕ) → PutBackCall

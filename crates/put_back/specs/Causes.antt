@@ -1,5 +1,5 @@
 -- Why putting back answers as it does, and what an accepted call shows.
-use Rattle.std.specs.Prelude.{◌≡◌, List, [], ◌∷◌, ◌++◌, ◌⊎◌, ◌≢◌, ℕ, ◌<◌, T, length}
+use Rattle.std.specs.Prelude.{◌≡◌, List, [], ◌∷◌, ◌++◌, ◌⊎◌, ◌≢◌, ℕ, ◌<◌, T, length, Err, Ok}
 use Rattle.problem.specs.Problem.{Problem, State, full}
 use Rattle.problem.specs.Run.{lawful, lawful_trace, after_trace}
 use Rattle.problem.specs.PutBack.{plan_of}
@@ -11,8 +11,7 @@ use Rattle.buffers.specs.Bytes.{byte_at}
 use Rattle.jobs.specs.Causes.{Whose, Sheets, Own, SheetCause}
 use Rattle.trace.specs.Trace.{record_bytes, trace_bytes}
 use Rattle.put_back.specs.PutBack.{PutBackResult, unnamed, plan_fits, put_back_done}
-use Rattle.put_back.specs.declared.PutBackOutcome.{PutBackOutcome}
-use Rattle.put_back.specs.declared.PutBackOutcome.TheVariants.{Done, Refused}
+use Rattle.put_back.specs.Numbers.{PutBackOutcome}
 use Rattle.put_back.specs.declared.PutBackRefusal.TheVariants as refusal
 
 -- ---- the trace and the plan
@@ -47,35 +46,35 @@ module _ (P : Problem) (t p b : List ℕ) where
 
   -- Why putting back over a problem answers as it does.
   abbrev pub BackCauseOver : PutBackOutcome → Type 0
-  BackCauseOver (Refused (refusal.Sheet r)) = ⊥
+  BackCauseOver (Err (refusal.Sheet r)) = ⊥
   -- 18: "plan is not n bytes"
-  BackCauseOver (Refused refusal.PlanLength) = length p ≢ P.n
+  BackCauseOver (Err refusal.PlanLength) = length p ≢ P.n
   -- 20: "result buffer is not n bytes"
-  BackCauseOver (Refused refusal.ResultLength) = (length p ≡ P.n) × (length b ≢ P.n)
+  BackCauseOver (Err refusal.ResultLength) = (length p ≡ P.n) × (length b ≢ P.n)
   -- 15: "no byte, or byte 0 is not 1"
-  BackCauseOver (Refused refusal.TraceFront) = Sized × ((t ≡ []) ⊎ (byte_at t 0 ≢ 1))
+  BackCauseOver (Err refusal.TraceFront) = Sized × ((t ≡ []) ⊎ (byte_at t 0 ≢ 1))
   -- 16: after the bytes of lawful records u, bytes that begin with no record's
-  BackCauseOver (Refused refusal.Malformed) =
+  BackCauseOver (Err refusal.Malformed) =
       Sized × ((u : List Record) × (more : List ℕ) × (t ≡ trace_bytes u ++ more) × T (lawful_trace P (full P) u) × NoRecord more)
   -- 17: after the bytes of k lawful records u, those of a record that is not lawful in the state reached, and of it l and c are named
-  BackCauseOver (Refused (refusal.Unlawful k l c)) =
+  BackCauseOver (Err (refusal.Unlawful k l c)) =
       Sized
       × ((u : List Record) × (r : Record) × (more : List ℕ) × (t ≡ trace_bytes u ++ (record_bytes r ++ more)) × T (lawful_trace P (full P) u)
       × (T (lawful P (left u) r) → ⊥) × (length u ≡ k) × Carried P (left u) r l c)
   -- 19: the trace is lawful, and the plan is not one of what it leaves
-  BackCauseOver (Refused refusal.Plan) = Sized × ((u : List Record) × (t ≡ trace_bytes u) × T (lawful_trace P (full P) u) × PlanFault P (left u) p)
+  BackCauseOver (Err refusal.Plan) = Sized × ((u : List Record) × (t ≡ trace_bytes u) × T (lawful_trace P (full P) u) × PlanFault P (left u) p)
   -- accepted: the trace is lawful, and the plan is one of what it leaves
-  BackCauseOver Done = Sized × ((u : List Record) × (t ≡ trace_bytes u) × T (lawful_trace P (full P) u) × T (plan_fits P (left u) p))
+  BackCauseOver (Ok _) = Sized × ((u : List Record) × (t ≡ trace_bytes u) × T (lawful_trace P (full P) u) × T (plan_fits P (left u) p))
 
 abbrev pub whose_back : PutBackOutcome → Whose
-whose_back (Refused (refusal.Sheet r)) = Sheets r
-whose_back (Refused refusal.PlanLength) = Own
-whose_back (Refused refusal.ResultLength) = Own
-whose_back (Refused refusal.TraceFront) = Own
-whose_back (Refused refusal.Malformed) = Own
-whose_back (Refused (refusal.Unlawful k l c)) = Own
-whose_back (Refused refusal.Plan) = Own
-whose_back Done = Own
+whose_back (Err (refusal.Sheet r)) = Sheets r
+whose_back (Err refusal.PlanLength) = Own
+whose_back (Err refusal.ResultLength) = Own
+whose_back (Err refusal.TraceFront) = Own
+whose_back (Err refusal.Malformed) = Own
+whose_back (Err (refusal.Unlawful k l c)) = Own
+whose_back (Err refusal.Plan) = Own
+whose_back (Ok _) = Own
 
 module _ (s t p b : List ℕ) where
   -- Why putting back answers as it does: the sheet's own fault, or the cause over its problem.

@@ -1,19 +1,16 @@
 -- Putting back: lent a problem, a trace, a plan for the items left and a buffer for the result; as a job, a sheet and these.
-use Rattle.std.specs.Prelude.{Bool, true, false, ◌&&◌, ◌||◌, List, [], ◌∷◌, ℕ, zero, suc, ◌+◌, ltb, eqb, length}
+use Rattle.std.specs.Prelude.{Bool, true, false, ◌&&◌, ◌||◌, List, [], ◌∷◌, ℕ, zero, suc, ◌+◌, ltb, eqb, length, Err, Ok, Option, Some, None}
 use Rattle.bounded.specs.Quantifiers.{all_below}
 use Rattle.bounded.specs.Table.{tab}
 use Rattle.problem.specs.Problem.{Problem, State, full}
 use Rattle.problem.specs.Run.{lawful, broken_cover, after, after_trace}
 use Rattle.problem.specs.PutBack.{solves, plan_of, undo_trace}
 use Rattle.problem.specs.declared.Record.{Record}
-use Rattle.problem.specs.declared.Break.{Break}
-use Rattle.problem.specs.declared.Break.TheVariants.{At, Nowhere}
 use Rattle.buffers.specs.Bytes.{byte_at}
 use Rattle.trace.specs.Trace.{record_at}
 use Rattle.jobs.specs.WithSheet.{with_sheet}
 use Rattle.trace.specs.declared.RecordRead.TheVariants as record·
-use Rattle.put_back.specs.declared.PutBackOutcome.{PutBackOutcome}
-use Rattle.put_back.specs.declared.PutBackOutcome.TheVariants.{Done, Refused}
+use Rattle.put_back.specs.Numbers.{PutBackOutcome}
 use Rattle.put_back.specs.declared.PutBackRefusal.{PutBackRefusal}
 use Rattle.put_back.specs.declared.PutBackRefusal.TheVariants.{Sheet, PlanLength, ResultLength, TraceFront, Malformed, Unlawful, Plan}
 
@@ -24,7 +21,7 @@ pub record PutBackResult : Type 0 where
 
 -- a refusal leaves the buffer as it was
 abbrev pub put_back_refused : PutBackRefusal → List ℕ → PutBackResult
-put_back_refused r b = record { answer = Refused r; result = b }
+put_back_refused r b = record { answer = Err r; result = b }
 
 -- ---- what refusal 17 carries
 
@@ -35,9 +32,9 @@ unnamed = 255
 -- the refusal of record k, by where its cover breaks. "Refusal 17 carries the record's number, from 0, and, for a kind 4 record with i in, a
 -- and b different and on, and no item in left without a setting, the lowest item where the cover breaks and the lowest setting that spoils
 -- it there; for every other cause both are 255."
-abbrev pub unlawful_record : (k : ℕ) → Break → PutBackRefusal
-unlawful_record k (At l c) = Unlawful k l c
-unlawful_record k Nowhere = Unlawful k unnamed unnamed
+abbrev pub unlawful_record : (k : ℕ) → Option (ℕ × ℕ) → PutBackRefusal
+unlawful_record k (Some (l, c)) = Unlawful k l c
+unlawful_record k None = Unlawful k unnamed unnamed
 
 -- ---- the trace, record by record
 
@@ -80,7 +77,7 @@ plan_fits P s p = all_below P.n (λ i. s.active i || eqb (plan_of p i) 255) && s
 
 -- the plan of the full sheet: the records undone last first, each against the state before it
 abbrev pub put_back_done : Problem → List Record → List ℕ → PutBackResult
-put_back_done P t p = record { answer = Done; result = tab P.n (undo_trace P (full P) t (plan_of p)) }
+put_back_done P t p = record { answer = Ok tt; result = tab P.n (undo_trace P (full P) t (plan_of p)) }
 
 abbrev pub after_check : Problem → List ℕ → List ℕ → Checked → PutBackResult
 after_check P p b (Faulty e) = put_back_refused e b

@@ -1,11 +1,9 @@
 -- One call, and more, for each number of putting back, and one that is done: one table, whose one statement is proofs/Refusals.antt. Exchanging two
 -- numbers breaks it. The numbers of sheets are in crates/sheet/specs/Refusals.antt.
-use Rattle.std.specs.Prelude.{◌≡◌, List, [], ◌∷◌, ℕ}
-use Rattle.put_back.specs.Numbers.{put_back_number}
+use Rattle.std.specs.Prelude.{◌≡◌, List, [], ◌∷◌, ℕ, Err, Ok}
+use Rattle.put_back.specs.Numbers.{put_back_number, PutBackOutcome}
 use Rattle.put_back.specs.PutBack.{put_back_job}
 use Rattle.jobs.specs.Sheets.{lent, sheet_a, sheet_b, sheet_c, sheet_d}
-use Rattle.put_back.specs.declared.PutBackOutcome.{PutBackOutcome}
-use Rattle.put_back.specs.declared.PutBackOutcome.TheVariants as extended
 use Rattle.put_back.specs.declared.PutBackRefusal.TheVariants as refusal
 
 -- item 0 has one setting, which is barred with both of item 1; items 1 and 2 have two settings each and are unequal
@@ -18,14 +16,14 @@ pub data Lent : Type 0 where
 
 -- what 17 carries beside its number: the record's number, the item and the setting
 abbrev pub carried : PutBackOutcome → List ℕ
-carried (extended.Refused (refusal.Unlawful k l c)) = k ∷ l ∷ c ∷ []
-carried (extended.Refused (refusal.Sheet r)) = []
-carried (extended.Refused refusal.PlanLength) = []
-carried (extended.Refused refusal.ResultLength) = []
-carried (extended.Refused refusal.TraceFront) = []
-carried (extended.Refused refusal.Malformed) = []
-carried (extended.Refused refusal.Plan) = []
-carried extended.Done = []
+carried (Err (refusal.Unlawful k l c)) = k ∷ l ∷ c ∷ []
+carried (Err (refusal.Sheet r)) = []
+carried (Err refusal.PlanLength) = []
+carried (Err refusal.ResultLength) = []
+carried (Err refusal.TraceFront) = []
+carried (Err refusal.Malformed) = []
+carried (Err refusal.Plan) = []
+carried (Ok _) = []
 
 -- the number that the call answers, 0 where it is done, and what it carries
 abbrev pub numbers_of : Lent → List ℕ

@@ -5,13 +5,13 @@ ghost use Rattle.std.specs.Prelude.{◌≡◌, ◌+◌, ◌*◌};
 ghost use Rattle.put_back.specs.Numbers.{put_back_refusal_number};
 ghost use Rattle.put_back.specs.PutBack.{unlawful_record};
 ghost use Rattle.put_back.specs.Call.{unlawful_fields, FieldsFit, BackFits, back_number};
+ghost use Rattle.put_back.specs.declared.PutBackRefusal.TheVariants.{Sheet};
 
-use problem::Break;
 use sheet::SheetRefusal;
 
 // Why putting back is refused. An unlawful record comes with its number, from 0, and with the variable and the value where its cover
 // breaks, 255 for both where none is named.
-#[derive(Clone, Copy)]
+#[derive(Clone, Copy, Debug, PartialEq, Eq)]
 pub enum PutBackRefusal {
     Sheet(SheetRefusal),
     PlanLength,
@@ -26,41 +26,43 @@ pub enum PutBackRefusal {
     Plan,
 }
 
-#[derive(Clone, Copy)]
-pub enum PutBackOutcome {
-    Done,
-    Refused(PutBackRefusal),
+// A refusal of the sheet is one of putting back.
+impl From<SheetRefusal> for PutBackRefusal {
+    ghost from_gives = { λ r e. e ≡ Sheet r };
+
+    fn from(r: SheetRefusal) -> PutBackRefusal {
+        PutBackRefusal::Sheet(r)
+    }
 }
 
-pub fn put_back_number(r: PutBackRefusal) -> u8
-    ensures { result ≡ put_back_refusal_number r }
-{
-    match r {
-        PutBackRefusal::Sheet(s) => sheet::sheet_number(s),
-        PutBackRefusal::PlanLength => 18,
-        PutBackRefusal::ResultLength => 20,
-        PutBackRefusal::TraceFront => 15,
-        PutBackRefusal::Malformed => 16,
-        PutBackRefusal::Unlawful {
-            record: _,
-            variable: _,
-            value: _,
-        } => 17,
-        PutBackRefusal::Plan => 19,
+// The format's number for a refusal.
+impl From<PutBackRefusal> for u8 {
+    ghost from_gives = { λ r n. n ≡ put_back_refusal_number r };
+
+    fn from(r: PutBackRefusal) -> u8 {
+        match r {
+            PutBackRefusal::Sheet(s) => u8::from(s),
+            PutBackRefusal::PlanLength => 18,
+            PutBackRefusal::ResultLength => 20,
+            PutBackRefusal::TraceFront => 15,
+            PutBackRefusal::Malformed => 16,
+            PutBackRefusal::Unlawful { .. } => 17,
+            PutBackRefusal::Plan => 19,
+        }
     }
 }
 
 // The refusal of the record with this number, by where its cover breaks.
-pub fn unlawful_record(number: usize, found: Break) -> PutBackRefusal
+pub fn unlawful_record(number: usize, found: Option<(usize, usize)>) -> PutBackRefusal
     ensures { result ≡ unlawful_record number found }
 {
     match found {
-        Break::At { variable, value } => PutBackRefusal::Unlawful {
+        Some((variable, value)) => PutBackRefusal::Unlawful {
             record: number,
             variable,
             value,
         },
-        Break::Nowhere => PutBackRefusal::Unlawful {
+        None => PutBackRefusal::Unlawful {
             record: number,
             variable: 255,
             value: 255,
@@ -91,12 +93,12 @@ fn unlawful_fields(r: PutBackRefusal) -> u64
 }
 
 // The number of an answer: 0, or the refusal's number in the low byte and above it what an unlawful record carries.
-pub fn put_back_answer(o: PutBackOutcome) -> u64
+pub fn put_back_answer(o: Result<(), PutBackRefusal>) -> u64
     requires { BackFits o }
     ensures { result ≡ back_number o }
 {
     match o {
-        PutBackOutcome::Done => 0,
-        PutBackOutcome::Refused(r) => put_back_number(r) as u64 + 256 * unlawful_fields(r),
+        Ok(()) => 0,
+        Err(r) => u8::from(r) as u64 + 256 * unlawful_fields(r),
     }
 }

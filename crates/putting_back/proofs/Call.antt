@@ -9,15 +9,14 @@ use Rattle.problem.specs.Run.{lawful_trace, after_trace}
 use Rattle.sheet.specs.Sheet.{layout, variables_of, Keeps}
 use Rattle.sheet.specs.Relation.{problem_of}
 use Rattle.put_back.specs.PutBack.{put_back_job, plan_fits}
-use Rattle.put_back.specs.declared.PutBackOutcome.TheVariants as back
+use Rattle.std.specs.Prelude.{Err, Ok}
 use Rattle.put_back.specs.declared.PutBackRefusal.{PutBackRefusal}
 use Rattle.put_back.specs.declared.PutBackRefusal.TheVariants as refusal
 use Rattle.putting_back.proofs.Unlawful.{unlawful_small, UnlawfulRecord, unlawful_names}
 use Rattle.put_back.specs.Call.{BackFits, FieldsFit, PutBackCall, back_number, put_back_call}
 use mathlib.Core.Logic.{◌⊎◌, inl, inr, ◌≢◌, ◌↔◌}
 use lib.ListN.{length}
-use Rattle.put_back.specs.Numbers.{put_back_number}
-use Rattle.put_back.specs.declared.PutBackOutcome.{PutBackOutcome}
+use Rattle.put_back.specs.Numbers.{put_back_number, PutBackOutcome}
 use Rattle.put_back.proofs.Unaltered.{put_back_unaltered}
 use lib.Dec.{T}
 use Rattle.problem.specs.PutBack.{solves_whole, plan_of}
@@ -30,7 +29,7 @@ use Rattle.putting_back.proofs.Demands.{put_back_accepted, put_back_plan}
 use Rattle.boundary.proofs.Answers.{Refuses, refused_keeps, taken_iff}
 use Rattle.put_back.proofs.Call.{back_says, put_back_listed}
 
-pub back_small : (s t p b : List ℕ) (r : PutBackRefusal) → (put_back_job s t p b).answer ≡ back.Refused r → FieldsFit r
+pub back_small : (s t p b : List ℕ) (r : PutBackRefusal) → (put_back_job s t p b).answer ≡ Err r → FieldsFit r
 back_small s t p b (refusal.Unlawful k l c) e = let x = unlawful_small s t p b k l c e in (omega arith, omega arith, omega arith)
 back_small s t p b (refusal.Sheet r) e = tt
 back_small s t p b refusal.PlanLength e = tt
@@ -44,12 +43,12 @@ pub back_fits : (s t p b : List ℕ) → BackFits (put_back_job s t p b).answer
 back_fits s t p b = go (put_back_job s t p b).answer refl
   where
     go : (o : PutBackOutcome) → (put_back_job s t p b).answer ≡ o → BackFits o
-    go back.Done e = tt
-    go (back.Refused r) e = back_small s t p b r e
+    go (Ok _) e = tt
+    go (Err r) e = back_small s t p b r e
 
 module _ (s t p b : List ℕ) where
   abbrev pub BackTaken : Type 0
-  BackTaken = (put_back_job s t p b).answer ≡ back.Done
+  BackTaken = (put_back_job s t p b).answer ≡ Ok tt
 
   abbrev BackKept : Type 0
   BackKept = (put_back_call s t p b).result ≡ b
@@ -62,15 +61,15 @@ module _ (s t p b : List ℕ) where
   put_back_number_lem = go (put_back_job s t p b).answer refl
     where
       go : (o : PutBackOutcome) → (put_back_job s t p b).answer ≡ o → (put_back_call s t p b).answer % 256 ≡ put_back_number o
-      go back.Done e = let q = back_says_of back.Done e in omega arith
-      go (back.Refused r) e = let q = back_says_of (back.Refused r) e in let f = put_back_listed r in omega arith
+      go (Ok _) e = let q = back_says_of (Ok tt) e in omega arith
+      go (Err r) e = let q = back_says_of (Err r) e in let f = put_back_listed r in omega arith
 
   -- 17: the record's number, the item and the setting come back
-  pub unlawful_unpacked : (k l c : ℕ) → (put_back_job s t p b).answer ≡ back.Refused (refusal.Unlawful k l c)
+  pub unlawful_unpacked : (k l c : ℕ) → (put_back_job s t p b).answer ≡ Err (refusal.Unlawful k l c)
       → ((put_back_call s t p b).answer % 256 ≡ 17) × ((put_back_call s t p b).answer / 256 % 65536 ≡ k) × ((put_back_call s t p b).answer / 16777216 % 256 ≡ l)
       × ((put_back_call s t p b).answer / 4294967296 ≡ c)
   unlawful_unpacked k l c e =
-      let q = back_says_of (back.Refused (refusal.Unlawful k l c)) e in
+      let q = back_says_of (Err (refusal.Unlawful k l c)) e in
       let f = back_small s t p b (refusal.Unlawful k l c) e in
       (omega arith, omega arith, omega arith, omega arith)
 
@@ -82,28 +81,28 @@ module _ (s t p b : List ℕ) where
       bare o e f = back_says_of o e ∙ f ∙ ap put_back_number (sym e) ∙ sym put_back_number_lem
 
       go : (o : PutBackOutcome) → (put_back_job s t p b).answer ≡ o → (put_back_call s t p b).answer ≡ (put_back_call s t p b).answer % 256
-      go back.Done e = bare back.Done e refl
-      go (back.Refused (refusal.Unlawful k l c)) e = absurd (d (unlawful_unpacked k l c e).0)
-      go (back.Refused (refusal.Sheet r)) e = bare (back.Refused (refusal.Sheet r)) e (omega arith)
-      go (back.Refused refusal.PlanLength) e = bare (back.Refused refusal.PlanLength) e (omega arith)
-      go (back.Refused refusal.ResultLength) e = bare (back.Refused refusal.ResultLength) e (omega arith)
-      go (back.Refused refusal.TraceFront) e = bare (back.Refused refusal.TraceFront) e (omega arith)
-      go (back.Refused refusal.Malformed) e = bare (back.Refused refusal.Malformed) e (omega arith)
-      go (back.Refused refusal.Plan) e = bare (back.Refused refusal.Plan) e (omega arith)
+      go (Ok _) e = bare (Ok tt) e refl
+      go (Err (refusal.Unlawful k l c)) e = absurd (d (unlawful_unpacked k l c e).0)
+      go (Err (refusal.Sheet r)) e = bare (Err (refusal.Sheet r)) e (omega arith)
+      go (Err refusal.PlanLength) e = bare (Err refusal.PlanLength) e (omega arith)
+      go (Err refusal.ResultLength) e = bare (Err refusal.ResultLength) e (omega arith)
+      go (Err refusal.TraceFront) e = bare (Err refusal.TraceFront) e (omega arith)
+      go (Err refusal.Malformed) e = bare (Err refusal.Malformed) e (omega arith)
+      go (Err refusal.Plan) e = bare (Err refusal.Plan) e (omega arith)
 
   back_either : BackTaken ⊎ (Refuses ((put_back_call s t p b).answer % 256) × BackKept)
   back_either = go (put_back_job s t p b).answer refl
     where
       go : (o : PutBackOutcome) → (put_back_job s t p b).answer ≡ o → BackTaken ⊎ (Refuses ((put_back_call s t p b).answer % 256) × BackKept)
-      go back.Done o = inl o
-      go (back.Refused r) o =
+      go (Ok _) o = inl o
+      go (Err r) o =
           let n = put_back_number_lem ∙ ap put_back_number o in
           let f = put_back_listed r in
           inr ((omega arith, omega arith), ap (λ (y : PutBackCall). y.result) (sym (back_says s t p b _ _ refl refl _ o)) ∙ put_back_unaltered s t p b r o)
 
   -- accepted: the answer is 0
   pub put_back_zero : BackTaken → (put_back_call s t p b).answer ≡ 0
-  put_back_zero x = back_says_of back.Done x
+  put_back_zero x = back_says_of (Ok tt) x
 
   back_even : BackTaken → (put_back_call s t p b).answer % 256 % 256 ≡ 0
   back_even x = let z = put_back_zero x in omega arith
@@ -120,15 +119,15 @@ module _ (s t p b : List ℕ) where
 
 module _ (s t p r : List ℕ) where
   -- "putting back with a fault, and no other, is turned away": a caller tells by the answer
-  pub put_back_asked : ((put_back_call s t p r).answer % 256 ≡ 0) ↔ BackCause s t p r back.Done
-  put_back_asked = (λ z. (put_back_iff s t p r back.Done).0 ((put_back_taken s t p r).0 z), λ x. (put_back_taken s t p r).1 ((put_back_iff s t p r back.Done).1 x))
+  pub put_back_asked : ((put_back_call s t p r).answer % 256 ≡ 0) ↔ BackCause s t p r (Ok tt)
+  put_back_asked = (λ z. (put_back_iff s t p r (Ok tt)).0 ((put_back_taken s t p r).0 z), λ x. (put_back_taken s t p r).1 ((put_back_iff s t p r (Ok tt)).1 x))
 
   -- "Refusal 17 carries the record's number, from 0": where the low byte is 17, the bits above it say what they should of the trace
   pub put_back_unlawful : (put_back_call s t p r).answer % 256 ≡ 17
       → UnlawfulRecord (problem_of layout s) t ((put_back_call s t p r).answer / 256 % 65536) ((put_back_call s t p r).answer / 16777216 % 256) ((put_back_call s t p r).answer / 4294967296)
   put_back_unlawful h =
       let (k, l, c, x) = (put_back_17 s t p r).0 (sym (put_back_number_lem s t p r) ∙ h) in
-      let e = (put_back_iff s t p r (back.Refused (refusal.Unlawful k l c))).1 x in
+      let e = (put_back_iff s t p r (Err (refusal.Unlawful k l c))).1 x in
       let q = unlawful_unpacked s t p r k l c e in
       rw (q.1, q.2, q.3) (unlawful_names s t p r k l c e).3
 
@@ -139,5 +138,5 @@ module _ (s t p r : List ℕ) where
       → ((put_back_call s t p r).answer ≡ 0) × T (solves_whole (problem_of layout s) (plan_of (put_back_call s t p r).result))
   unfolding put_back_call
   lawful_put_back u K m n e l f =
-      let d : (put_back_job s t p r).answer ≡ back.Done = (put_back_iff s t p r back.Done).1 (K, ((m ∙ sym (variables_of_lem s), n ∙ sym (variables_of_lem s)), (u, e, l, f))) in
+      let d : (put_back_job s t p r).answer ≡ Ok tt = (put_back_iff s t p r (Ok tt)).1 (K, ((m ∙ sym (variables_of_lem s), n ∙ sym (variables_of_lem s)), (u, e, l, f))) in
       (put_back_zero s t p r d, put_back_plan (problem_of layout s) t p _ (put_back_accepted s t p r d).3)

@@ -21,10 +21,9 @@ use Rattle.problem.specs.Sentences.{Active, Fits, Solution}
 use Rattle.problem.proofs.Sound.{solves_iff}
 use Rattle.problem.proofs.Trace.{trace_fits}
 use Rattle.sheet.proofs.Refusals.{sheet_number_lem}
-use Rattle.put_back.specs.Numbers.{put_back_number}
+use Rattle.put_back.specs.Numbers.{put_back_number, PutBackOutcome}
 use Rattle.put_back.specs.PutBack.{PutBackResult, put_back_refused, put_back_done, Checked, Lawful, Faulty, check_trace, plan_fits, after_check, put_back_over, put_back_job}
-use Rattle.put_back.specs.declared.PutBackOutcome.{PutBackOutcome}
-use Rattle.put_back.specs.declared.PutBackOutcome.TheVariants.{Done, Refused}
+use Rattle.std.specs.Prelude.{Err, Ok}
 use Rattle.put_back.specs.declared.PutBackRefusal.TheVariants as refusal
 use Rattle.put_back.proofs.Opened.{put_back_plan_length_over, put_back_result_length_over, put_back_checked_over}
 use Rattle.jobs.proofs.SheetCause.{Told, sheet_iff}
@@ -101,25 +100,25 @@ module _ (P : Problem) (t p b : List ℕ) where
   checks Z c x = ap (λ (y : PutBackResult). y.answer) (put_back_checked_over P t p b Z.0 Z.1) ∙ ap (λ (y : Checked). (after_check P p b y).answer) ((checked_iff P t c).1 x)
 
   cause_answers : (o : PutBackOutcome) → BackCauseOver P t p b o → (put_back_over P t p b).answer ≡ o
-  cause_answers (Refused (refusal.Sheet r)) x = absurd x
-  cause_answers (Refused refusal.PlanLength) d = ap (λ (y : PutBackResult). y.answer) (put_back_plan_length_over P t p b d)
-  cause_answers (Refused refusal.ResultLength) (e, d) = ap (λ (y : PutBackResult). y.answer) (put_back_result_length_over P t p b e d)
-  cause_answers (Refused refusal.TraceFront) (Z, x) = checks Z (Faulty refusal.TraceFront) x
-  cause_answers (Refused refusal.Malformed) (Z, x) = checks Z (Faulty refusal.Malformed) x
-  cause_answers (Refused (refusal.Unlawful k l c)) (Z, x) = checks Z (Faulty (refusal.Unlawful k l c)) x
-  cause_answers (Refused refusal.Plan) (Z, (u, e, l, x)) =
+  cause_answers (Err (refusal.Sheet r)) x = absurd x
+  cause_answers (Err refusal.PlanLength) d = ap (λ (y : PutBackResult). y.answer) (put_back_plan_length_over P t p b d)
+  cause_answers (Err refusal.ResultLength) (e, d) = ap (λ (y : PutBackResult). y.answer) (put_back_result_length_over P t p b e d)
+  cause_answers (Err refusal.TraceFront) (Z, x) = checks Z (Faulty refusal.TraceFront) x
+  cause_answers (Err refusal.Malformed) (Z, x) = checks Z (Faulty refusal.Malformed) x
+  cause_answers (Err (refusal.Unlawful k l c)) (Z, x) = checks Z (Faulty (refusal.Unlawful k l c)) x
+  cause_answers (Err refusal.Plan) (Z, (u, e, l, x)) =
       checks Z (Lawful u) (e, l)
       ∙ ap (λ (y : Bool). (planned u y).answer) (T_false (plan_fits P (left u) p) (plan_not P (left u) p (trace_fits P (full_fits P) u) x))
-  cause_answers Done (Z, (u, e, l, x)) = checks Z (Lawful u) (e, l) ∙ ap (λ (y : Bool). (planned u y).answer) (T_true (plan_fits P (left u) p) x)
+  cause_answers (Ok _) (Z, (u, e, l, x)) = checks Z (Lawful u) (e, l) ∙ ap (λ (y : Bool). (planned u y).answer) (T_true (plan_fits P (left u) p) x)
 
   some_cause : (o : PutBackOutcome) × BackCauseOver P t p b o
   some_cause = by_plan (eq_dec (length p) P.n)
     where
       by_check : Sized P t p b → (c : Checked) → TraceCause P t c → (o : PutBackOutcome) × BackCauseOver P t p b o
-      by_check Z (Lawful u) x = elim (plan_or P (left u) p) [ inl y ↦ (Done, (Z, (u, x.0, x.1, y))) | inr y ↦ (Refused refusal.Plan, (Z, (u, x.0, x.1, y))) ]
-      by_check Z (Faulty refusal.TraceFront) x = (Refused refusal.TraceFront, (Z, x))
-      by_check Z (Faulty refusal.Malformed) x = (Refused refusal.Malformed, (Z, x))
-      by_check Z (Faulty (refusal.Unlawful k l c)) x = (Refused (refusal.Unlawful k l c), (Z, x))
+      by_check Z (Lawful u) x = elim (plan_or P (left u) p) [ inl y ↦ ((Ok tt), (Z, (u, x.0, x.1, y))) | inr y ↦ (Err refusal.Plan, (Z, (u, x.0, x.1, y))) ]
+      by_check Z (Faulty refusal.TraceFront) x = (Err refusal.TraceFront, (Z, x))
+      by_check Z (Faulty refusal.Malformed) x = (Err refusal.Malformed, (Z, x))
+      by_check Z (Faulty (refusal.Unlawful k l c)) x = (Err (refusal.Unlawful k l c), (Z, x))
       by_check Z (Faulty (refusal.Sheet r)) x = absurd x
       by_check Z (Faulty refusal.PlanLength) x = absurd x
       by_check Z (Faulty refusal.ResultLength) x = absurd x
@@ -127,11 +126,11 @@ module _ (P : Problem) (t p b : List ℕ) where
 
       by_result : length p ≡ P.n → (length b ≡ P.n) ⊎ (length b ≢ P.n) → (o : PutBackOutcome) × BackCauseOver P t p b o
       by_result e (inl f) = by_check (e, f) (check_trace P t) ((checked_iff P t (check_trace P t)).0 refl)
-      by_result e (inr d) = (Refused refusal.ResultLength, (e, d))
+      by_result e (inr d) = (Err refusal.ResultLength, (e, d))
 
       by_plan : (length p ≡ P.n) ⊎ (length p ≢ P.n) → (o : PutBackOutcome) × BackCauseOver P t p b o
       by_plan (inl e) = by_result e (eq_dec (length b) P.n)
-      by_plan (inr d) = (Refused refusal.PlanLength, d)
+      by_plan (inr d) = (Err refusal.PlanLength, d)
 
   -- Putting back over a problem answers as it does for its cause and for no other.
   pub put_back_iff_over : (o : PutBackOutcome) → ((put_back_over P t p b).answer ≡ o) ↔ BackCauseOver P t p b o
@@ -139,48 +138,48 @@ module _ (P : Problem) (t p b : List ℕ) where
 
 -- ---- over a sheet
 
-told : (o : PutBackOutcome) → Told (λ r. Refused (refusal.Sheet r)) (whose_back o) o
-told (Refused (refusal.Sheet r)) = refl
-told (Refused refusal.PlanLength) = tt
-told (Refused refusal.ResultLength) = tt
-told (Refused refusal.TraceFront) = tt
-told (Refused refusal.Malformed) = tt
-told (Refused (refusal.Unlawful k l c)) = tt
-told (Refused refusal.Plan) = tt
-told Done = tt
+told : (o : PutBackOutcome) → Told (λ r. Err (refusal.Sheet r)) (whose_back o) o
+told (Err (refusal.Sheet r)) = refl
+told (Err refusal.PlanLength) = tt
+told (Err refusal.ResultLength) = tt
+told (Err refusal.TraceFront) = tt
+told (Err refusal.Malformed) = tt
+told (Err (refusal.Unlawful k l c)) = tt
+told (Err refusal.Plan) = tt
+told (Ok _) = tt
 
 -- the answer that a number from 15 on stands for, but 17, which stands for many
 abbrev numbered : ℕ → PutBackOutcome
 numbered k =
-    cond (eqb k 18) (Refused refusal.PlanLength)
-    (cond (eqb k 20) (Refused refusal.ResultLength)
-    (cond (eqb k 15) (Refused refusal.TraceFront)
-    (cond (eqb k 16) (Refused refusal.Malformed)
-    (Refused refusal.Plan))))
+    cond (eqb k 18) (Err refusal.PlanLength)
+    (cond (eqb k 20) (Err refusal.ResultLength)
+    (cond (eqb k 15) (Err refusal.TraceFront)
+    (cond (eqb k 16) (Err refusal.Malformed)
+    (Err refusal.Plan))))
 
 abbrev Single : ℕ → Type 0
 Single k = (10 ≤ k) × (k ≢ 17)
 
 number_back : (o : PutBackOutcome) → Single (put_back_number o) → numbered (put_back_number o) ≡ o
-number_back Done (l, d) = absurd (omega arith)
-number_back (Refused (refusal.Sheet r)) (l, d) = let m = sheet_number_lem r in absurd (omega arith)
-number_back (Refused refusal.PlanLength) x = refl
-number_back (Refused refusal.ResultLength) x = refl
-number_back (Refused refusal.TraceFront) x = refl
-number_back (Refused refusal.Malformed) x = refl
-number_back (Refused (refusal.Unlawful k l c)) (_, d) = absurd (d refl)
-number_back (Refused refusal.Plan) x = refl
+number_back (Ok _) (l, d) = absurd (omega arith)
+number_back (Err (refusal.Sheet r)) (l, d) = let m = sheet_number_lem r in absurd (omega arith)
+number_back (Err refusal.PlanLength) x = refl
+number_back (Err refusal.ResultLength) x = refl
+number_back (Err refusal.TraceFront) x = refl
+number_back (Err refusal.Malformed) x = refl
+number_back (Err (refusal.Unlawful k l c)) (_, d) = absurd (d refl)
+number_back (Err refusal.Plan) x = refl
 
 -- an answer of the number 17 carries three
-unlawful_back : (o : PutBackOutcome) → put_back_number o ≡ 17 → (k : ℕ) × (l : ℕ) × (c : ℕ) × (o ≡ Refused (refusal.Unlawful k l c))
-unlawful_back Done e = absurd (omega arith)
-unlawful_back (Refused (refusal.Sheet r)) e = let m = sheet_number_lem r in absurd (omega arith)
-unlawful_back (Refused refusal.PlanLength) e = absurd (omega arith)
-unlawful_back (Refused refusal.ResultLength) e = absurd (omega arith)
-unlawful_back (Refused refusal.TraceFront) e = absurd (omega arith)
-unlawful_back (Refused refusal.Malformed) e = absurd (omega arith)
-unlawful_back (Refused (refusal.Unlawful k l c)) e = (k, l, c, refl)
-unlawful_back (Refused refusal.Plan) e = absurd (omega arith)
+unlawful_back : (o : PutBackOutcome) → put_back_number o ≡ 17 → (k : ℕ) × (l : ℕ) × (c : ℕ) × (o ≡ Err (refusal.Unlawful k l c))
+unlawful_back (Ok _) e = absurd (omega arith)
+unlawful_back (Err (refusal.Sheet r)) e = let m = sheet_number_lem r in absurd (omega arith)
+unlawful_back (Err refusal.PlanLength) e = absurd (omega arith)
+unlawful_back (Err refusal.ResultLength) e = absurd (omega arith)
+unlawful_back (Err refusal.TraceFront) e = absurd (omega arith)
+unlawful_back (Err refusal.Malformed) e = absurd (omega arith)
+unlawful_back (Err (refusal.Unlawful k l c)) e = (k, l, c, refl)
+unlawful_back (Err refusal.Plan) e = absurd (omega arith)
 
 module _ (s t p b : List ℕ) where
   -- Putting back answers as it does for its cause and for no other.
@@ -191,23 +190,23 @@ module _ (s t p b : List ℕ) where
   by_number : (o : PutBackOutcome) → Single (put_back_number o) → (put_back_number (put_back_job s t p b).answer ≡ put_back_number o) ↔ BackCause s t p b o
   by_number = number_iff (put_back_job s t p b).answer (BackCause s t p b) put_back_iff put_back_number numbered Single number_back
 
-  pub put_back_18 : (put_back_number (put_back_job s t p b).answer ≡ 18) ↔ BackCause s t p b (Refused refusal.PlanLength)
-  put_back_18 = by_number (Refused refusal.PlanLength) (omega arith, λ e. omega arith)
+  pub put_back_18 : (put_back_number (put_back_job s t p b).answer ≡ 18) ↔ BackCause s t p b (Err refusal.PlanLength)
+  put_back_18 = by_number (Err refusal.PlanLength) (omega arith, λ e. omega arith)
 
-  pub put_back_20 : (put_back_number (put_back_job s t p b).answer ≡ 20) ↔ BackCause s t p b (Refused refusal.ResultLength)
-  put_back_20 = by_number (Refused refusal.ResultLength) (omega arith, λ e. omega arith)
+  pub put_back_20 : (put_back_number (put_back_job s t p b).answer ≡ 20) ↔ BackCause s t p b (Err refusal.ResultLength)
+  put_back_20 = by_number (Err refusal.ResultLength) (omega arith, λ e. omega arith)
 
-  pub put_back_15 : (put_back_number (put_back_job s t p b).answer ≡ 15) ↔ BackCause s t p b (Refused refusal.TraceFront)
-  put_back_15 = by_number (Refused refusal.TraceFront) (omega arith, λ e. omega arith)
+  pub put_back_15 : (put_back_number (put_back_job s t p b).answer ≡ 15) ↔ BackCause s t p b (Err refusal.TraceFront)
+  put_back_15 = by_number (Err refusal.TraceFront) (omega arith, λ e. omega arith)
 
-  pub put_back_16 : (put_back_number (put_back_job s t p b).answer ≡ 16) ↔ BackCause s t p b (Refused refusal.Malformed)
-  put_back_16 = by_number (Refused refusal.Malformed) (omega arith, λ e. omega arith)
+  pub put_back_16 : (put_back_number (put_back_job s t p b).answer ≡ 16) ↔ BackCause s t p b (Err refusal.Malformed)
+  put_back_16 = by_number (Err refusal.Malformed) (omega arith, λ e. omega arith)
 
-  pub put_back_17 : (put_back_number (put_back_job s t p b).answer ≡ 17) ↔ ((k : ℕ) × (l : ℕ) × (c : ℕ) × BackCause s t p b (Refused (refusal.Unlawful k l c)))
+  pub put_back_17 : (put_back_number (put_back_job s t p b).answer ≡ 17) ↔ ((k : ℕ) × (l : ℕ) × (c : ℕ) × BackCause s t p b (Err (refusal.Unlawful k l c)))
   put_back_17 = (
-    λ e. let x = unlawful_back (put_back_job s t p b).answer e in (x.0, x.1, x.2, (put_back_iff (Refused (refusal.Unlawful x.0 x.1 x.2))).0 x.3),
-    λ (k, l, c, x). ap put_back_number ((put_back_iff (Refused (refusal.Unlawful k l c))).1 x),
+    λ e. let x = unlawful_back (put_back_job s t p b).answer e in (x.0, x.1, x.2, (put_back_iff (Err (refusal.Unlawful x.0 x.1 x.2))).0 x.3),
+    λ (k, l, c, x). ap put_back_number ((put_back_iff (Err (refusal.Unlawful k l c))).1 x),
   )
 
-  pub put_back_19 : (put_back_number (put_back_job s t p b).answer ≡ 19) ↔ BackCause s t p b (Refused refusal.Plan)
-  put_back_19 = by_number (Refused refusal.Plan) (omega arith, λ e. omega arith)
+  pub put_back_19 : (put_back_number (put_back_job s t p b).answer ≡ 19) ↔ BackCause s t p b (Err refusal.Plan)
+  put_back_19 = by_number (Err refusal.Plan) (omega arith, λ e. omega arith)

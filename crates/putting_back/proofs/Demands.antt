@@ -23,7 +23,7 @@ use Rattle.sheet.specs.Sheet.{layout, variables_of, Keeps}
 use Rattle.sheet.specs.Relation.{problem_of}
 use Rattle.trace.specs.Trace.{trace_bytes}
 use Rattle.put_back.specs.PutBack.{PutBackResult, put_back_done, Lawful, plan_fits, after_check, put_back_over, put_back_job}
-use Rattle.put_back.specs.declared.PutBackOutcome.TheVariants.{Done}
+use Rattle.std.specs.Prelude.{Ok}
 use Rattle.jobs.proofs.Opened.{variables_of_lem}
 use Rattle.put_back.proofs.Opened.{put_back_checked_over, put_back_kept}
 use Rattle.put_back.proofs.Checked.{taken_iff}
@@ -39,9 +39,9 @@ fits_done P u p b h = rw (T_true (plan_fits P (after_trace P (full P) u) p) h, a
 -- ---- over a problem
 
 -- it is accepted only where the lengths are right, the trace is lawful and the plan is one of what is left
-pub put_back_accepted_over : (P : Problem) (t p b : List ℕ) → (put_back_over P t p b).answer ≡ Done → (length p ≡ P.n) × (length b ≡ P.n) × PutBack P t p (put_back_over P t p b)
+pub put_back_accepted_over : (P : Problem) (t p b : List ℕ) → (put_back_over P t p b).answer ≡ Ok tt → (length p ≡ P.n) × (length b ≡ P.n) × PutBack P t p (put_back_over P t p b)
 put_back_accepted_over P t p b h =
-    let x = (put_back_iff_over P t p b Done).0 h in
+    let x = (put_back_iff_over P t p b (Ok tt)).0 h in
     let u = x.1.0 in (
       x.0.0,
       x.0.1,
@@ -90,10 +90,10 @@ module _ (P : Problem) (t p : List ℕ) (x : PutBackResult) (A : PutBack P t p x
 -- ---- over a sheet
 
 -- the job accepts only where the sheet keeps the layout, the lengths are right, the trace is lawful and the plan is one of what is left
-pub put_back_accepted : (s t p b : List ℕ) → (put_back_job s t p b).answer ≡ Done
+pub put_back_accepted : (s t p b : List ℕ) → (put_back_job s t p b).answer ≡ Ok tt
     → Keeps layout s × (length p ≡ variables_of s) × (length b ≡ variables_of s) × PutBack (problem_of layout s) t p (put_back_job s t p b)
 put_back_accepted s t p b h =
-    let K = ((put_back_iff s t p b Done).0 h).0 in
+    let K = ((put_back_iff s t p b (Ok tt)).0 h).0 in
     let q = put_back_kept s t p b K in
     let x = put_back_accepted_over (problem_of layout s) t p b (rw q at h) in
     (K, x.0 ∙ variables_of_lem s, x.1 ∙ variables_of_lem s, rw q x.2)

@@ -25,8 +25,8 @@ use Rattle.sheet.specs.Relation.{problem_of}
 use Rattle.run.specs.Run.{run_over, run_job}
 use Rattle.trace.specs.Trace.{trace_bytes}
 use Rattle.put_back.specs.PutBack.{PutBackResult, plan_fits, put_back_over, put_back_job}
-use Rattle.run.specs.declared.RunOutcome.TheVariants as reduced
-use Rattle.put_back.specs.declared.PutBackOutcome.TheVariants.{Done}
+use Rattle.run.specs.Numbers.{ran}
+use Rattle.std.specs.Prelude.{Ok}
 use Rattle.run.proofs.Opened.{run_kept}
 use Rattle.put_back.proofs.Opened.{put_back_kept}
 use Rattle.run.proofs.Ran.{ran_iff_over, ran_iff}
@@ -43,9 +43,9 @@ module _ (P : Problem) (b : List ℕ) where
   abbrev last : State
   last = after_trace P (full P) records
 
-  module _ (e : End) (k w : ℕ) (o : (run_over P b).answer.outcome ≡ reduced.Done e k w) where
-    cause : RunCauseOver P b (reduced.Done e k w)
-    cause = (ran_iff_over P b (reduced.Done e k w)).0 o
+  module _ (e : End) (k w : ℕ) (o : (run_over P b).answer.outcome ≡ ran e k w) where
+    cause : RunCauseOver P b (ran e k w)
+    cause = (ran_iff_over P b (ran e k w)).0 o
 
     worked : Worked P records last b (run_over P b)
     worked = run_worked_over P b cause.0
@@ -58,14 +58,14 @@ module _ (P : Problem) (b : List ℕ) where
     trace_left_lem = ap (take w) worked.buffer ∙ take_at (trace_bytes records) _ w (sym cause.1.1.1)
 
   -- impossible: the problem has no plan
-  pub impossible_none_over : (k w : ℕ) → (run_over P b).answer.outcome ≡ reduced.Done Impossible k w → (p : ℕ → ℕ) → T (solves_whole P p) → ⊥
+  pub impossible_none_over : (k w : ℕ) → (run_over P b).answer.outcome ≡ ran Impossible k w → (p : ℕ → ℕ) → T (solves_whole P p) → ⊥
   impossible_none_over k w o p t =
       let x = says Impossible k w o in
       let y = (worked Impossible k w o).plan.1 (p, (solves_whole_iff P p).0 t) in
       x.2 (y.0 x.0) (y.1.live x.0 x.1)
 
   -- solved: 255 everywhere is a plan for no items
-  pub solved_fits_over : (k w : ℕ) → (run_over P b).answer.outcome ≡ reduced.Done Solved k w → T (plan_fits P last (replicate P.n 255))
+  pub solved_fits_over : (k w : ℕ) → (run_over P b).answer.outcome ≡ ran Solved k w → T (plan_fits P last (replicate P.n 255))
   unfolding plan_fits
   solved_fits_over k w o =
       let no = says Solved k w o in
@@ -77,19 +77,19 @@ module _ (P : Problem) (b : List ℕ) where
       )
 
   -- solved: the run's trace, put back with 255 everywhere, gives a plan
-  pub solved_put_back_over : (k w : ℕ) → (run_over P b).answer.outcome ≡ reduced.Done Solved k w → (r : List ℕ) → length r ≡ P.n
-      → ((put_back_over P (take w (run_over P b).buffer) (replicate P.n 255) r).answer ≡ Done)
+  pub solved_put_back_over : (k w : ℕ) → (run_over P b).answer.outcome ≡ ran Solved k w → (r : List ℕ) → length r ≡ P.n
+      → ((put_back_over P (take w (run_over P b).buffer) (replicate P.n 255) r).answer ≡ Ok tt)
       × T (solves_whole P (plan_of (put_back_over P (take w (run_over P b).buffer) (replicate P.n 255) r).result))
   solved_put_back_over k w o r l =
       let p : List ℕ = replicate P.n 255 in
       let t = take w (run_over P b).buffer in
-      let d : (put_back_over P t p r).answer ≡ Done =
+      let d : (put_back_over P t p r).answer ≡ Ok tt =
       ap (λ (u : List ℕ). (put_back_over P u p r).answer) (trace_left_lem Solved k w o)
       ∙ ap (λ (y : PutBackResult). y.answer) (run_put_back_over P p r (length-replicate P.n 255) l (solved_fits_over k w o)) in
       (d, put_back_plan P t p _ (put_back_accepted_over P t p r d).2)
 
   -- solved: so the problem has a plan
-  pub solved_some_over : (k w : ℕ) → (run_over P b).answer.outcome ≡ reduced.Done Solved k w → (p : ℕ → ℕ) × T (solves_whole P p)
+  pub solved_some_over : (k w : ℕ) → (run_over P b).answer.outcome ≡ ran Solved k w → (p : ℕ → ℕ) × T (solves_whole P p)
   solved_some_over k w o = (_, (solved_put_back_over k w o (replicate P.n 0) (length-replicate P.n 0)).1)
 
 -- ---- over a sheet
@@ -99,22 +99,22 @@ module _ (s b : List ℕ) where
   problem = problem_of layout s
 
   -- an accepted run's sheet keeps the layout, and the run is that over its problem
-  kept : (e : End) (k w : ℕ) → (run_job s b).answer.outcome ≡ reduced.Done e k w → Keeps layout s × ((run_over problem b).answer.outcome ≡ reduced.Done e k w)
-  kept e k w o = let K = ((ran_iff s b (reduced.Done e k w)).0 o).0 in (K, rw (run_kept s b K) at o)
+  kept : (e : End) (k w : ℕ) → (run_job s b).answer.outcome ≡ ran e k w → Keeps layout s × ((run_over problem b).answer.outcome ≡ ran e k w)
+  kept e k w o = let K = ((ran_iff s b (ran e k w)).0 o).0 in (K, rw (run_kept s b K) at o)
 
   -- impossible: the full sheet has no plan
-  pub impossible_none : (k w : ℕ) → (run_job s b).answer.outcome ≡ reduced.Done Impossible k w → (p : ℕ → ℕ) → T (solves_whole problem p) → ⊥
+  pub impossible_none : (k w : ℕ) → (run_job s b).answer.outcome ≡ ran Impossible k w → (p : ℕ → ℕ) → T (solves_whole problem p) → ⊥
   impossible_none k w o = impossible_none_over problem b k w (kept Impossible k w o).1
 
   -- solved: 255 everywhere is a plan for no items
-  pub solved_fits : (k w : ℕ) → (run_job s b).answer.outcome ≡ reduced.Done Solved k w
+  pub solved_fits : (k w : ℕ) → (run_job s b).answer.outcome ≡ ran Solved k w
       → T (plan_fits problem (after_trace problem (full problem) (run problem (full problem))) (replicate (variables_of s) 255))
   unfolding problem_of
   solved_fits k w o = solved_fits_over problem b k w (kept Solved k w o).1
 
   -- solved: the run's trace, put back with 255 everywhere, gives a plan of the full sheet
-  pub solved_put_back : (k w : ℕ) → (run_job s b).answer.outcome ≡ reduced.Done Solved k w → (r : List ℕ) → length r ≡ variables_of s
-      → ((put_back_job s (take w (run_job s b).buffer) (replicate (variables_of s) 255) r).answer ≡ Done)
+  pub solved_put_back : (k w : ℕ) → (run_job s b).answer.outcome ≡ ran Solved k w → (r : List ℕ) → length r ≡ variables_of s
+      → ((put_back_job s (take w (run_job s b).buffer) (replicate (variables_of s) 255) r).answer ≡ Ok tt)
       × T (solves_whole problem (plan_of (put_back_job s (take w (run_job s b).buffer) (replicate (variables_of s) 255) r).result))
   unfolding problem_of
   solved_put_back k w o r =
@@ -123,5 +123,5 @@ module _ (s b : List ℕ) where
       rw (run_kept s b x.0, q) (solved_put_back_over problem b k w x.1 r)
 
   -- solved: so the full sheet has a plan
-  pub solved_some : (k w : ℕ) → (run_job s b).answer.outcome ≡ reduced.Done Solved k w → (p : ℕ → ℕ) × T (solves_whole problem p)
+  pub solved_some : (k w : ℕ) → (run_job s b).answer.outcome ≡ ran Solved k w → (p : ℕ → ℕ) × T (solves_whole problem p)
   solved_some k w o = solved_some_over problem b k w (kept Solved k w o).1

@@ -16,7 +16,7 @@ use Rattle.problem.proofs.Reflect.{full_fits}
 use Rattle.problem.specs.Sentences.{Fits, Solution}
 use Rattle.problem.proofs.Trace.{trace_fits}
 use Rattle.put_back.specs.PutBack.{Checked, Lawful as Records, plan_fits, check_trace, PutBackResult, put_back_refused, put_back_done, after_check}
-use Rattle.put_back.specs.declared.PutBackOutcome.TheVariants.{Done}
+use Rattle.std.specs.Prelude.{Ok}
 use Rattle.put_back.specs.declared.PutBackRefusal.TheVariants.{Plan}
 use Rattle.held.specs.Ready.{Ready}
 use Rattle.held.proofs.After.{state_held, ready_held}
@@ -77,7 +77,7 @@ module _ {t : List ℕ} (R : RowTable t) (trace plan out : List ℕ) (last : Mas
         })
 
     pub put_done : (xs ys : List ℕ) → xs ≡ plan → ys ≡ undone_by (held t) (state_of first) (checked_from (held t) trace (state_of first) 0 1) xs
-        → (Done ≡ (after_check (held t) plan out (check_trace (held t) trace)).answer) × (ys ≡ (after_check (held t) plan out (check_trace (held t) trace)).result)
+        → ((Ok tt) ≡ (after_check (held t) plan out (check_trace (held t) trace)).answer) × (ys ≡ (after_check (held t) plan out (check_trace (held t) trace)).result)
     put_done xs ys ex ey =
         let g = sym (after_plan true h) in (
           ap (λ (r : PutBackResult). r.answer) g,

@@ -22,7 +22,7 @@ use Rattle.sheet.specs.Relation.{problem_of}
 use Rattle.sheet.proofs.Accepted.{problem_bounded}
 use Rattle.trace.specs.Trace.{record_bytes, trace_bytes}
 use Rattle.put_back.specs.PutBack.{put_back_job}
-use Rattle.put_back.specs.declared.PutBackOutcome.TheVariants.{Refused}
+use Rattle.std.specs.Prelude.{Err}
 use Rattle.put_back.specs.declared.PutBackRefusal.TheVariants.{Unlawful}
 use Rattle.jobs.proofs.Opened.{variables_of_lem}
 use Rattle.put_back.specs.Causes.{Carried, BackCauseOver}
@@ -64,7 +64,7 @@ module _ {P : Problem} (B : Bounded P) where
       let x = named_listed (trace_fits P (full_fits P) u) r l c h in
       (omega (arith, x.0, B.few), omega (arith, x.1, B.narrow l))
 
-  pub unlawful_names_over : (t p b : List ℕ) (k l c : ℕ) → BackCauseOver P t p b (Refused (Unlawful k l c)) → UnlawfulRecord P t k l c
+  pub unlawful_names_over : (t p b : List ℕ) (k l c : ℕ) → BackCauseOver P t p b (Err (Unlawful k l c)) → UnlawfulRecord P t k l c
   unlawful_names_over t p b k l c (Z, (u, r, more, e, h, n, m, x)) =
       record {
         before = u;
@@ -100,12 +100,12 @@ module _ {P : Problem} (B : Bounded P) where
 -- ---- over a sheet
 
 -- A call gets 17 with these numbers only where the sheet keeps the layout, the lengths are right, and the numbers say what they should.
-pub unlawful_names : (s t p b : List ℕ) (k l c : ℕ) → (put_back_job s t p b).answer ≡ Refused (Unlawful k l c)
+pub unlawful_names : (s t p b : List ℕ) (k l c : ℕ) → (put_back_job s t p b).answer ≡ Err (Unlawful k l c)
     → Keeps layout s × (length p ≡ variables_of s) × (length b ≡ variables_of s) × UnlawfulRecord (problem_of layout s) t k l c
 unlawful_names s t p b k l c e =
-    let x = (put_back_iff s t p b (Refused (Unlawful k l c))).0 e in
+    let x = (put_back_iff s t p b (Err (Unlawful k l c))).0 e in
     (x.0, x.1.0.0 ∙ variables_of_lem s, x.1.0.1 ∙ variables_of_lem s, unlawful_names_over (problem_bounded s x.0) t p b k l c x.1)
 
 -- a lawful trace has at most as many records as the sheet lists settings
-pub unlawful_small : (s t p b : List ℕ) (k l c : ℕ) → (put_back_job s t p b).answer ≡ Refused (Unlawful k l c) → (k ≤ 512) × (l ≤ 255) × (c ≤ 255)
+pub unlawful_small : (s t p b : List ℕ) (k l c : ℕ) → (put_back_job s t p b).answer ≡ Err (Unlawful k l c) → (k ≤ 512) × (l ≤ 255) × (c ≤ 255)
 unlawful_small s t p b k l c e = (unlawful_names s t p b k l c e).3.small

@@ -7,95 +7,87 @@ ghost use Rattle.bounded.specs.Quantifiers.{all_below};
 ghost use Rattle.problem.specs.Problem.{full};
 ghost use Rattle.problem.specs.PutBack.{plan_of};
 ghost use Rattle.problem.specs.Held.{held, RowTable};
-ghost use Rattle.problem.specs.Masks.{state_of, masks_of, Proper, sets};
-ghost use Rattle.held.specs.Ready.{Ready};
+ghost use Rattle.problem.specs.Masks.{state_of, masks_of, Proper};
 ghost use Rattle.put_back.specs.PutBack.{plan_fits, check_trace, after_check, put_back_over, put_back_job};
 ghost use Rattle.replay.specs.Walk.{walk_ended, lawful_end};
 ghost use Rattle.putting_back.specs.Plan.{entry_fits, Entries, pair_fits, pairs_of};
 
-use bounded::has32;
-use held::is_live;
+use bounded::Set;
+use held::{View, is_live};
 use problem::Masks;
-use put_back::{PutBackOutcome, PutBackRefusal};
-use replay::{TraceCheck, check_trace};
-use sheet::SheetRead;
+use put_back::PutBackRefusal;
+use replay::check_trace;
 use undo::undo_all;
 
 // ---- the plan
 
 // An item in has a setting on, and an item out has 255.
-fn entry_fits(active: u32, on: &[u16; 32], i: usize, v: usize) -> bool
-    requires { Proper (sets active on.now) × (i < 32) }
-    ensures { result ≡ entry_fits (state_of (sets active on.now)) i v }
+fn entry_fits(m: &Masks, i: usize, v: usize) -> bool
+    requires { Proper m.now × (i < 32) }
+    ensures { result ≡ entry_fits (state_of m.now) i v }
 {
-    if has32(active, i) {
-        is_live(active, on, i, v)
+    if m.active.has(i) {
+        is_live(m.active, &m.domains, i, v)
     } else {
         v == 255
     }
 }
 
-fn entries_fit(active: u32, on: &[u16; 32], plan: &[u8]) -> bool
-    requires { Proper (sets active on.now) × (length plan.now ≤ 32) }
-    ensures { result ≡ all_below (length plan.now) (λ i. entry_fits (state_of (sets active on.now)) i (plan_of plan.now i)) }
+fn entries_fit(m: &Masks, plan: &[u8]) -> bool
+    requires { Proper m.now × (length plan.now ≤ 32) }
+    ensures { result ≡ all_below (length plan.now) (λ i. entry_fits (state_of m.now) i (plan_of plan.now i)) }
 {
-    let mut i: usize = 0;
-    while i < plan.len() {
-        if !entry_fits(active, on, i, plan[i] as usize) {
+    for (i, v) in plan.iter().enumerate() {
+        if !entry_fits(m, i, *v as usize) {
             return false;
         }
-        i += 1;
     }
     true
 }
 
 // Two items in have an allowed pair.
-fn pair_fits(t: &[u16], active: u32, on: &[u16; 32], plan: &[u8], i: usize, j: usize) -> bool
-    requires { Ready t.now (sets active on.now) × (Entries (sets active on.now) plan.now × ((i < length plan.now) × (j < length plan.now))) }
-    ensures { result ≡ pair_fits (held t.now) (state_of (sets active on.now)) (plan_of plan.now) i j }
+fn pair_fits(view: View, plan: &[u8], i: usize, j: usize) -> bool
+    requires { Entries view.state.now plan.now × ((i < length plan.now) × (j < length plan.now)) }
+    ensures { result ≡ pair_fits (held view.entry.table.now) (state_of view.entry.state.now) (plan_of plan.now) i j }
 {
-    if has32(active, i) & (has32(active, j) & (i != j)) {
-        held::pair_allowed(t, i, plan[i] as usize, j, plan[j] as usize)
+    if view.state.active.has(i) & (view.state.active.has(j) & (i != j)) {
+        held::pair_allowed(view.table, i, plan[i] as usize, j, plan[j] as usize)
     } else {
         true
     }
 }
 
-fn pairs_of(t: &[u16], active: u32, on: &[u16; 32], plan: &[u8], i: usize) -> bool
-    requires { Ready t.now (sets active on.now) × (Entries (sets active on.now) plan.now × ((length plan.now ≡ (held t.now).n) × (i < length plan.now))) }
-    ensures { result ≡ pairs_of (held t.now) (state_of (sets active on.now)) (plan_of plan.now) i }
+fn pairs_of(view: View, plan: &[u8], i: usize) -> bool
+    requires { Entries view.state.now plan.now × ((length plan.now ≡ (held view.table.now).n) × (i < length plan.now)) }
+    ensures { result ≡ pairs_of (held view.entry.table.now) (state_of view.entry.state.now) (plan_of plan.now) i }
 {
-    let mut j: usize = 0;
-    while j < plan.len() {
-        if !pair_fits(t, active, on, plan, i, j) {
+    for j in 0..plan.len() {
+        if !pair_fits(view, plan, i, j) {
             return false;
         }
-        j += 1;
     }
     true
 }
 
-fn pairs_fit(t: &[u16], active: u32, on: &[u16; 32], plan: &[u8]) -> bool
-    requires { Ready t.now (sets active on.now) × (Entries (sets active on.now) plan.now × (length plan.now ≡ (held t.now).n)) }
-    ensures { result ≡ all_below (held t.now).n (pairs_of (held t.now) (state_of (sets active on.now)) (plan_of plan.now)) }
+fn pairs_fit(view: View, plan: &[u8]) -> bool
+    requires { Entries view.state.now plan.now × (length plan.now ≡ (held view.table.now).n) }
+    ensures { result ≡ all_below (held view.entry.table.now).n (pairs_of (held view.entry.table.now) (state_of view.entry.state.now) (plan_of plan.now)) }
 {
-    let mut i: usize = 0;
-    while i < plan.len() {
-        if !pairs_of(t, active, on, plan, i) {
+    for i in 0..plan.len() {
+        if !pairs_of(view, plan, i) {
             return false;
         }
-        i += 1;
     }
     true
 }
 
 // The plan is one for the items left: each entry by itself first, since only a setting on has a row to read.
-fn plan_fits(t: &[u16], m: Masks, plan: &[u8]) -> bool
-    requires { Ready t.now m × (length plan.now ≡ (held t.now).n) }
-    ensures { result ≡ plan_fits (held t.now) (state_of m) plan.now }
+fn plan_fits(view: View, plan: &[u8]) -> bool
+    requires { length plan.now ≡ (held view.table.now).n }
+    ensures { result ≡ plan_fits (held view.entry.table.now) (state_of view.entry.state.now) plan.now }
 {
-    if entries_fit(m.active, &m.domains, plan) {
-        pairs_fit(t, m.active, &m.domains, plan)
+    if entries_fit(view.state, plan) {
+        pairs_fit(view, plan)
     } else {
         false
     }
@@ -103,15 +95,14 @@ fn plan_fits(t: &[u16], m: Masks, plan: &[u8]) -> bool
 
 // ---- the job
 
-// Copies the plan into the result.
+// Copies the plan into the result. Not by `copy_from_slice`, which calls memmove: the header promises callers from C that the library calls
+// memset and memcpy alone.
 fn copy(plan: &[u8], out: &mut [u8])
     requires { length plan.now ≡ length out.old }
     ensures { out.new ≡ plan.now }
 {
-    let mut i: usize = 0;
-    while i < plan.len() {
+    for i in 0..plan.len() {
         out[i] = plan[i];
-        i += 1;
     }
 }
 
@@ -123,63 +114,70 @@ fn finish(
     trace: &[u8],
     plan: &[u8],
     out: &mut [u8],
-) -> PutBackOutcome
+) -> Result<(), PutBackRefusal>
     requires { RowTable t.now × ((first ≡ masks_of (full (held t.now))) × ((walk_ended (held t.now) (full (held t.now)) (check_trace (held t.now) trace.now) ≡ lawful_end last) × ((length plan.now ≡ (held t.now).n) × (length out.old ≡ (held t.now).n)))) }
     ensures { (result ≡ (after_check (held t.now) plan.now out.old (check_trace (held t.now) trace.now)).answer) × (out.new ≡ (after_check (held t.now) plan.now out.old (check_trace (held t.now) trace.now)).result) }
 {
-    if !plan_fits(t, last, plan) {
-        return PutBackOutcome::Refused(PutBackRefusal::Plan);
+    let left = View {
+        table: t,
+        state: &last,
+    };
+    if !plan_fits(left, plan) {
+        return Err(PutBackRefusal::Plan);
     }
     copy(plan, out);
-    undo_all(t, first, trace, out);
-    PutBackOutcome::Done
+    let whole = View {
+        table: t,
+        state: &first,
+    };
+    undo_all(whole, trace, out);
+    Ok(())
 }
 
 // The trace, then the plan, over a filled table, with a plan and a result of a byte for each variable.
-fn put_back_sized(t: &[u16], trace: &[u8], plan: &[u8], out: &mut [u8]) -> PutBackOutcome
+fn put_back_sized(
+    t: &[u16],
+    trace: &[u8],
+    plan: &[u8],
+    out: &mut [u8],
+) -> Result<(), PutBackRefusal>
     requires { RowTable t.now × ((length plan.now ≡ (held t.now).n) × (length out.old ≡ (held t.now).n)) }
     ensures { (result ≡ (after_check (held t.now) plan.now out.old (check_trace (held t.now) trace.now)).answer) × (out.new ≡ (after_check (held t.now) plan.now out.old (check_trace (held t.now) trace.now)).result) }
 {
     let first = held::full_masks(t);
     let end = check_trace(t, trace, first);
-    let check = end.check;
-    match check {
-        TraceCheck::Fault(e) => PutBackOutcome::Refused(e),
-        TraceCheck::Lawful => {
-            let last = end.state;
-            finish(t, first, last, trace, plan, out)
-        }
-    }
+    end.check?;
+    finish(t, first, end.state, trace, plan, out)
 }
 
 // Putting back over a filled table: the lengths first, by its variables, then the trace and the plan. The plan of the whole problem from one
 // for the variables left. A refusal leaves the result as it was.
-pub fn put_back_over(t: &[u16], trace: &[u8], plan: &[u8], out: &mut [u8]) -> PutBackOutcome
+pub fn put_back_over(
+    t: &[u16],
+    trace: &[u8],
+    plan: &[u8],
+    out: &mut [u8],
+) -> Result<(), PutBackRefusal>
     requires { RowTable t.now }
     ensures { (result ≡ (put_back_over (held t.now) trace.now plan.now out.old).answer) × (out.new ≡ (put_back_over (held t.now) trace.now plan.now out.old).result) }
 {
     let n = held::variables(t);
     if plan.len() != n {
-        return PutBackOutcome::Refused(PutBackRefusal::PlanLength);
+        return Err(PutBackRefusal::PlanLength);
     }
     if out.len() != n {
-        return PutBackOutcome::Refused(PutBackRefusal::ResultLength);
+        return Err(PutBackRefusal::ResultLength);
     }
     put_back_sized(t, trace, plan, out)
 }
 
 // Puts back what a trace took out: the plan of the whole sheet from one for the items left. A refusal leaves the result as it was.
-pub fn put_back(s: &[u8], trace: &[u8], plan: &[u8], out: &mut [u8]) -> PutBackOutcome
+pub fn put_back(s: &[u8], trace: &[u8], plan: &[u8], out: &mut [u8]) -> Result<(), PutBackRefusal>
     ensures { (result ≡ (put_back_job s.now trace.now plan.now out.old).answer) × (out.new ≡ (put_back_job s.now trace.now plan.now out.old).result) }
 {
     let mut t = table::blank_table();
-    match read_sheet::read_table(s, &mut t) {
-        SheetRead::Refused(r) => PutBackOutcome::Refused(PutBackRefusal::Sheet(r)),
-        SheetRead::Accepted {
-            variables: _,
-            blocks: _,
-        } => put_back_over(&t, trace, plan, out),
-    }
+    read_sheet::read_table(s, &mut t)?;
+    put_back_over(&t, trace, plan, out)
 }
 
 // ---- from C

@@ -1,12 +1,12 @@
 -- What the number of the read check tells: a refusal's, or the variables and the blocks come back. Assumes nothing.
-use mathlib.Core.Path.{◌≡◌, refl, ap}
+use mathlib.Core.Path.{◌≡◌, refl, sym, ap, ◌∙◌}
 use mathlib.Core.List.{List}
 use Prim.Native.Nat.{ℕ, zero, suc, ◌+◌, ◌-◌, ◌*◌, ◌≤◌, ◌/◌, ◌%◌}
 use native.Mathlib.Omega.{arith}
 use Rattle.buffers.specs.Bytes.{byte_at}
-use Rattle.sheet.specs.Sheet.{layout, variables_of, blocks_of, read_sheet, Front, sheet_number}
-use Rattle.sheet.specs.declared.SheetRead.{SheetRead}
-use Rattle.sheet.specs.declared.SheetRead.TheVariants as read
+use Rattle.sheet.specs.Sheet.{layout, variables_of, blocks_of, read_sheet, Front, sheet_number, SheetRead, accepted}
+use Rattle.std.specs.Prelude.{Err, Ok}
+use Rattle.sheet.proofs.Laws.{accepted_parts}
 use Rattle.sheet.proofs.Accepted.{Good, facts, keeps, here}
 use mathlib.Core.Logic.{◌⊎◌, inl, inr, ◌≢◌, ◌↔◌}
 use Rattle.sheet.specs.declared.SheetRefusal.{SheetRefusal}
@@ -26,37 +26,38 @@ blocks_few s f (suc k) least p l g =
     let rest : k + (32 * byte_at s p + byte_at s (p + 1) + 1) ≤ 1024 = blocks_few s f k _ _ (omega arith) (rw one at h.rest) in
     omega arith
 
-pub read_small : (s : List ℕ) (n m : ℕ) → read_sheet layout s ≡ read.Accepted n m → (n ≤ 32) × (m ≤ 1024)
+pub read_small : (s : List ℕ) (n m : ℕ) → read_sheet layout s ≡ accepted n m → (n ≤ 32) × (m ≤ 1024)
 read_small s n m e =
     let K = keeps layout s n m e in
     let F = facts layout s K in
     let few = F.front.few in
     let b = blocks_few s F.front (blocks_of s) 0 (8 + variables_of s) (omega arith) F.laid in
-    let p : n ≡ variables_of s = cc in
-    let q : m ≡ blocks_of s = cc in
+    let p = accepted_parts (sym e ∙ K) in
+    let n_is = p.0 in
+    let m_is = p.1 in
     (omega arith, omega arith)
 
 -- ---- what the number tells
 
 -- accepted: the variables and the blocks come back
-pub read_unpacked : (s : List ℕ) (n m : ℕ) → read_sheet layout s ≡ read.Accepted n m → (read_call s % 256 ≡ 0) × (read_call s / 256 % 256 ≡ n) × (read_call s / 65536 ≡ m)
+pub read_unpacked : (s : List ℕ) (n m : ℕ) → read_sheet layout s ≡ accepted n m → (read_call s % 256 ≡ 0) × (read_call s / 256 % 256 ≡ n) × (read_call s / 65536 ≡ m)
 read_unpacked s n m e =
     let l = read_small s n m e in
     let q : read_call s ≡ 256 * (n + 256 * m) = ap read_number e in
     (omega arith, omega arith, omega arith)
 
 abbrev pub ReadTaken : List ℕ → Type 0
-ReadTaken s = (n : ℕ) × (m : ℕ) × (read_sheet layout s ≡ read.Accepted n m)
+ReadTaken s = (n : ℕ) × (m : ℕ) × (read_sheet layout s ≡ accepted n m)
 
 abbrev pub ReadRefused : List ℕ → Type 0
-ReadRefused s = (r : SheetRefusal) × (read_sheet layout s ≡ read.Refused r) × (read_call s ≡ sheet_number r)
+ReadRefused s = (r : SheetRefusal) × (read_sheet layout s ≡ Err r) × (read_call s ≡ sheet_number r)
 
 read_either : (s : List ℕ) → ReadTaken s ⊎ (Refuses (read_call s) × ReadRefused s)
 read_either s = go (read_sheet layout s) refl
   where
     go : (y : SheetRead) → read_sheet layout s ≡ y → ReadTaken s ⊎ (Refuses (read_call s) × ReadRefused s)
-    go (read.Accepted n m) e = inl (n, m, e)
-    go (read.Refused r) e =
+    go (Ok a) e = inl (a.variables, a.blocks, e)
+    go (Err r) e =
         let q : read_call s ≡ sheet_number r = ap read_number e in
         let l = sheet_listed r in
         inr ((omega arith, omega arith), (r, e, q))

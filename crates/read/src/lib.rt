@@ -4,14 +4,12 @@
 ghost use Rattle.std.specs.Prelude.{◌≡◌, ◌+◌, ◌*◌};
 ghost use Rattle.read.specs.Read.{read_call};
 
-use sheet::SheetRead;
-
 // The read check. Bits 0-7: the refusal's number, 0 where the sheet is accepted; bits 8-15: its variables; bits 16-31: its blocks.
 pub fn read_call(sheet: &[u8]) -> u64
     ensures { result ≡ read_call sheet.now }
 {
     match read_sheet::read_sheet(sheet) {
-        SheetRead::Refused(r) => sheet::sheet_number(r) as u64,
-        SheetRead::Accepted { variables, blocks } => 256 * (variables as u64 + 256 * blocks as u64),
+        Ok(a) => 256 * (a.variables as u64 + 256 * a.blocks as u64),
+        Err(r) => u8::from(r) as u64,
     }
 }

@@ -11,6 +11,8 @@ use lib.Dec.{eqb, leb}
 use borrow.Author.Tests.{leb-true, eq-eqb, ne_eqb, eqb-false}
 use lib.ListN.{length, drop, get_or, drop_of_length-le, get_or-eq_default}
 use lib.Seq.{drop-cons}
+use Rattle.std.specs.Prelude.{nat_eq}
+use Rattle.std.specs.List.{starts_with}
 use Rattle.bounded.proofs.Truth.{lt_dec, clash, both, neither}
 use Rattle.graph.specs.Graph.{is_digit, decimal_from, decimal_of, begins}
 use Rattle.graph.specs.Scan.{line_in, digits_in}
@@ -154,42 +156,9 @@ line_eight f p k I h n =
 
 -- ---- a word
 
--- the word w stands at p as far as k
-abbrev pub Matching : (f w : List ℕ) (p k : ℕ) → Type 0
-Matching f w p k = begins w (drop p f) ≡ begins (drop k w) (drop (p + k) f)
-
-module _ (f w : List ℕ) (p k : ℕ) (I : Matching f w p k) (more : k < length w) where
-  head : drop k w ≡ get_or w k 10 ∷ drop (k + 1) w
-  head = drop_next w k more
-
-  pub word_cut : length f ≤ p + k → begins w (drop p f) ≡ false
-  unfolding begins
-  word_cut h = I ∙ ap (λ (x : List ℕ). begins x (drop (p + k) f)) head ∙ ap (begins (get_or w k 10 ∷ drop (k + 1) w)) (drop_of_length-le f {i = p + k} h)
-
-  word_step : p + k < length f → begins w (drop p f) ≡ (eqb (get_or w k 10) (get_or f (p + k) 10) && begins (drop (k + 1) w) (drop (p + (k + 1)) f))
-  unfolding begins
-  word_step h =
-      let q : p + k + 1 ≡ p + (k + 1) = omega arith in
-      I ∙ ap (λ (x : List ℕ). begins x (drop (p + k) f)) head ∙ ap (begins (get_or w k 10 ∷ drop (k + 1) w)) (drop_next f (p + k) h)
-      ∙ ap (λ (n : ℕ). eqb (get_or w k 10) (get_or f (p + k) 10) && begins (drop (k + 1) w) (drop n f)) q
-
-  pub word_miss : p + k < length f → get_or f (p + k) 0 ≢ get_or w k 0 → begins w (drop p f) ≡ false
-  word_miss h n =
-      let a = get_d_any f (p + k) 0 10 h in
-      let b = get_d_any w k 0 10 more in
-      let d : get_or w k 10 ≡ get_or f (p + k) 10 → ⊥ = λ e. n (a ∙ sym e ∙ sym b) in
-      word_step h ∙ rw (ne_eqb (get_or w k 10) (get_or f (p + k) 10) d)
-
-  pub word_turn : p + k < length f → get_or f (p + k) 0 ≡ get_or w k 0 → Matching f w p (k + 1)
-  word_turn h e =
-      let a = get_d_any f (p + k) 0 10 h in
-      let b = get_d_any w k 0 10 more in
-      let d : get_or w k 10 ≡ get_or f (p + k) 10 = sym b ∙ sym e ∙ a in
-      word_step h ∙ rw (eq-eqb (get_or w k 10) (get_or f (p + k) 10) d)
-
-pub word_start : (f w : List ℕ) (p : ℕ) → Matching f w p 0
-word_start f w p = let q : p + 0 ≡ p = omega arith in rw q
-
-pub word_end : (f w : List ℕ) (p k : ℕ) → Matching f w p k → length w ≤ k → begins w (drop p f) ≡ true
+-- it begins a text exactly where the library finds it at the front
+pub begins_starts : (w r : List ℕ) → starts_with nat_eq r w ≡ begins w r
 unfolding begins
-word_end f w p k I h = I ∙ ap (λ (x : List ℕ). begins x (drop (p + k) f)) (drop_of_length-le w {i = k} h)
+begins_starts [] r = refl
+begins_starts (x ∷ w) [] = refl
+begins_starts (x ∷ w) (y ∷ r) = ap (λ (t : Bool). eqb x y && t) (begins_starts w r)

@@ -1,7 +1,8 @@
 -- Marks, and line after line of a file. Assumes nothing.
 use mathlib.Core.Path.{◌≡◌, refl, sym, ap, ◌∙◌}
-use mathlib.Core.Bool.{Bool, true, false, ◌&&◌, ◌||◌, and-false, or-true, or-false, or_assoc}
+use mathlib.Core.Bool.{Bool, true, false, not, cond, ◌&&◌, ◌||◌, or-true, or-false, or_assoc}
 use mathlib.Core.List.{List, [], ◌∷◌}
+use Rattle.std.specs.Prelude.{Option, None, Some, Result, Ok, Err, ok_or, IfOk, IsErr}
 use mathlib.Core.Logic.{◌⊎◌, inl, inr, ◌≢◌}
 use Prim.Native.Nat.{ℕ, suc, ◌+◌, ◌-◌, ◌*◌, ◌≤◌, ◌<◌}
 use native.Mathlib.Omega.{arith}
@@ -10,17 +11,16 @@ use lib.ListN.{length, drop, get_or, set, length-set, length-drop, drop_of_lengt
 use lib.Seq.{get_or-set_same, get_or-set_other, drop-drop}
 use borrow.Author.Tests.{ltb-false, le-ltb, eq-eqb, eqb-true}
 use Rattle.bounded.proofs.Truth.{eq_dec, split, both, neither, clash}
-use Rattle.graph.specs.Graph.{is_outside, line_of, file_lines, any_line}
+use Rattle.graph.specs.Graph.{is_outside, line_of, file_lines, any_line, turned_away}
 use Rattle.graph.specs.Colouring.{joins, adjacent}
-use Rattle.graph.specs.Scan.{line_in, after_line, is_marked, no_tally, turned_away, with_size, with_edge, in_place, stepped, read_from}
+use Rattle.graph.specs.Scan.{line_in, after_line, is_marked, with_edge, in_place, stepped, read_from}
 use Rattle.graph.specs.declared.Line.{Line}
 use Rattle.graph.specs.declared.Line.TheVariants.{Comment, Size, Edge, Bad}
-use Rattle.graph.specs.declared.Tally.{Tally}
 use Rattle.graph.specs.declared.GraphRead.{GraphRead}
-use Rattle.graph.specs.declared.GraphRead.TheVariants as read
+use Rattle.graph.specs.declared.TurnedAway.{TurnedAway}
 use Rattle.graph.proofs.Lines.{file_next, file_none, after_drop, line_within}
 use Rattle.graph.proofs.Reading.{read_on, read_away}
-use Rattle.read_graph.specs.Parts.{Marked, Unmarked, LineAt, LinesRead}
+use Rattle.read_graph.specs.Parts.{Few, Inside, Marked, Unmarked, LineAt, MarksSay, LinesRead}
 use Rattle.read_graph.specs.declared.LineRead.{LineRead}
 use Rattle.read_graph.proofs.Laws.{drop_next}
 
@@ -101,13 +101,7 @@ pair_marked n a b l a1 a2 b1 b2 =
         none i j hi hj d f (inr q) = let e = q.0 in let g = q.1 in d (omega arith)
 
 -- two vertices that are 1 to 32
-pub record MarkInside (a b : ℕ) : Type 0 where
-  pub a_some : 1 ≤ a
-  pub a_few : a ≤ 32
-  pub b_some : 1 ≤ b
-  pub b_few : b ≤ 32
-
-pub inside : (x y : Bool) (a b : ℕ) → x ≡ is_outside 32 a → y ≡ is_outside 32 b → (x || y) ≡ false → MarkInside a b
+pub inside : (x y : Bool) (a b : ℕ) → x ≡ is_outside 32 a → y ≡ is_outside 32 b → (x || y) ≡ false → Inside a b
 inside x y a b e f o =
     let q = neither x y o in
     let s = neither (ltb a 1) (ltb 32 a) (sym e ∙ q.0) in
@@ -116,14 +110,8 @@ inside x y a b e f o =
 
 -- ---- an `e` line in its place, and out of it
 
-pub in_place_lem : (g : Tally) (a b : ℕ) (x y : Bool) → x ≡ is_outside g.vertices a → y ≡ is_outside g.vertices b → g.sized ≡ true → (x || y) ≡ false → in_place g a b ≡ true
-in_place_lem g a b x y e f s o = let q : (is_outside g.vertices a || is_outside g.vertices b) ≡ false = (λ i. sym e i || sym f i) ∙ o in rw (s, q)
-
-pub out_of_range : (g : Tally) (a b : ℕ) (x y : Bool) → x ≡ is_outside g.vertices a → y ≡ is_outside g.vertices b → (x || y) ≡ true → in_place g a b ≡ false
-out_of_range g a b x y e f o = let q : (is_outside g.vertices a || is_outside g.vertices b) ≡ true = (λ i. sym e i || sym f i) ∙ o in rw (q, and-false g.sized)
-
-pub unsized : (g : Tally) (a b : ℕ) → g.sized ≡ false → in_place g a b ≡ false
-unsized g a b s = rw s
+pub in_place_is : (r : GraphRead) (a b : ℕ) (x y : Bool) → x ≡ is_outside r.vertices a → y ≡ is_outside r.vertices b → in_place r a b ≡ not (x || y)
+in_place_is r a b x y e f = λ i. not (sym e i || sym f i)
 
 -- ---- line after line
 
@@ -140,84 +128,93 @@ file_at f p h =
 pub file_end : (f : List ℕ) (p : ℕ) → length f ≤ p → file_lines (drop p f) ≡ []
 file_end f p h = ap file_lines (drop_of_length-le f {i = p} h) ∙ file_none
 
--- the reader has come to p with the tally g, and n has the marks of the lines passed
-pub record Reading (f n : List ℕ) (g : Tally) (p : ℕ) : Type 0 where
+-- the reader has come to p and found g, and n has the marks of the lines passed
+pub record Reading (f n : List ℕ) (g : Option GraphRead) (p : ℕ) : Type 0 where
   pub place : p ≤ length f + 1
-  pub good : g.good ≡ true
-  pub few : g.lines ≤ p
-  pub rest : read_from no_tally (file_lines f) ≡ read_from g (file_lines (drop p f))
+  pub few : Few p g
+  pub rest : read_from None (file_lines f) ≡ read_from g (file_lines (drop p f))
   pub long : length n ≡ 1024
   pub marks : (i j : ℕ) → i < 32 → j < 32 → (is_marked n i j || adjacent (file_lines (drop p f)) i j) ≡ adjacent (file_lines f) i j
 
-pub reading_starts : (f n : List ℕ) → Unmarked n → Reading f n no_tally 0
+pub reading_starts : (f n : List ℕ) → Unmarked n → Reading f n None 0
 reading_starts f n U = record {
   place = omega arith;
-  good = refl;
-  few = omega arith;
+  few = tt;
   rest = refl;
   long = U.long;
   marks = λ i j a b. ap (λ (t : Bool). t || adjacent (file_lines f) i j) (U.none i j a b);
 }
 
+-- as many `e` lines as bytes at most, and no more than a file has
+pub few_more : (g : Option GraphRead) (n m : ℕ) → n ≤ m → Few n g → Few m g
+few_more None n m h k = tt
+few_more (Some r) n m h k = omega arith
+
 -- one line more adds at most one to the `e` lines
-step_lines : (g : Tally) (l : Line) → (stepped g l).lines ≤ g.lines + 1
+step_few : (g : Option GraphRead) (l : Line) (n m : ℕ) → n < m → Few n g → IfOk (stepped g l) (Few m)
 unfolding stepped
-step_lines g Comment = omega arith
-step_lines g (Size v e) = go g.sized
+step_few None Comment n m h k = tt
+step_few (Some r) Comment n m h k = omega arith
+step_few None (Size v e) n m h k = omega arith
+step_few (Some r) (Size v e) n m h k = tt
+step_few None (Edge a b) n m h k = tt
+step_few (Some r) (Edge a b) n m h k = go (in_place r a b)
   where
-    go : (t : Bool) → (elim t as (λ (x : Bool). Tally) [ true ↦ turned_away g | false ↦ with_size g v e ]).lines ≤ g.lines + 1
+    go : (t : Bool) → IfOk (cond t (Ok (Some (with_edge r a b))) (Err turned_away)) (Few m)
     go true = omega arith
-    go false = omega arith
-step_lines g (Edge a b) = go (in_place g a b)
-  where
-    go : (t : Bool) → (elim t as (λ (x : Bool). Tally) [ true ↦ with_edge g a b | false ↦ turned_away g ]).lines ≤ g.lines + 1
-    go true = omega arith
-    go false = omega arith
-step_lines g Bad = omega arith
+    go false = tt
+step_few g Bad n m h k = tt
 
--- a good step is of a line that is not bad
-step_good : (g : Tally) (l : Line) → (stepped g l).good ≡ true → l ≢ Bad
-unfolding stepped
-step_good g l e b = clash {b = false} (sym (ap (λ (x : Line). (stepped g x).good) b) ∙ e) refl
+module _ (f n : List ℕ) (g : Option GraphRead) (p : ℕ) (R : Reading f n g p) (h : p < length f) where
+  -- the line there is bad, and turns the file away
+  pub reading_bad : line_of (line_in (drop p f)) ≡ Bad → read_from None (file_lines f) ≡ Err turned_away
+  unfolding stepped
+  reading_bad b = R.rest ∙ ap (read_from g) (file_at f p h ∙ ap (λ (l : Line). l ∷ file_lines (drop (suc (p + length (line_in (drop p f)))) f)) b) ∙ read_away g _ Bad refl
 
-module _ (f n : List ℕ) (g : Tally) (p : ℕ) (R : Reading f n g p) (h : p < length f) (r : LineRead) (L : LineAt f p r) where
-  lines_here : file_lines (drop p f) ≡ r.line ∷ file_lines (drop (suc (p + length (line_in (drop p f)))) f)
-  lines_here = file_at f p h ∙ ap (λ (l : Line). l ∷ file_lines (drop (suc (p + length (line_in (drop p f)))) f)) (sym L.is)
+  module _ (r : LineRead) (L : LineAt f p (Ok r)) where
+    here : file_lines (drop p f) ≡ r.line ∷ file_lines (drop r.next f)
+    here = file_at f p h ∙ (λ i. sym L.0 i ∷ file_lines (drop (sym L.1 i) f))
 
-  -- the line turns the file away
-  pub reading_away : (stepped g r.line).good ≡ false → read_from no_tally (file_lines f) ≡ read.Bad
-  reading_away e = R.rest ∙ ap (read_from g) lines_here ∙ read_away g _ r.line e
+    -- the line there has its form, and turns the file away
+    pub reading_away : stepped g r.line ≡ Err turned_away → read_from None (file_lines f) ≡ Err turned_away
+    reading_away e = R.rest ∙ ap (read_from g) here ∙ read_away g _ r.line e
 
-  pub reading_rises : (stepped g r.line).good ≡ true → p < r.next
-  reading_rises e = let a = L.after (step_good g r.line e) in omega arith
+    pub reading_rises : p < r.next
+    reading_rises = let a = L.1 in omega arith
 
-  -- the line is passed
-  pub reading_turns : (stepped g r.line).good ≡ true → (n' : List ℕ) → Marked r.line n n' → Reading f n' (stepped g r.line) r.next
-  unfolding adjacent any_line
-  reading_turns e n' M =
-      let a = L.after (step_good g r.line e) in
-      let w = line_within (drop p f) in
-      let d = length-drop p f in
-      let s = step_lines g r.line in
-      let k = R.few in
-      let here : file_lines (drop p f) ≡ r.line ∷ file_lines (drop r.next f) = lines_here ∙ ap (λ (m : ℕ). r.line ∷ file_lines (drop m f)) (sym a) in
-      record {
-        place = omega arith;
-        good = e;
-        few = omega arith;
-        rest = R.rest ∙ ap (read_from g) here ∙ read_on g _ r.line e;
-        long = M.long ∙ R.long;
-        marks = λ i j x y.
-            ap (λ (t : Bool). t || adjacent (file_lines (drop r.next f)) i j) (M.marks i j x y) ∙ or_assoc (is_marked n i j) (joins i j r.line) _
-            ∙ ap (λ (m : List Line). is_marked n i j || adjacent m i j) (sym here) ∙ R.marks i j x y;
-      }
+    -- the line is passed
+    pub reading_turns : (g' : Option GraphRead) → stepped g r.line ≡ Ok g' → (n' : List ℕ) → Marked r.line n n' → Reading f n' g' r.next
+    unfolding adjacent any_line
+    reading_turns g' e n' M =
+        let a = L.1 in
+        let w = line_within (drop p f) in
+        let d = length-drop p f in
+        let s : IfOk (stepped g r.line) (Few r.next) = step_few g r.line p r.next reading_rises R.few in
+        record {
+          place = omega arith;
+          few = rw e at s;
+          rest = R.rest ∙ ap (read_from g) here ∙ read_on g _ r.line g' e;
+          long = M.long ∙ R.long;
+          marks = λ i j x y.
+              ap (λ (t : Bool). t || adjacent (file_lines (drop r.next f)) i j) (M.marks i j x y) ∙ or_assoc (is_marked n i j) (joins i j r.line) _
+              ∙ ap (λ (m : List Line). is_marked n i j || adjacent m i j) (sym here) ∙ R.marks i j x y;
+        }
 
-pub reading_ends : (f n : List ℕ) (g : Tally) (p : ℕ) → Reading f n g p → length f ≤ p → (r : GraphRead) → r ≡ read_from g [] → LinesRead f n r
-unfolding adjacent any_line
-reading_ends f n g p R h r e =
+-- a file that is turned away is read, whatever is marked
+pub lines_none : (f n : List ℕ) (r : Result GraphRead TurnedAway) → IsErr r → length n ≡ 1024 → read_from None (file_lines f) ≡ Err turned_away → LinesRead f n r
+lines_none f n (Ok r) e l h = absurd (clash {b = false} e refl)
+lines_none f n (Err x) e l h = record { is = sym h; long = l; marks = tt }
+
+pub reading_ends : (f n : List ℕ) (g : Option GraphRead) (p : ℕ) → Reading f n g p → length f ≤ p → LinesRead f n (ok_or g turned_away)
+unfolding adjacent any_line read_from
+reading_ends f n g p R h =
     let z = file_end f p h in
     record {
-      is = e ∙ sym (R.rest ∙ ap (read_from g) z);
+      is = sym (R.rest ∙ ap (read_from g) z);
       long = R.long;
-      marks = λ d i j x y. sym (or-false (is_marked n i j)) ∙ ap (λ (m : List Line). is_marked n i j || adjacent m i j) (sym z) ∙ R.marks i j x y;
+      marks = says g (λ i j x y. sym (or-false (is_marked n i j)) ∙ ap (λ (m : List Line). is_marked n i j || adjacent m i j) (sym z) ∙ R.marks i j x y);
     }
+  where
+    says : (g : Option GraphRead) → ((i j : ℕ) → i < 32 → j < 32 → is_marked n i j ≡ adjacent (file_lines f) i j) → MarksSay f n (ok_or g turned_away)
+    says None m = tt
+    says (Some r) m = m

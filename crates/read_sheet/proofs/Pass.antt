@@ -16,13 +16,19 @@ use Rattle.problem.proofs.Filling.{Agrees, filled_pairs}
 use Rattle.buffers.specs.Bytes.{byte_at}
 use Rattle.sheet.specs.Sheet.{layout, variables_of, blocks_of, size_at, row_width, blocks_from, read_sheet, Keeps, Front}
 use Rattle.sheet.specs.Relation.{rows_from, rows_of, row_in, size_of, problem_of}
-use Rattle.sheet.specs.declared.Rows.TheVariants.{At}
+use Rattle.std.specs.Prelude.{Err, Some}
 use Rattle.sheet.specs.declared.SheetRefusal.{SheetRefusal}
-use Rattle.sheet.specs.declared.SheetRead.TheVariants.{Refused}
 use Rattle.sheet.proofs.Laws.{Whole, in_order_lem}
 use Rattle.sheet.proofs.Accepted.{facts, rows_hit, rows_miss, rows_end, rows_of_lem, size_in, listed_of, problem_bounded}
 use Rattle.sheet.proofs.Allows.{unconstrained_allowed, row_tells}
 use Rattle.read_sheet.specs.Reading.{RowsRead, Free}
+
+-- before the first turn of n all are left, and after one more one fewer
+pub all_left : (n : ℕ) → n - 0 ≡ n
+all_left n = omega arith
+
+pub one_fewer : (n k : ℕ) → (n - k) - 1 ≡ n - (k + 1)
+one_fewer n k = omega arith
 
 module _ (s : List ℕ) where
   -- i and j have no block so far: theirs is among those left, if they have one
@@ -34,7 +40,7 @@ module _ (s : List ℕ) where
   pub record Behind (t : List ℕ) (least i j : ℕ) : Type 0 where
     pub at : ℕ
     pub x : List ℕ
-    pub found : rows_of layout s i j ≡ At at
+    pub found : rows_of layout s i j ≡ Some at
     pub rows : (a : ℕ) → a < size_at s i → get_or x a 0 ≡ row_in layout s j at a
     pub shows : Shows t i j (λ a b. bit (get_or x a 0) b)
     pub before : 32 * i + j < least
@@ -143,9 +149,9 @@ module _ (s : List ℕ) where
 
   -- ---- a sheet that is refused keeps no layout: of its table nothing is asked
 
-  pub refused : (t : List ℕ) (f : SheetRefusal) → Refused f ≡ read_sheet layout s → (Refused f ≡ read_sheet layout s) × (Keeps layout s → Filled (problem_of layout s) t)
+  pub refused : (t : List ℕ) (f : SheetRefusal) → Err f ≡ read_sheet layout s → (Err f ≡ read_sheet layout s) × (Keeps layout s → Filled (problem_of layout s) t)
   refused t f e = (e, λ y. let z : ◌≡◌ {A = ℕ} 0 1 = cc in absurd (omega arith))
 
-  pub refused_block : (t : List ℕ) (f : SheetRefusal) → Refused f ≡ blocks_from layout s (blocks_of s) 0 (8 + variables_of s)
-      → (Refused f ≡ blocks_from layout s (blocks_of s) 0 (8 + variables_of s)) × (Keeps layout s → Filled (problem_of layout s) t)
+  pub refused_block : (t : List ℕ) (f : SheetRefusal) → Err f ≡ blocks_from layout s (blocks_of s) 0 (8 + variables_of s)
+      → (Err f ≡ blocks_from layout s (blocks_of s) 0 (8 + variables_of s)) × (Keeps layout s → Filled (problem_of layout s) t)
   refused_block t f e = (e, λ y. let g = (facts layout s y).laid in let z : ◌≡◌ {A = ℕ} 0 1 = cc in absurd (omega arith))

@@ -12,8 +12,8 @@ use borrow.Author.Tests.{ltb-false, le-ltb, eqb-true, eq-eqb}
 use Rattle.bounded.proofs.Truth.{lt_dec}
 use Rattle.bounded.proofs.Loops.{all_intro, all_each, any_intro, any_each}
 use Rattle.buffers.specs.Bytes.{number_at}
-use Rattle.sheet.specs.Sheet.{layout, size_at, row_width, row_bytes, in_order, beyond, allows_all, block_of}
-use Rattle.sheet.specs.declared.Block.TheVariants.{Next, Fault}
+use Rattle.sheet.specs.Sheet.{layout, size_at, row_width, row_bytes, in_order, beyond, allows_all, block_of, next_block}
+use Rattle.std.specs.Prelude.{Err}
 use Rattle.sheet.specs.declared.SheetRefusal.{SheetRefusal}
 use Rattle.sheet.specs.declared.SheetRefusal.TheVariants.{RowBeyond, BarsNothing}
 use Rattle.sheet.proofs.Laws.{good_rows, none_beyond, all_full_lem, full_rows, block_beyond, block-bars-nothing, block_next}
@@ -75,11 +75,11 @@ module _ (s : List ℕ) (least p i j : ℕ) (x : List ℕ) where
       (go (beyond layout s w z k (p + 2)) refl (allows_all layout s w z k (p + 2)) refl)
     where
       go : (b : Bool) → beyond layout s (row_width layout s j) (size_at s j) (size_at s i) (p + 2) ≡ b → (c : Bool) → allows_all layout s (row_width layout s j) (size_at s j) (size_at s i) (p + 2) ≡ c
-          → cond b (Fault RowBeyond) (cond c (Fault BarsNothing) (Next (32 * i + j + 1) (p + 2 + row_bytes layout s i j))) ≡ block_of layout s least p i j
+          → cond b (Err RowBeyond) (cond c (Err BarsNothing) (next_block (32 * i + j + 1) (p + 2 + row_bytes layout s i j))) ≡ block_of layout s least p i j
       go true e c f = sym (block_beyond layout s least p i j o h e)
       go false e true f = sym (block-bars-nothing layout s least p i j o h e f)
       go false e false f = sym (block_next layout s least p i j o h e f)
 
 -- a faulty block has no rows to hand on
-pub no_rows : (s : List ℕ) (i j p : ℕ) (x : List ℕ) (f : SheetRefusal) → BlockRows s i j p x (Fault f)
+pub no_rows : (s : List ℕ) (i j p : ℕ) (x : List ℕ) (f : SheetRefusal) → BlockRows s i j p x (Err f)
 no_rows s i j p x f = record { rows = λ l q e. let z : ◌≡◌ {A = ℕ} 0 1 = cc in absurd (omega arith) }

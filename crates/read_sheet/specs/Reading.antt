@@ -1,17 +1,13 @@
 -- What the parts of the reader say to one another: the front, rows of a block in a list of 16, and a table that is being filled.
-use Rattle.std.specs.Prelude.{◌≡◌, Bool, true, cond, List, ℕ, ◌+◌, ◌*◌, ◌≤◌, ◌<◌, eqb, ltb, length, get_or}
+use Rattle.std.specs.Prelude.{◌≡◌, Bool, true, cond, List, ℕ, ◌+◌, ◌*◌, ◌≤◌, ◌<◌, eqb, ltb, length, get_or, Err}
 use Rattle.bounded.specs.Quantifiers.{all_below, any_below}
 use Rattle.problem.specs.Held.{Located}
 use Rattle.problem.specs.Filling.{Shows}
 use Rattle.buffers.specs.Bytes.{number_at}
-use Rattle.sheet.specs.Sheet.{layout, variables_of, blocks_of, size_at, row_width, blocks_from, read_sheet, Front}
+use Rattle.sheet.specs.Sheet.{layout, variables_of, blocks_of, size_at, row_width, blocks_from, read_sheet, Front, Block, SheetRead, accepted, next_block}
 use Rattle.sheet.specs.Relation.{size_of}
-use Rattle.sheet.specs.declared.Block.{Block}
-use Rattle.sheet.specs.declared.Block.TheVariants.{Next, Fault}
 use Rattle.sheet.specs.declared.SheetRefusal.{SheetRefusal}
 use Rattle.sheet.specs.declared.SheetRefusal.TheVariants.{RowBeyond, BarsNothing}
-use Rattle.sheet.specs.declared.SheetRead.{SheetRead}
-use Rattle.sheet.specs.declared.SheetRead.TheVariants.{Accepted, Refused}
 
 -- ---- the rows of a block
 
@@ -43,18 +39,18 @@ all_full x full k = all_below k (λ a. eqb (get_or x a 0) full)
 
 -- what the rows of a block decide, where l and q are the next least place and the next block's place
 unfoldable pub rows_tell : (x : List ℕ) (full k l q : ℕ) → Block
-rows_tell x full k l q = cond (some_beyond x full) (Fault RowBeyond) (cond (all_full x full k) (Fault BarsNothing) (Next l q))
+rows_tell x full k l q = cond (some_beyond x full) (Err RowBeyond) (cond (all_full x full k) (Err BarsNothing) (next_block l q))
 
 -- of a good block of i and j at p, the rows
 pub record BlockRows (s : List ℕ) (i j p : ℕ) (x : List ℕ) (b : Block) : Type 0 where
-  pub rows : (l q : ℕ) → b ≡ Next l q → RowsRead s (row_width layout s j) (size_at s i) (p + 2) x
+  pub rows : (l q : ℕ) → b ≡ next_block l q → RowsRead s (row_width layout s j) (size_at s i) (p + 2) x
 
 -- ---- the front
 
 -- what the front of a sheet decides: the sheet's refusal, or that the blocks decide
 pub record FrontRead (s : List ℕ) (r : SheetRead) : Type 0 where
-  pub refused : (f : SheetRefusal) → r ≡ Refused f → read_sheet layout s ≡ Refused f
-  pub good : (n m : ℕ) → r ≡ Accepted n m → Front s × (read_sheet layout s ≡ blocks_from layout s (blocks_of s) 0 (8 + variables_of s))
+  pub refused : (f : SheetRefusal) → r ≡ Err f → read_sheet layout s ≡ Err f
+  pub good : (n m : ℕ) → r ≡ accepted n m → Front s × (read_sheet layout s ≡ blocks_from layout s (blocks_of s) 0 (8 + variables_of s))
 
 -- ---- a table that is being filled
 

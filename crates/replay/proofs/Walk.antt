@@ -23,7 +23,7 @@ use Rattle.trace.proofs.Back.{next_after}
 use Rattle.put_back.proofs.Checked.{records_iff, check_fuel}
 use Rattle.replay.specs.Walk.{checked_from, walk_ended, lawful_end}
 use Rattle.replay.specs.declared.TraceEnd.{TraceEnd}
-use Rattle.replay.specs.declared.TraceCheck.TheVariants.{Fault}
+use Rattle.std.specs.Prelude.{Err}
 
 -- ---- the definition over its tests
 
@@ -129,6 +129,6 @@ pub ended_lawful : (P : Problem) (s : State) (c : Checked) (m : Masks) → walk_
 ended_lawful P s (Records ts) m e = (ts, refl, ap (λ (x : TraceEnd). x.state) (sym e))
 ended_lawful P s (Faulty f) m e = let q = ap (λ (x : TraceEnd). x.check) e in let z : ◌≡◌ {A = ℕ} 0 1 = cc in absurd (omega arith)
 
-pub ended_fault : (P : Problem) (s : State) (c : Checked) (x : TraceEnd) (f : PutBackRefusal) → x ≡ walk_ended P s c → x.check ≡ Fault f → c ≡ Faulty f
+pub ended_fault : (P : Problem) (s : State) (c : Checked) (x : TraceEnd) (f : PutBackRefusal) → x ≡ walk_ended P s c → x.check ≡ Err f → c ≡ Faulty f
 ended_fault P s (Records ts) x f e h = let q = ap (λ (x : TraceEnd). x.check) e in let z : ◌≡◌ {A = ℕ} 0 1 = cc in absurd (omega arith)
 ended_fault P s (Faulty g) x f e h = let q = ap (λ (x : TraceEnd). x.check) e in cc

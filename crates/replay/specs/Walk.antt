@@ -1,10 +1,9 @@
 -- A trace checked from a place on, and what the code answers of it.
-use Rattle.std.specs.Prelude.{Bool, true, false, List, ℕ, suc, ◌+◌, ◌-◌, length}
+use Rattle.std.specs.Prelude.{Bool, true, false, List, ℕ, suc, ◌+◌, ◌-◌, length, Err, Ok, Option}
 use Rattle.problem.specs.Problem.{Problem, State}
 use Rattle.problem.specs.Run.{lawful, broken_cover, after, after_trace}
 use Rattle.problem.specs.Masks.{masks_of, state_of, empty_masks}
 use Rattle.problem.specs.declared.Masks.{Masks}
-use Rattle.problem.specs.declared.Break.{Break}
 use Rattle.put_back.specs.declared.PutBackRefusal.{PutBackRefusal}
 use Rattle.put_back.specs.declared.PutBackRefusal.TheVariants.{Malformed}
 use Rattle.trace.specs.declared.RecordRead.{RecordRead}
@@ -12,7 +11,6 @@ use Rattle.trace.specs.declared.RecordRead.TheVariants as record·
 use Rattle.put_back.specs.PutBack.{Checked, Lawful as Records, Faulty, unlawful_record, check_from}
 use Rattle.replay.specs.declared.TraceEnd.{TraceEnd}
 use Rattle.replay.specs.declared.Checking.{Checking}
-use Rattle.replay.specs.declared.TraceCheck.TheVariants.{Lawful, Fault}
 
 -- what is left from the place p on, in the state s, with record k there: a turn for each byte left and one for the end are enough
 unfoldable pub checked_from : Problem → List ℕ → State → (k p : ℕ) → Checked
@@ -20,10 +18,10 @@ checked_from P t s k p = check_from (suc (length t - p)) P t s k p
 
 -- the two answers: the records are lawful and lead to the state of m, or the first fault, which comes with the empty state
 abbrev pub lawful_end : Masks → TraceEnd
-lawful_end m = record { check = Lawful; state = m }
+lawful_end m = record { check = Ok tt; state = m }
 
 abbrev pub faulty : PutBackRefusal → TraceEnd
-faulty e = record { check = Fault e; state = empty_masks }
+faulty e = record { check = Err e; state = empty_masks }
 
 abbrev pub walk_ended : Problem → State → Checked → TraceEnd
 walk_ended P s (Records ts) = lawful_end (masks_of (after_trace P s ts))
@@ -39,7 +37,7 @@ abbrev pub stopped_with : TraceEnd → Checking
 stopped_with e = record { end = e; on = false; count = 0 }
 
 -- record k that is lawful leads on to the state of m, and any other stops the check, by where its cover breaks
-abbrev pub ruled_turn : Bool → Masks → (k : ℕ) → Break → Checking
+abbrev pub ruled_turn : Bool → Masks → (k : ℕ) → Option (ℕ × ℕ) → Checking
 ruled_turn true m k x = going_on m (k + 1)
 ruled_turn false m k x = stopped_with (faulty (unlawful_record k x))
 

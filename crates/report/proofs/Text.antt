@@ -17,12 +17,11 @@ use Rattle.problem.proofs.Reflect.{full_fits}
 use Rattle.problem.proofs.Count.{sizes_most}
 use Rattle.problem.proofs.Trace.{trace_fits}
 use Rattle.problem.proofs.Run.{run_short}
-use Rattle.sheet.specs.Sheet.{layout, read_sheet, sheet_number, Keeps}
+use Rattle.sheet.specs.Sheet.{layout, read_sheet, sheet_number, Keeps, SheetRead}
 use Rattle.sheet.specs.Relation.{problem_of}
-use Rattle.sheet.specs.declared.SheetRead.{SheetRead}
-use Rattle.sheet.specs.declared.SheetRead.TheVariants as read
+use Rattle.std.specs.Prelude.{Err, Ok}
 use Rattle.sheet.proofs.Accepted.{keeps, problem_bounded}
-use Rattle.run.specs.Numbers.{run_refusal_number}
+use Rattle.run.specs.Numbers.{run_refusal_number, ran}
 use Rattle.trace.specs.Trace.{trace_bytes}
 use Rattle.buffers.specs.Written.{fronted, written}
 use Rattle.run.specs.Run.{RunResult, run_done, run_job}
@@ -30,8 +29,7 @@ use Rattle.fields.specs.Print.{field, sheet_word, end_word, step_lines, refused_
 use Rattle.run.specs.declared.RunAnswer.{RunAnswer}
 use Rattle.run.specs.declared.RunRefusal.{RunRefusal}
 use Rattle.run.specs.declared.RunRefusal.TheVariants.{Sheet}
-use Rattle.run.specs.declared.RunOutcome.TheVariants.{Done, Refused}
-use Rattle.run.proofs.Ran.{ran_iff}
+use Rattle.run.proofs.Ran.{ran_parts, ran_iff}
 use Rattle.jobs.proofs.Opened.{sheet_refused, sheet_kept}
 use Rattle.run.proofs.Opened.{run_sheet_refused, run_accepted}
 use Rattle.buffers.proofs.Written.{written_front}
@@ -78,7 +76,7 @@ module _ (P : Problem) (B : Bounded P) (w : List ℕ) (e : End) (steps : ℕ) (m
 -- ---- what the run's answer says
 
 -- the text of a refused sheet and of one that is read
-refused_lines : (s : List ℕ) → (r : _) → read_sheet layout s ≡ read.Refused r → sheet_lines s ≡ refused_line (sheet_number r)
+refused_lines : (s : List ℕ) → (r : _) → read_sheet layout s ≡ Err r → sheet_lines s ≡ refused_line (sheet_number r)
 unfolding sheet_lines
 refused_lines s r e = sheet_refused s _ _ r e
 
@@ -92,32 +90,33 @@ module _ (s b : List ℕ) (long : 2561 ≤ length b) where
   worked K = run_accepted s b K (omega (arith, sizes_most (problem_of layout s) (problem_bounded s K)))
 
   module _ (x : RunAnswer) (a : x ≡ (run_job s b).answer) where
-    pub done_keeps : (e : End) (k n : ℕ) → x.outcome ≡ Done e k n → Keeps layout s
-    done_keeps e k n o = ((ran_iff s b (Done e k n)).0 (ap (λ (y : RunAnswer). y.outcome) (sym a) ∙ o)).0
+    pub done_keeps : (e : End) (k n : ℕ) → x.outcome ≡ ran e k n → Keeps layout s
+    done_keeps e k n o = ((ran_iff s b (ran e k n)).0 (ap (λ (y : RunAnswer). y.outcome) (sym a) ∙ o)).0
 
-    pub refused_text : (r : RunRefusal) → x.outcome ≡ Refused r → refused_line (run_refusal_number r) ≡ sheet_lines s
+    pub refused_text : (r : RunRefusal) → x.outcome ≡ Err r → refused_line (run_refusal_number r) ≡ sheet_lines s
     unfolding run_done
     refused_text r o = go (read_sheet layout s) refl
       where
         go : (y : SheetRead) → read_sheet layout s ≡ y → refused_line (run_refusal_number r) ≡ sheet_lines s
-        go (read.Accepted i j) h =
-            let q = ap (λ (y : RunResult). y.answer.outcome) (worked (keeps layout s i j h)) in
+        go (Ok r) h =
+            let q = ap (λ (y : RunResult). y.answer.outcome) (worked (keeps layout s r.variables r.blocks h)) in
             let z : ◌≡◌ {A = ℕ} 0 1 = cc (ap (λ (y : RunAnswer). y.outcome) a) in absurd (omega arith)
-        go (read.Refused t) h =
+        go (Err t) h =
             let q = ap (λ (y : RunResult). y.answer.outcome) (run_sheet_refused s b t h) in
             let z : r ≡ Sheet t = cc (ap (λ (y : RunAnswer). y.outcome) a) in
             ap (λ (y : RunRefusal). refused_line (run_refusal_number y)) z ∙ sym (refused_lines s t h)
 
-    pub done_ran : (e : End) (k n : ℕ) → x.outcome ≡ Done e k n → (w : List ℕ) → w ≡ (run_job s b).buffer → Ran (problem_of layout s) w e k x.state
+    pub done_ran : (e : End) (k n : ℕ) → x.outcome ≡ ran e k n → (w : List ℕ) → w ≡ (run_job s b).buffer → Ran (problem_of layout s) w e k x.state
     unfolding run_done
     done_ran e k n o w h =
         let K = done_keeps e k n o in
         let P = problem_of layout s in
         let q = ap (λ (y : RunResult). y.answer.outcome) (worked K) in
-        let f : Done e k n ≡ Done (end_of P (after_trace P (full P) (run P (full P)))) (length (run P (full P))) (length (trace_bytes (run P (full P)))) = cc (ap (λ (y : RunAnswer). y.outcome) a) in
-        let c : k ≡ length (run P (full P)) = cc in
+        let f : ran e k n ≡ ran (end_of P (after_trace P (full P) (run P (full P)))) (length (run P (full P))) (length (trace_bytes (run P (full P)))) = cc (ap (λ (y : RunAnswer). y.outcome) a) in
+        let parts = ran_parts f in
+        let c = parts.1 in
         record {
-          end = cc;
+          end = parts.0;
           count = c;
           few = omega (arith, run_short P, sizes_most P (problem_bounded s K));
           last = ap (λ (y : RunAnswer). y.state) a ∙ ap (λ (y : RunResult). y.answer.state) (worked K);

@@ -14,10 +14,9 @@ ghost use Rattle.fields.specs.Print.{step_lines, run_lines, sheet_lines};
 ghost use Rattle.report.specs.Records.{records_in};
 ghost use Rattle.report.specs.Report.{report_room, report_text, Ran};
 
-use bounded::has32;
+use bounded::Set;
 use buffers::byte;
 use problem::{End, Masks};
-use run::RunOutcome;
 use trace::RecordRead;
 
 // ---- counts of the last state
@@ -29,10 +28,8 @@ fn count_bits(x: u32, n: usize) -> usize
     ensures within { result ≤ n }
 {
     let mut sum: usize = 0;
-    let mut c: usize = 0;
-    while c < n {
-        sum += bounded::one_if(has32(x, c));
-        c += 1;
+    for c in 0..n {
+        sum += bounded::one_if(x.has(c));
     }
     sum
 }
@@ -43,10 +40,8 @@ fn count_values(m: Masks) -> usize
     ensures within { result ≤ 512 }
 {
     let mut sum: usize = 0;
-    let mut i: usize = 0;
-    while i < 32 {
+    for i in 0..32 {
         sum += count_bits(m.domains[i] as u32, 16);
-        i += 1;
     }
     sum
 }
@@ -61,20 +56,14 @@ fn put_steps(out: &mut [u8], at: usize, trace: &[u8], steps: usize) -> usize
 {
     let mut place: usize = 1;
     let mut end = at;
-    let mut k: usize = 0;
-    while k < steps {
+    for k in 0..steps {
         match trace::record_at(trace, place) {
             RecordRead::Read { record, next } => {
                 end = text::put_step_line(out, end, k + 1, record);
                 place = next;
-                k += 1;
             }
-            RecordRead::End => {
-                return end;
-            }
-            RecordRead::Malformed => {
-                return end;
-            }
+            RecordRead::End => return end,
+            RecordRead::Malformed => return end,
         }
     }
     end
@@ -89,10 +78,8 @@ fn size_sum(s: &[u8]) -> usize
 {
     let n = byte(s, 5);
     let mut sum: usize = 0;
-    let mut i: usize = 0;
-    while i < n {
+    for i in 0..n {
         sum += byte(s, 8 + i);
-        i += 1;
     }
     sum
 }
@@ -120,15 +107,9 @@ fn put_sheet(out: &mut [u8], s: &[u8]) -> usize
 {
     let mut trace = [0u8; 2561];
     let done = waiting_run::run_sheet(s, &mut trace);
-    let state = done.state;
-    let outcome = done.outcome;
-    match outcome {
-        RunOutcome::Done {
-            end,
-            steps,
-            written: _,
-        } => put_run(out, s, &trace, end, steps, state),
-        RunOutcome::Refused(r) => text::put_refused_line(out, 0, run::run_number(r) as usize),
+    match done.outcome {
+        Ok(run) => put_run(out, s, &trace, run.end, run.steps, done.state),
+        Err(r) => text::put_refused_line(out, 0, u8::from(r) as usize),
     }
 }
 

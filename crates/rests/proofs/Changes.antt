@@ -1,4 +1,5 @@
 -- What a step changes: states only shrink, and the next step takes values from one variable only. Assumes nothing.
+use Rattle.std.specs.Prelude.{Some, None}
 use mathlib.Core.Path.{◌≡◌, refl, sym, ◌∙◌, subst}
 use mathlib.Core.Logic.{◌⊎◌, inl, inr, ◌≢◌}
 use Prim.Native.Nat.{ℕ, zero, suc, ◌<◌}
@@ -12,7 +13,6 @@ use Rattle.problem.specs.declared.Record.{Record}
 use Rattle.problem.specs.declared.Record.TheVariants.{Unsupported}
 use Rattle.problem.specs.declared.Effect.{Effect}
 use Rattle.problem.specs.declared.Effect.TheVariants.{Removes, Eliminates}
-use Rattle.problem.specs.declared.Next.TheVariants.{Step, Nothing}
 use Rattle.problem.proofs.Apart.{eliminates_later}
 use Rattle.problem.proofs.Reflect.{turn, any_live_iff, unsupported_iff, remove_live, eliminate_active, eliminate_live}
 use Rattle.problem.specs.Sentences.{Active, Live, Allowed, Fits, ArcConsistent, Neighbourhood as Covers}
@@ -49,7 +49,7 @@ module _ {P : Problem} {s : State} (F : Fits P s) where
   -- ---- the state is arc consistent where a later kind is taken
 
   -- where kind 1 finds nothing every value has its supports
-  pub arc_of_none : next_unsupported P s ≡ Nothing → ArcConsistent P s
+  pub arc_of_none : next_unsupported P s ≡ None → ArcConsistent P s
   unfolding next_unsupported
   arc_of_none e i a o j h d = go (T_dec (any_live P s j (λ b. P.allowed i a j b)))
     where
@@ -80,7 +80,7 @@ module _ {P : Problem} {s : State} (F : Fits P s) where
           (a, (remove_live P s i b k a).1 (subst (λ (k : ℕ). Live s k a) (sym e) N.1.0, λ g. N.1.1.0 g.1), subst (λ (k : ℕ). Allowed P j x k a) (sym e) u)
 
   -- kind 1 is the first that is searched
-  pub later_arc : (r : Record) → next P s ≡ Step r → 1 < kind_of r → ArcConsistent P s
+  pub later_arc : (r : Record) → next P s ≡ Some r → 1 < kind_of r → ArcConsistent P s
   unfolding next_of_kind_by next_unsupported
   later_arc r e l = let w = first_where kind_bound (next_of_kind P s) r (sym begun ∙ e) in by w.0 w.2 w.3
     where
@@ -90,16 +90,16 @@ module _ {P : Problem} {s : State} (F : Fits P s) where
       OfFirst : Record → Type 0
       OfFirst x = kind_of x ≡ 1
 
-      first_kind : (x : Record) → next_unsupported P s ≡ Step x → kind_of x ≡ 1
+      first_kind : (x : Record) → next_unsupported P s ≡ Some x → kind_of x ≡ 1
       first_kind = first_found OfFirst _ _ (λ i. first_found OfFirst _ _ (λ b. first_found OfFirst _ _ (λ k. step_if_found OfFirst (unsupported P s i b k) (Unsupported i b k) (λ t. refl))))
 
-      by : (k : ℕ) → next_of_kind P s k ≡ Step r → ((j : ℕ) → j < k → next_of_kind P s j ≡ Nothing) → ArcConsistent P s
+      by : (k : ℕ) → next_of_kind P s k ≡ Some r → ((j : ℕ) → j < k → next_of_kind P s j ≡ None) → ArcConsistent P s
       by zero f n = absurd (never f)
       by (suc zero) f n = absurd (omega (arith, first_kind r f))
       by (suc (suc k)) f n = arc_of_none (n 1 (omega arith))
 
   -- the next step takes no value from another variable: a variable is eliminated in an arc consistent state only
-  pub step_keeps : (r : Record) → next P s ≡ Step r → Kept s (after P s r) (Elsewhere (changed_by r))
+  pub step_keeps : (r : Record) → next P s ≡ Some r → Kept s (after P s r) (Elsewhere (changed_by r))
   unfolding after
   step_keeps r e = by (effect_of r) (holds_present P F r ((lawful_iff P s r).0 (next_lawful P s r e)).1) (λ i h. later_arc r e (eliminates_later r i h))
     where

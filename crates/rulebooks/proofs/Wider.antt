@@ -1,5 +1,6 @@
 -- The rulebook after request Four against the one before it, over bytes: the trace of a run goes as it went, and on from there only by a slide
 -- that was not lawful; and putting back answers as it did on every call but one that it refused with 17. Assumes nothing.
+use Rattle.std.specs.Prelude.{Option, Some, None}
 use mathlib.Core.Path.{◌≡◌, refl, sym, ap, subst, ◌∙◌}
 use mathlib.Core.Bool.{Bool, true, false, ◌&&◌}
 use mathlib.Core.List.{List, [], ◌∷◌, ◌++◌, append_assoc, append-nil}
@@ -17,8 +18,6 @@ use Rattle.problem.specs.Rulebook.{Rulebook, before_four, after_four}
 use Rattle.problem.specs.Run.{lawful_by, broken_cover, after, lawful_trace_by, run_by}
 use Rattle.problem.specs.declared.Record.{Record}
 use Rattle.problem.specs.declared.Record.TheVariants.{SnakeSubstitution}
-use Rattle.problem.specs.declared.Break.{Break}
-use Rattle.problem.specs.declared.Break.TheVariants.{At, Nowhere}
 use Rattle.problem.specs.declared.End.{End}
 use Rattle.problem.proofs.Reflect.{full_fits}
 use Rattle.problem.specs.Sentences.{Fits}
@@ -34,12 +33,13 @@ use Rattle.run.specs.Run.{RunResult, ran_through, buffer_short}
 use Rattle.put_back.specs.PutBack.{PutBackResult, unlawful_record, Checked, Lawful, Faulty, with_record, after_check}
 use Rattle.trace.specs.declared.RecordRead.{RecordRead}
 use Rattle.trace.specs.declared.RecordRead.TheVariants as record·
-use Rattle.run.specs.declared.RunOutcome.TheVariants as reduced
+use Rattle.run.specs.Numbers.{ran}
 use Rattle.put_back.specs.declared.PutBackRefusal.TheVariants as refusal
 use Rattle.jobs.proofs.Opened.{sheet_both}
 use Rattle.trace.proofs.Read.{at_end}
 use Rattle.trace.proofs.Back.{record_most, records_append}
 use Rattle.put_back.proofs.Checked.{read_here}
+use Rattle.run.proofs.Ran.{ran_parts}
 use Rattle.rulebooks.specs.Under.{run_over_under, run_job_under, check_from_under, check_trace_under, put_back_over_under, put_back_job_under}
 
 -- ---- the run
@@ -108,7 +108,7 @@ run_job_extends s b =
     sheet_both s _ (λ P. run_over_under after_four P b) (λ P. run_over_under before_four P b) (λ x y. (x ≡ y) ⊎ SubstitutionAdded (problem_of layout s) b x y) (λ r. inl refl) (λ K. over_extends (problem_of layout s) b)
 
 -- "Traces change only from the first added slide on": the bytes that the run of before wrote stand as they did
-pub run_front_stays : (s b : List ℕ) (e : End) (steps written : ℕ) → (run_job_under before_four s b).answer.outcome ≡ reduced.Done e steps written
+pub run_front_stays : (s b : List ℕ) (e : End) (steps written : ℕ) → (run_job_under before_four s b).answer.outcome ≡ ran e steps written
     → take written (run_job_under after_four s b).buffer ≡ take written (run_job_under before_four s b).buffer
 run_front_stays s b e k m h = go (run_job_extends s b)
   where
@@ -120,7 +120,7 @@ run_front_stays s b e k m h = go (run_job_extends s b)
     go (inr x) =
         let w = trace_before P in
         let z = sym (ap (λ (y : RunResult). y.answer.outcome) x.before) ∙ h in
-        let l : length w ≡ m = cc in
+        let l : length w ≡ m = (ran_parts z).2 in
         subst (λ (n : ℕ). take n (run_job_under after_four s b).buffer ≡ take n (run_job_under before_four s b).buffer) l
         (ap (take (length w)) (x.now ∙ append_assoc w (4 ∷ 5 ∷ x.item ∷ x.from ∷ x.to ∷ x.more) _) ∙ take-append_seam w _
         ∙ sym (ap (λ (y : RunResult). take (length w) y.buffer) x.before ∙ take-append_seam w _))
@@ -131,9 +131,9 @@ run_front_stays s b e k m h = go (run_job_extends s b)
 abbrev Refused17 : Checked → Type 0
 Refused17 c = (j : ℕ) × (l : ℕ) × (m : ℕ) × (c ≡ Faulty (refusal.Unlawful j l m))
 
-unlawful_17 : (k : ℕ) (x : Break) → Refused17 (Faulty (unlawful_record k x))
-unlawful_17 k (At l c) = (k, l, c, refl)
-unlawful_17 k Nowhere = (k, 255, 255, refl)
+unlawful_17 : (k : ℕ) (x : Option (ℕ × ℕ)) → Refused17 (Faulty (unlawful_record k x))
+unlawful_17 k (Some (l, c)) = (k, l, c, refl)
+unlawful_17 k None = (k, 255, 255, refl)
 
 after_stays : (P : Problem) (p b : List ℕ) (c d : Checked) → (c ≡ d) ⊎ Refused17 d → put_back_number (after_check P p b d).answer ≢ 17 → after_check P p b c ≡ after_check P p b d
 after_stays P p b c d (inl e) n = ap (after_check P p b) e

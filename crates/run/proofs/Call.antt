@@ -7,7 +7,7 @@ use lib.ListN.{length}
 use borrow.Author.Tests.{eq-eqb, ne_eqb}
 use Rattle.run.specs.Run.{run_job}
 use Rattle.run.specs.declared.RunAnswer.{RunAnswer}
-use Rattle.run.specs.declared.RunOutcome.{RunOutcome}
+use Rattle.std.specs.Prelude.{Err, Ok}
 use Rattle.boundary.specs.State.{state_length, masks_in}
 use Rattle.boundary.specs.Numbers.{bad_state}
 use Rattle.run.specs.Call.{RunFits, run_crossed, run_call, RunCall}
@@ -21,15 +21,13 @@ use Rattle.problem.specs.declared.End.{End}
 use Rattle.sheet.specs.Sheet.{layout}
 use Rattle.sheet.specs.Relation.{problem_of}
 use Rattle.sheet.proofs.Accepted.{problem_bounded}
-use Rattle.run.specs.declared.RunOutcome.TheVariants.{Done}
 use Rattle.run.proofs.Ran.{ran_iff}
 use Rattle.run.proofs.Worked.{trace_length, run_worked}
 use mathlib.Core.Logic.{◌⊎◌, inl, inr, ◌≢◌, ◌↔◌}
 use Rattle.problem.specs.declared.End.TheVariants as end
-use Rattle.run.specs.Numbers.{run_refusal_number, end_number}
+use Rattle.run.specs.Numbers.{run_refusal_number, end_number, RunOutcome, ran}
 use Rattle.run.specs.declared.RunRefusal.{RunRefusal}
 use Rattle.run.specs.declared.RunRefusal.TheVariants as refusal
-use Rattle.run.specs.declared.RunOutcome.TheVariants as ran
 use Rattle.run.proofs.Unaltered.{run_unaltered}
 use Rattle.problem.specs.Masks.{Proper}
 use Rattle.problem.proofs.Bridge.{masks_proper}
@@ -52,11 +50,11 @@ module _ (s t b : List ℕ) where
 
 -- ---- how large the numbers are
 
-module _ (s b : List ℕ) (x : RunAnswer) (a : x ≡ (run_job s b).answer) (e : End) (k w : ℕ) (o : x.outcome ≡ Done e k w) where
+module _ (s b : List ℕ) (x : RunAnswer) (a : x ≡ (run_job s b).answer) (e : End) (k w : ℕ) (o : x.outcome ≡ ran e k w) where
   pub run_small : (k ≤ 512) × (w ≤ 2561)
   run_small =
       let P = problem_of layout s in
-      let c = (ran_iff s b (Done e k w)).0 (sym (ap (λ (y : RunAnswer). y.outcome) a) ∙ o) in
+      let c = (ran_iff s b (ran e k w)).0 (sym (ap (λ (y : RunAnswer). y.outcome) a) ∙ o) in
       let few = sizes_most P (problem_bounded s c.0) in
       let steps = run_short P in
       let bytes = trace_length (run P (full P)) in
@@ -69,8 +67,8 @@ pub run_fits : (s b : List ℕ) → RunFits (run_job s b).answer.outcome
 run_fits s b = go (run_job s b).answer.outcome refl
   where
     go : (o : RunOutcome) → (run_job s b).answer.outcome ≡ o → RunFits o
-    go (ran.Done e k w) q = let l = run_small s b _ refl e k w q in (omega arith, omega arith)
-    go (ran.Refused r) q = tt
+    go (Ok a) q = let l = run_small s b _ refl a.end a.steps a.written q in (omega arith, omega arith)
+    go (Err r) q = tt
 
 -- an end's number fits its bits
 pub end_small : (e : End) → end_number e < 256
@@ -87,7 +85,7 @@ run_listed refusal.Buffer = (omega arith, omega arith)
 
 module _ (s t b : List ℕ) where
   -- accepted: the end, the steps and the bytes written come back
-  pub run_unpacked : length b ≡ state_length → (e : End) (k w : ℕ) → (run_job s t).answer.outcome ≡ ran.Done e k w
+  pub run_unpacked : length b ≡ state_length → (e : End) (k w : ℕ) → (run_job s t).answer.outcome ≡ ran e k w
       → ((run_call s t b).answer % 256 ≡ 0) × ((run_call s t b).answer / 256 % 256 ≡ end_number e) × ((run_call s t b).answer / 65536 % 65536 ≡ k) × ((run_call s t b).answer / 4294967296 ≡ w)
   run_unpacked l e k w o =
       let q = sym (ap (λ (y : RunCall). y.answer) (run_says s t b l _ _ refl refl _ o)) in
@@ -96,7 +94,7 @@ module _ (s t b : List ℕ) where
       (omega arith, omega arith, omega arith, omega arith)
 
   abbrev pub RunTaken : Type 0
-  RunTaken = (length b ≡ state_length) × (e : End) × (k : ℕ) × (w : ℕ) × ((run_job s t).answer.outcome ≡ ran.Done e k w)
+  RunTaken = (length b ≡ state_length) × (e : End) × (k : ℕ) × (w : ℕ) × ((run_job s t).answer.outcome ≡ ran e k w)
 
   abbrev RunKept : Type 0
   RunKept = ((run_call s t b).trace ≡ t) × ((run_call s t b).state ≡ b)
@@ -105,8 +103,8 @@ module _ (s t b : List ℕ) where
   run_either = go (eq_dec (length b) state_length)
     where
       by_job : length b ≡ state_length → (o : RunOutcome) → (run_job s t).answer.outcome ≡ o → RunTaken ⊎ (Refuses (run_call s t b).answer × RunKept)
-      by_job l (ran.Done e k w) o = inl (l, e, k, w, o)
-      by_job l (ran.Refused r) o =
+      by_job l (Ok a) o = inl (l, a.end, a.steps, a.written, o)
+      by_job l (Err r) o =
           let q = sym (run_says s t b l _ _ refl refl _ o) in
           let n = ap (λ (y : RunCall). y.answer) q in
           let f = run_listed r in
@@ -131,8 +129,8 @@ module _ (s t b : List ℕ) where
   run_bad_state = (λ a l. go a l (run_job s t).answer.outcome refl, λ d. ap (λ (y : RunCall). y.answer) (run_bad s t b d))
     where
       go : (run_call s t b).answer ≡ bad_state → length b ≡ state_length → (o : RunOutcome) → (run_job s t).answer.outcome ≡ o → ⊥
-      go a l (ran.Done e k w) o = let z = (run_unpacked l e k w o).0 in omega arith
-      go a l (ran.Refused r) o =
+      go a l (Ok r) o = let z = (run_unpacked l r.end r.steps r.written o).0 in omega arith
+      go a l (Err r) o =
           let n = ap (λ (y : RunCall). y.answer) (run_says s t b l _ _ refl refl _ o) in
           let f = run_listed r in
           omega arith
@@ -144,10 +142,10 @@ module _ (s t b : List ℕ) where
 -- ---- the state left
 
 -- the last state of an accepted run is one that the struct can hold
-run_proper : (s t : List ℕ) (e : End) (k w : ℕ) → (run_job s t).answer.outcome ≡ ran.Done e k w → Proper (run_job s t).answer.state
+run_proper : (s t : List ℕ) (e : End) (k w : ℕ) → (run_job s t).answer.outcome ≡ ran e k w → Proper (run_job s t).answer.state
 run_proper s t e k w o =
-    let c = (ran_iff s t (ran.Done e k w)).0 o in
+    let c = (ran_iff s t (ran e k w)).0 o in
     subst (λ (y : RunAnswer). Proper y.state) (sym (run_worked s t c.0 c.1.0).answer) (masks_proper _)
 
-pub run_state : (s t b : List ℕ) → length b ≡ state_length → (e : End) (k w : ℕ) → (run_job s t).answer.outcome ≡ ran.Done e k w → masks_in (run_call s t b).state ≡ (run_job s t).answer.state
+pub run_state : (s t b : List ℕ) → length b ≡ state_length → (e : End) (k w : ℕ) → (run_job s t).answer.outcome ≡ ran e k w → masks_in (run_call s t b).state ≡ (run_job s t).answer.state
 run_state s t b l e k w o = ap (λ (y : RunCall). masks_in y.state) (sym (run_says s t b l _ _ refl refl _ o)) ∙ masks_crossed _ (run_proper s t e k w o)

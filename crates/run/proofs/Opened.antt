@@ -8,7 +8,7 @@ use Rattle.problem.specs.Problem.{Problem, size_sum}
 use Rattle.sheet.specs.Sheet.{layout, read_sheet, Keeps}
 use Rattle.sheet.specs.Relation.{problem_of}
 use Rattle.sheet.specs.declared.SheetRefusal.{SheetRefusal}
-use Rattle.sheet.specs.declared.SheetRead.TheVariants as read
+use Rattle.std.specs.Prelude.{Err}
 use Rattle.jobs.proofs.Opened.{sheet_refused, sheet_kept}
 use Rattle.run.specs.Run.{run_refused, run_done, run_over, run_job}
 use Rattle.run.specs.declared.RunRefusal.TheVariants as run
@@ -25,7 +25,7 @@ module _ (P : Problem) (b : List ℕ) where
   run_accepted_over l = rw (le-ltb (length b) (1 + 5 * size_sum P) l, run_over)
 
 module _ (s b : List ℕ) where
-  pub run_sheet_refused : (r : SheetRefusal) → read_sheet layout s ≡ read.Refused r → run_job s b ≡ run_refused (run.Sheet r) b
+  pub run_sheet_refused : (r : SheetRefusal) → read_sheet layout s ≡ Err r → run_job s b ≡ run_refused (run.Sheet r) b
   unfolding run_job
   run_sheet_refused r e = sheet_refused s _ _ r e
 

@@ -11,12 +11,12 @@ use Rattle.sheet.specs.Sheet.{layout}
 use Rattle.sheet.specs.Relation.{problem_of}
 use Rattle.run.specs.Run.{RunResult, run_done, run_over, run_job}
 use Rattle.run.specs.declared.RunRefusal.{RunRefusal}
-use Rattle.run.specs.declared.RunOutcome.TheVariants as reduced
+use Rattle.std.specs.Prelude.{Err}
 use Rattle.jobs.proofs.Opened.{sheet_each}
 use Rattle.run.proofs.Opened.{run_buffer_refused_over, run_accepted_over}
 
 -- a refused run leaves the trace's buffer as it was
-pub run_unaltered_over : (P : Problem) (b : List ℕ) (r : RunRefusal) → (run_over P b).answer.outcome ≡ reduced.Refused r → (run_over P b).buffer ≡ b
+pub run_unaltered_over : (P : Problem) (b : List ℕ) (r : RunRefusal) → (run_over P b).answer.outcome ≡ Err r → (run_over P b).buffer ≡ b
 unfolding run_done
 run_unaltered_over P b r o = go (lt_dec (length b) (1 + 5 * size_sum P))
   where
@@ -26,6 +26,6 @@ run_unaltered_over P b r o = go (lt_dec (length b) (1 + 5 * size_sum P))
         let q = ap (λ (y : RunResult). y.answer.outcome) (run_accepted_over P b l) in
         let z : ◌≡◌ {A = ℕ} 0 1 = cc in absurd (omega arith)
 
-pub run_unaltered : (s b : List ℕ) (r : RunRefusal) → (run_job s b).answer.outcome ≡ reduced.Refused r → (run_job s b).buffer ≡ b
+pub run_unaltered : (s b : List ℕ) (r : RunRefusal) → (run_job s b).answer.outcome ≡ Err r → (run_job s b).buffer ≡ b
 unfolding run_job
-run_unaltered s b r = sheet_each s _ _ (λ (y : RunResult). y.answer.outcome ≡ reduced.Refused r → y.buffer ≡ b) (λ _ _ _. refl) (λ _. run_unaltered_over (problem_of layout s) b r)
+run_unaltered s b r = sheet_each s _ _ (λ (y : RunResult). y.answer.outcome ≡ Err r → y.buffer ≡ b) (λ _ _ _. refl) (λ _. run_unaltered_over (problem_of layout s) b r)

@@ -1,15 +1,13 @@
 -- What the exported run answers, as one number, and what it leaves in the buffers lent to it.
 -- The low byte of the answer is the number of the refusal, from 1 to 255, or 0 where there is none. Above it stand the parts of what was done.
-use Rattle.std.specs.Prelude.{◌≡◌, true, false, List, ℕ, ◌+◌, ◌*◌, ◌/◌, ◌%◌, ◌≤◌, ◌<◌, eqb, length, take}
+use Rattle.std.specs.Prelude.{◌≡◌, true, false, List, ℕ, ◌+◌, ◌*◌, ◌/◌, ◌%◌, ◌≤◌, ◌<◌, eqb, length, take, Err, Ok}
 use Rattle.problem.specs.Problem.{State, size_sum}
 use Rattle.problem.specs.Masks.{state_of}
 use Rattle.problem.specs.declared.Masks.{Masks}
 use Rattle.sheet.specs.Sheet.{layout, Keeps}
 use Rattle.sheet.specs.Relation.{problem_of}
-use Rattle.run.specs.Numbers.{run_refusal_number, end_number}
+use Rattle.run.specs.Numbers.{run_refusal_number, end_number, RunOutcome}
 use Rattle.run.specs.Run.{run_job}
-use Rattle.run.specs.declared.RunOutcome.{RunOutcome}
-use Rattle.run.specs.declared.RunOutcome.TheVariants as ran
 use Rattle.boundary.specs.State.{state_length, masks_bytes, masks_in}
 use Rattle.boundary.specs.Numbers.{bad_state}
 
@@ -21,13 +19,13 @@ pub record RunCall : Type 0 where
 
 -- the number of what the job answers: bits 0-7 the refusal, bits 8-15 the end, bits 16-31 the steps, bits 32-47 the bytes written
 abbrev pub ran_number : RunOutcome → ℕ
-ran_number (ran.Refused r) = run_refusal_number r
-ran_number (ran.Done end steps written) = 256 * (end_number end + 256 * (steps + 65536 * written))
+ran_number (Err r) = run_refusal_number r
+ran_number (Ok a) = 256 * (end_number a.end + 256 * (a.steps + 65536 * a.written))
 
 -- the state's buffer b: the last state m is written, and a refused run writes nothing
 abbrev pub ran_state : RunOutcome → Masks → List ℕ → List ℕ
-ran_state (ran.Refused r) m b = b
-ran_state (ran.Done end steps written) m b = masks_bytes m
+ran_state (Err r) m b = b
+ran_state (Ok _) m b = masks_bytes m
 
 -- from what the job answers, its last state m and the trace t as it leaves it; the state's buffer was b
 abbrev pub run_crossed : RunOutcome → Masks → (t b : List ℕ) → RunCall
@@ -43,8 +41,8 @@ run_call s t b =
 
 -- the steps and the bytes written have room: two bytes each
 abbrev pub RunFits : RunOutcome → Type 0
-RunFits (ran.Done end steps written) = (steps < 65536) × (written < 65536)
-RunFits (ran.Refused r) = Unit {0}
+RunFits (Ok a) = (a.steps < 65536) × (a.written < 65536)
+RunFits (Err r) = Unit {0}
 
 -- ---- what it is lent, and what is left
 

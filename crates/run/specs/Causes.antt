@@ -1,5 +1,5 @@
 -- Why a run answers as it does, and what an accepted run shows.
-use Rattle.std.specs.Prelude.{◌≡◌, List, ◌∷◌, ◌++◌, ◌↔◌, ℕ, ◌+◌, ◌*◌, ◌≤◌, ◌<◌, T, length}
+use Rattle.std.specs.Prelude.{◌≡◌, List, ◌∷◌, ◌++◌, ◌↔◌, ℕ, ◌+◌, ◌*◌, ◌≤◌, ◌<◌, T, length, Err, Ok}
 use Rattle.problem.specs.Problem.{Problem, State, full, size_sum, none_empty}
 use Rattle.problem.specs.Run.{holds, lawful_trace, after_trace, run, end_of}
 use Rattle.problem.specs.Masks.{masks_of}
@@ -12,8 +12,7 @@ use Rattle.jobs.specs.Causes.{Whose, Sheets, Own, SheetCause}
 use Rattle.trace.specs.Trace.{trace_bytes}
 use Rattle.buffers.specs.Written.{fronted}
 use Rattle.run.specs.Run.{RunResult}
-use Rattle.run.specs.declared.RunOutcome.{RunOutcome}
-use Rattle.run.specs.declared.RunOutcome.TheVariants.{Done, Refused}
+use Rattle.run.specs.Numbers.{RunOutcome, ran}
 use Rattle.run.specs.declared.RunRefusal.TheVariants as refusal
 
 -- ---- why it answers so
@@ -21,18 +20,18 @@ use Rattle.run.specs.declared.RunRefusal.TheVariants as refusal
 module _ (P : Problem) (b : List ℕ) where
   -- Why a run over a problem answers as it does.
   abbrev pub RunCauseOver : RunOutcome → Type 0
-  RunCauseOver (Refused (refusal.Sheet r)) = ⊥
+  RunCauseOver (Err (refusal.Sheet r)) = ⊥
   -- 10: "shorter than 1 + 5 × the sum of the sizes"
-  RunCauseOver (Refused refusal.Buffer) = length b < 1 + 5 * size_sum P
+  RunCauseOver (Err refusal.Buffer) = length b < 1 + 5 * size_sum P
   -- accepted: the end, the steps and the bytes are the run's
-  RunCauseOver (Done e k w) =
+  RunCauseOver (Ok a) =
       (1 + 5 * size_sum P ≤ length b)
-      × ((e ≡ end_of P (after_trace P (full P) (run P (full P)))) × ((k ≡ length (run P (full P))) × (w ≡ length (trace_bytes (run P (full P))))))
+      × ((a.end ≡ end_of P (after_trace P (full P) (run P (full P)))) × ((a.steps ≡ length (run P (full P))) × (a.written ≡ length (trace_bytes (run P (full P))))))
 
 abbrev pub whose_run : RunOutcome → Whose
-whose_run (Refused (refusal.Sheet r)) = Sheets r
-whose_run (Refused refusal.Buffer) = Own
-whose_run (Done e k w) = Own
+whose_run (Err (refusal.Sheet r)) = Sheets r
+whose_run (Err refusal.Buffer) = Own
+whose_run (Ok _) = Own
 
 module _ (s b : List ℕ) where
   -- Why a run answers as it does: the sheet's own fault, or the cause over its problem.
@@ -44,7 +43,7 @@ module _ (s b : List ℕ) where
 -- P is the problem, t the run's records, and last the state that they lead to
 pub record Worked (P : Problem) (t : List Record) (last : State) (b : List ℕ) (x : RunResult) : Type 0 where
   -- the answer: the end, the number of steps, the bytes written and the last state; and the buffer, the old bytes after the trace
-  pub answer : x.answer ≡ record { outcome = Done (end_of P last) (length t) (length (trace_bytes t)); state = masks_of last }
+  pub answer : x.answer ≡ record { outcome = ran (end_of P last) (length t) (length (trace_bytes t)); state = masks_of last }
   pub buffer : x.buffer ≡ fronted (trace_bytes t) b
   -- demand 1: in no more steps than the sheet lists settings, and within the buffer
   pub few : length t ≤ size_sum P

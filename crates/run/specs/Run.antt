@@ -1,5 +1,5 @@
 -- The run: lent a problem and a trace buffer; as a job, a sheet and a trace buffer. Its answer, and the buffer afterwards.
-use Rattle.std.specs.Prelude.{Bool, true, false, List, ℕ, ◌+◌, ◌*◌, ltb, length}
+use Rattle.std.specs.Prelude.{Bool, true, false, List, ℕ, ◌+◌, ◌*◌, ltb, length, Err}
 use Rattle.problem.specs.Problem.{Problem, full, size_sum}
 use Rattle.problem.specs.Run.{run, after_trace, end_of}
 use Rattle.problem.specs.Masks.{masks_of, empty_masks}
@@ -10,7 +10,7 @@ use Rattle.jobs.specs.WithSheet.{with_sheet}
 use Rattle.run.specs.declared.RunAnswer.{RunAnswer}
 use Rattle.run.specs.declared.RunRefusal.{RunRefusal}
 use Rattle.run.specs.declared.RunRefusal.TheVariants.{Sheet, Buffer}
-use Rattle.run.specs.declared.RunOutcome.TheVariants.{Done, Refused}
+use Rattle.run.specs.Numbers.{ran}
 
 -- what the job answers and leaves in the buffer
 pub record RunResult : Type 0 where
@@ -19,14 +19,14 @@ pub record RunResult : Type 0 where
 
 -- "A refused run answers the number only", and leaves the buffer as it was
 abbrev pub run_refused : RunRefusal → List ℕ → RunResult
-run_refused r b = record { answer = record { outcome = Refused r; state = empty_masks }; buffer = b }
+run_refused r b = record { answer = record { outcome = Err r; state = empty_masks }; buffer = b }
 
 -- "The run answers with the end, the number of steps, the bytes written and the last state; the trace buffer holds the trace at its front
 -- and its old bytes after that." t are its records.
 abbrev pub ran_through : Problem → (t : List Record) → List ℕ → RunResult
 ran_through P t b =
     record {
-      answer = record { outcome = Done (end_of P (after_trace P (full P) t)) (length t) (length (trace_bytes t)); state = masks_of (after_trace P (full P) t) };
+      answer = record { outcome = ran (end_of P (after_trace P (full P) t)) (length t) (length (trace_bytes t)); state = masks_of (after_trace P (full P) t) };
       buffer = fronted (trace_bytes t) b;
     }
 

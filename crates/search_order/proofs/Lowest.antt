@@ -1,5 +1,6 @@
 -- The lowest step over all variables is the lowest of its kind; what finds a step, as sentences; and what a loop over the members of a set,
 -- the lowest first, knows of the step that it looks for. Assumes nothing.
+use Rattle.std.specs.Prelude.{Some, None}
 use mathlib.Core.Path.{◌≡◌, refl, sym}
 use mathlib.Core.Bool.{Bool, true, false}
 use mathlib.Core.List.{List}
@@ -17,7 +18,6 @@ use Rattle.problem.specs.Masks.{state_of}
 use Rattle.problem.specs.declared.Masks.{Masks}
 use Rattle.problem.specs.declared.Record.{Record}
 use Rattle.problem.specs.declared.Record.TheVariants as record·
-use Rattle.problem.specs.declared.Next.TheVariants.{Step, Nothing}
 use Rattle.problem.proofs.Reflect.{unsupported_iff, snake_iff, triangle_iff, neighbourhood_iff, snake_substitution_iff}
 use Rattle.problem.specs.Sentences.{Live}
 use Rattle.problem.proofs.HeldTable.{held_few, held_narrow}
@@ -50,18 +50,18 @@ module _ (P : Problem) (s : State) (kind i : ℕ) where
 
   module _ {set left : ℕ} (S : Seeking set left) where
     -- the lowest left finds a step
-    pub seeking_hit : {c : ℕ} {r : Record} → c ≡ lowest (field_bound kind) (bit left) → c < field_bound kind → step_at P s kind i c ≡ Step r → Step r ≡ step_from P s kind i
+    pub seeking_hit : {c : ℕ} {r : Record} → c ≡ lowest (field_bound kind) (bit left) → c < field_bound kind → step_at P s kind i c ≡ Some r → Some r ≡ step_from P s kind i
     unfolding step_from
     seeking_hit {c} e l h = sym (first_at (field_bound kind) _ c _ l (λ d q. nothing_is _ (T_false _ (sought_least S e d q))) h)
 
     -- none is left
-    pub seeking_end : left ≡ 0 → Nothing ≡ step_from P s kind i
+    pub seeking_end : left ≡ 0 → None ≡ step_from P s kind i
     unfolding step_from
     seeking_end e = sym (first_off (field_bound kind) _ (λ d q. nothing_is _ (T_false _ (sought_none S e d q))))
 
 -- ---- numbers that no kind has
 
-pub no_kind : (P : Problem) (s : State) (k i : ℕ) → (k ≡ 1 → ⊥) → (k ≡ 2 → ⊥) → (k ≡ 3 → ⊥) → (k ≡ 4 → ⊥) → (k ≡ 5 → ⊥) → Nothing ≡ step_from P s k i
+pub no_kind : (P : Problem) (s : State) (k i : ℕ) → (k ≡ 1 → ⊥) → (k ≡ 2 → ⊥) → (k ≡ 3 → ⊥) → (k ≡ 4 → ⊥) → (k ≡ 5 → ⊥) → None ≡ step_from P s k i
 unfolding step_from step_at
 no_kind P s zero i a b c d e = sym (first_off 16 _ (λ c k. refl))
 no_kind P s (suc zero) i a b c d e = absurd (a refl)

@@ -15,27 +15,23 @@ use Rattle.bounded.proofs.Quantifiers.{count_lt}
 use Rattle.problem.specs.Held.{Bounded}
 use Rattle.problem.proofs.BothWays.{both_up, both_down, both_same}
 use Rattle.buffers.specs.Bytes.{byte_at}
-use Rattle.sheet.specs.Sheet.{Layout, one_byte, layout, version_of, length_of, variables_of, blocks_of, size_at, row_width, row_bytes, allows_all, block_at, refuse_if, after_block, blocks_from, bad_count, bad_sizes, read_sheet, Keeps, Front}
+use Rattle.sheet.specs.Sheet.{Layout, one_byte, layout, version_of, length_of, variables_of, blocks_of, size_at, row_width, row_bytes, allows_all, block_at, refuse_if, after_block, blocks_from, bad_count, bad_sizes, read_sheet, Keeps, Front, Block, SheetRead, accepted}
 use Rattle.sheet.specs.Relation.{rows_from, rows_of, row_in, rows_allow, pair_allowed, size_of, listed, allowed_of, problem_of}
 use Rattle.sheet.specs.Parts.{BlockAt}
 use Rattle.sheet.specs.declared.SheetRefusal.{SheetRefusal}
 use Rattle.sheet.specs.declared.SheetRefusal.TheVariants.{TooShort, Version, Length, Variables, Sizes, LeftOver}
-use Rattle.sheet.specs.declared.Block.{Block}
-use Rattle.sheet.specs.declared.Block.TheVariants.{Next, Fault}
-use Rattle.sheet.specs.declared.SheetRead.{SheetRead}
-use Rattle.sheet.specs.declared.SheetRead.TheVariants.{Accepted}
-use Rattle.sheet.specs.declared.Rows.TheVariants.{At, Unconstrained}
-use Rattle.sheet.proofs.Laws.{pos, rows_small, good_sizes, good_rows, in_order_lem, whole}
+use Rattle.std.specs.Prelude.{Err, None, Some, Ok}
+use Rattle.sheet.proofs.Laws.{accepted_parts, pos, rows_small, good_sizes, good_rows, in_order_lem, whole}
 
 module _ (L : Layout) (s : List ℕ) where
   -- a test that an accepted sheet has passed, and what follows it
-  kept : {n m : ℕ} (t : Bool) (f : SheetRefusal) (r : SheetRead) → refuse_if L s t f r ≡ Accepted n m → (t ≡ false) × (r ≡ Accepted n m)
+  kept : {n m : ℕ} (t : Bool) (f : SheetRefusal) (r : SheetRead) → refuse_if L s t f r ≡ accepted n m → (t ≡ false) × (r ≡ accepted n m)
   kept true f r e = let z : ◌≡◌ {A = ℕ} 0 1 = cc in absurd (omega arith)
   kept false f r e = (refl, e)
 
   -- k blocks from p are good to the end, where least is the least place in the order for the first
   abbrev pub Good : ℕ → ℕ → ℕ → Type 0
-  Good k least p = blocks_from L s k least p ≡ Accepted (variables_of s) (blocks_of s)
+  Good k least p = blocks_from L s k least p ≡ accepted (variables_of s) (blocks_of s)
 
   -- what an accepted sheet is
   pub record Facts : Type 0 where
@@ -46,7 +42,7 @@ module _ (L : Layout) (s : List ℕ) where
     pub laid : Good (blocks_of s) 0 (8 + variables_of s)
 
   -- the tests that a sheet has passed whose blocks answer what it answers
-  opened : {n m : ℕ} → read_sheet L s ≡ Accepted n m → (8 ≤ length s) × (L.takes (version_of s) ≡ true) × (length_of s ≡ length s) × Front s × (blocks_from L s (blocks_of s) 0 (8 + variables_of s) ≡ Accepted n m)
+  opened : {n m : ℕ} → read_sheet L s ≡ accepted n m → (8 ≤ length s) × (L.takes (version_of s) ≡ true) × (length_of s ≡ length s) × Front s × (blocks_from L s (blocks_of s) 0 (8 + variables_of s) ≡ accepted n m)
   unfolding read_sheet
   opened e =
       let n = variables_of s in
@@ -67,22 +63,22 @@ module _ (L : Layout) (s : List ℕ) where
 
   -- blocks that are good answer the variables and the blocks of the sheet
   after_answers : (a b : ℕ) (x : Block) (rest : ℕ → ℕ → SheetRead)
-      → ((l p : ℕ) → rest l p ≡ Accepted a b → (a ≡ variables_of s) × (b ≡ blocks_of s)) → after_block L s x rest ≡ Accepted a b → (a ≡ variables_of s) × (b ≡ blocks_of s)
-  after_answers a b (Fault x) rest h e = let z : ◌≡◌ {A = ℕ} 0 1 = cc in absurd (omega arith)
-  after_answers a b (Next l p) rest h e = h l p e
+      → ((l p : ℕ) → rest l p ≡ accepted a b → (a ≡ variables_of s) × (b ≡ blocks_of s)) → after_block L s x rest ≡ accepted a b → (a ≡ variables_of s) × (b ≡ blocks_of s)
+  after_answers a b (Err x) rest h e = let z : ◌≡◌ {A = ℕ} 0 1 = cc in absurd (omega arith)
+  after_answers a b (Ok r) rest h e = h r.least r.at e
 
-  answers : (a b k least p : ℕ) → blocks_from L s k least p ≡ Accepted a b → (a ≡ variables_of s) × (b ≡ blocks_of s)
+  answers : (a b k least p : ℕ) → blocks_from L s k least p ≡ accepted a b → (a ≡ variables_of s) × (b ≡ blocks_of s)
   unfolding blocks_from
   answers a b zero least p e =
-      let f = kept (not (eqb p (length s))) LeftOver (Accepted (variables_of s) (blocks_of s)) e in
-      (cc f.1, cc f.1)
+      let f = kept (not (eqb p (length s))) LeftOver (accepted (variables_of s) (blocks_of s)) e in
+      accepted_parts (sym f.1)
   answers a b (suc k) least p e = after_answers a b (block_at L s least p) (blocks_from L s k) (answers a b k) e
 
   -- what is accepted keeps the layout
-  pub keeps : (n m : ℕ) → read_sheet L s ≡ Accepted n m → Keeps L s
+  pub keeps : (n m : ℕ) → read_sheet L s ≡ accepted n m → Keeps L s
   keeps n m e =
       let g = answers n m (blocks_of s) 0 (8 + variables_of s) (opened e).4 in
-      e ∙ ap (λ (x : ℕ). Accepted x m) g.0 ∙ ap (Accepted (variables_of s)) g.1
+      e ∙ ap (λ (x : ℕ). accepted x m) g.0 ∙ ap (accepted (variables_of s)) g.1
 
   -- the block at p where the blocks from there are good, and the rest
   pub record Here (k least p : ℕ) : Type 0 where
@@ -92,17 +88,17 @@ module _ (L : Layout) (s : List ℕ) where
     pub bars : allows_all L s (row_width L s (byte_at s (p + 1))) (size_at s (byte_at s (p + 1))) (size_at s (byte_at s p)) (p + 2) ≡ false
     pub rest : Good (k - 1) (32 * byte_at s p + byte_at s (p + 1) + 1) (p + 2 + row_bytes L s (byte_at s p) (byte_at s (p + 1)))
 
-  from_next : (k least p : ℕ) (b : Block) → block_at L s least p ≡ b → after_block L s b (blocks_from L s (k - 1)) ≡ Accepted (variables_of s) (blocks_of s) → Here k least p
-  from_next k least p (Fault f) e g = let z : ◌≡◌ {A = ℕ} 0 1 = cc in absurd (omega arith)
-  from_next k least p (Next l a) e g =
-      let w = whole L s least p l a e in
+  from_next : (k least p : ℕ) (b : Block) → block_at L s least p ≡ b → after_block L s b (blocks_from L s (k - 1)) ≡ accepted (variables_of s) (blocks_of s) → Here k least p
+  from_next k least p (Err f) e g = let z : ◌≡◌ {A = ℕ} 0 1 = cc in absurd (omega arith)
+  from_next k least p (Ok r) e g =
+      let w = whole L s least p r.least r.at e in
       let o = in_order_lem L s least (byte_at s p) (byte_at s (p + 1)) w.order in
       record {
         block = record { rises = o.0; ends = o.1.0; within = w.within };
         after = o.1.1;
         low = good_rows L s (row_width L s (byte_at s (p + 1))) (size_at s (byte_at s (p + 1))) (size_at s (byte_at s p)) (p + 2) w.low;
         bars = w.bars;
-        rest = ap (λ (x : ℕ). blocks_from L s (k - 1) x (p + 2 + row_bytes L s (byte_at s p) (byte_at s (p + 1)))) (sym w.key) ∙ ap (blocks_from L s (k - 1) l) (sym w.next) ∙ g;
+        rest = ap (λ (x : ℕ). blocks_from L s (k - 1) x (p + 2 + row_bytes L s (byte_at s p) (byte_at s (p + 1)))) (sym w.key) ∙ ap (blocks_from L s (k - 1) r.least) (sym w.next) ∙ g;
       }
 
   pub here : (k least p : ℕ) → 0 < k → Good k least p → Here k least p
@@ -113,7 +109,7 @@ module _ (L : Layout) (s : List ℕ) where
   pub at_end : (least p : ℕ) → Good 0 least p → p ≡ length s
   unfolding blocks_from
   at_end least p e =
-      let f = kept (not (eqb p (length s))) LeftOver (Accepted (variables_of s) (blocks_of s)) e in
+      let f = kept (not (eqb p (length s))) LeftOver (accepted (variables_of s) (blocks_of s)) e in
       eqb-true p (length s) (not-false _ f.0)
 
   -- ---- rows that are found
@@ -125,20 +121,20 @@ module _ (L : Layout) (s : List ℕ) where
       (eqb-true (byte_at s p) i f.0, eqb-true (byte_at s (p + 1)) j f.1)
 
   rows_case : (i j k p : ℕ) (t : Bool) → (eqb (byte_at s p) i && eqb (byte_at s (p + 1)) j) ≡ t
-      → rows_from L s i j (suc k) p ≡ cond t (At (p + 2)) (rows_from L s i j k (p + 2 + row_bytes L s (byte_at s p) (byte_at s (p + 1))))
+      → rows_from L s i j (suc k) p ≡ cond t (Some (p + 2)) (rows_from L s i j k (p + 2 + row_bytes L s (byte_at s p) (byte_at s (p + 1))))
   unfolding rows_from
   rows_case i j k p true e = rw (e, rows_from)
   rows_case i j k p false e = rw (e, rows_from)
 
   module _ (i j k p : ℕ) (h : 0 < k) where
-    pub rows_hit : (eqb (byte_at s p) i && eqb (byte_at s (p + 1)) j) ≡ true → rows_from L s i j k p ≡ At (p + 2)
+    pub rows_hit : (eqb (byte_at s p) i && eqb (byte_at s (p + 1)) j) ≡ true → rows_from L s i j k p ≡ Some (p + 2)
     rows_hit e = ap (λ (x : ℕ). rows_from L s i j x p) (pos h) ∙ rows_case i j (k - 1) p true e
 
     pub rows_miss : (eqb (byte_at s p) i && eqb (byte_at s (p + 1)) j) ≡ false
         → rows_from L s i j k p ≡ rows_from L s i j (k - 1) (p + 2 + row_bytes L s (byte_at s p) (byte_at s (p + 1)))
     rows_miss e = ap (λ (x : ℕ). rows_from L s i j x p) (pos h) ∙ rows_case i j (k - 1) p false e
 
-  pub rows_end : (i j p : ℕ) → rows_from L s i j 0 p ≡ Unconstrained
+  pub rows_end : (i j p : ℕ) → rows_from L s i j 0 p ≡ None
   unfolding rows_from
   rows_end i j p = refl
 
@@ -164,17 +160,17 @@ module _ (L : Layout) (s : List ℕ) where
       rw (← ei, ← ej, ← er)
       record { block = p; starts = refl; first = refl; second = refl; rises = h.block.rises; ends = h.block.ends; within = h.block.within; low = h.low; bars = h.bars }
 
-  found_from : (i j k least p r : ℕ) → Good k least p → rows_from L s i j k p ≡ At r → Found i j r
+  found_from : (i j k least p r : ℕ) → Good k least p → rows_from L s i j k p ≡ Some r → Found i j r
   unfolding rows_from
   found_from i j zero least p r g e = let z : ◌≡◌ {A = ℕ} 0 1 = cc in absurd (omega arith)
   found_from i j (suc k) least p r g e = go (eqb (byte_at s p) i && eqb (byte_at s (p + 1)) j) refl (here (suc k) least p (omega arith) g) (found_from i j k)
     where
       go : (t : Bool) → (eqb (byte_at s p) i && eqb (byte_at s (p + 1)) j) ≡ t → Here (suc k) least p
-          → ((least p r : ℕ) → Good k least p → rows_from L s i j k p ≡ At r → Found i j r) → Found i j r
+          → ((least p r : ℕ) → Good k least p → rows_from L s i j k p ≡ Some r → Found i j r) → Found i j r
       go true t h ih = let q = is_pair i j p t in let f = rows_case i j k p true t in found_here i j (suc k) least p r h q.0 q.1 (cc)
       go false t h ih = let less : suc k - 1 ≡ k = omega arith in ih _ _ r (rw less at h.rest) (sym (rows_case i j k p false t) ∙ e)
 
-  pub found : (i j r : ℕ) → Keeps L s → rows_of L s i j ≡ At r → Found i j r
+  pub found : (i j r : ℕ) → Keeps L s → rows_of L s i j ≡ Some r → Found i j r
   unfolding rows_of
   found i j r y e = found_from i j (blocks_of s) 0 (8 + variables_of s) r (facts y).laid e
 

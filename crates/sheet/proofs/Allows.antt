@@ -9,27 +9,25 @@ use lib.Pow.{pow_pos, pow_mono}
 use Rattle.bounded.specs.Mask.{bit}
 use Rattle.bounded.proofs.Truth.{T_true, T_false}
 use Rattle.buffers.specs.Bytes.{byte_at, number_at}
-use Rattle.sheet.specs.Sheet.{Layout, size_at, row_width, row_bytes, in_order, block_of}
+use Rattle.sheet.specs.Sheet.{Layout, size_at, row_width, row_bytes, in_order, block_of, next_block}
 use Rattle.sheet.specs.Relation.{rows_of, row_in, rows_allow, listed, allowed_of}
-use Rattle.sheet.specs.declared.Block.TheVariants.{Next}
-use Rattle.sheet.specs.declared.Rows.{Rows}
-use Rattle.sheet.specs.declared.Rows.TheVariants.{At, Unconstrained}
+use Rattle.std.specs.Prelude.{None, Option, Some}
 use Rattle.sheet.proofs.Laws.{row_within, none_beyond, full_rows, block_next}
 use Rattle.sheet.proofs.Accepted.{allowed_listed, pair_up}
 
 -- That a setting which is not listed is allowed with nothing, and two settings of one item neither: `allowed_left`, `allowed_right` and
 -- `allowed_same` of Accepted.antt.
 module _ (L : Layout) (s : List ℕ) (i a j b : ℕ) (rises : i < j) (one : listed L s i a ≡ true) (other : listed L s j b ≡ true) where
-  rows_tell : (x : Rows) → rows_of L s i j ≡ x → allowed_of L s i a j b ≡ rows_allow L s x j a b
-  rows_tell x e = allowed_listed L s i a j b one other ∙ pair_up L s i a j b rises ∙ ap (λ (y : Rows). rows_allow L s y j a b) e
+  rows_tell : (x : Option ℕ) → rows_of L s i j ≡ x → allowed_of L s i a j b ≡ rows_allow L s x j a b
+  rows_tell x e = allowed_listed L s i a j b one other ∙ pair_up L s i a j b rises ∙ ap (λ (y : Option ℕ). rows_allow L s y j a b) e
 
   -- "A pair with no block allows everything"
-  pub unconstrained_allowed : rows_of L s i j ≡ Unconstrained → allowed_of L s i a j b ≡ true
-  unconstrained_allowed e = rows_tell Unconstrained e
+  pub unconstrained_allowed : rows_of L s i j ≡ None → allowed_of L s i a j b ≡ true
+  unconstrained_allowed e = rows_tell None e
 
   -- "In a row, the bit worth 2^c is set when setting c of j is allowed"
-  pub row_tells : (r : ℕ) → rows_of L s i j ≡ At r → allowed_of L s i a j b ≡ bit (row_in L s j r a) b
-  row_tells r e = rows_tell (At r) e
+  pub row_tells : (r : ℕ) → rows_of L s i j ≡ Some r → allowed_of L s i a j b ≡ bit (row_in L s j r a) b
+  row_tells r e = rows_tell (Some r) e
 
 -- ---- "A block that bars everything is accepted"
 
@@ -44,7 +42,7 @@ zeros s (suc w) p h =
 -- a block in order whose rows are whole and bar everything is good
 pub barred_good : (L : Layout) (s : List ℕ) (least p i j : ℕ) → in_order L s least i j ≡ true → p + 2 + row_bytes L s i j ≤ length s
     → 1 ≤ size_at s i → 1 ≤ size_at s j → ((q : ℕ) → p + 2 ≤ q → q < p + 2 + row_bytes L s i j → byte_at s q ≡ 0)
-    → block_of L s least p i j ≡ Next (32 * i + j + 1) (p + 2 + row_bytes L s i j)
+    → block_of L s least p i j ≡ next_block (32 * i + j + 1) (p + 2 + row_bytes L s i j)
 barred_good L s least p i j o whole zi zj h =
     block_next L s least p i j o whole
     (none_beyond L s w (size_at s j) (size_at s i) (p + 2) (λ a l. let e = row a l in let q = pow_pos (size_at s j) in omega arith))

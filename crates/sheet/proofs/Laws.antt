@@ -1,5 +1,5 @@
 -- Laws of the definitions of specs/Sheet.antt: one step of each loop, and the cases of a block and of a sheet. Assumes nothing.
-use mathlib.Core.Path.{◌≡◌, refl, ap, ◌∙◌}
+use mathlib.Core.Path.{◌≡◌, refl, sym, ap, ◌∙◌}
 use mathlib.Core.Bool.{Bool, true, false, not, ◌||◌, ◌&&◌}
 use mathlib.Core.List.{List}
 use Prim.Native.Nat.{ℕ, zero, suc, ◌+◌, ◌-◌, ◌*◌, ◌^◌, ◌≤◌, ◌<◌}
@@ -10,12 +10,10 @@ use lib.Dec.{eqb, ltb, leb}
 use borrow.Author.Tests.{ltb-true, ltb-false, leb-true, leb-false, eqb-true, eqb-false, lt-ltb, le-ltb, lt-leb, eq-eqb, ne_eqb, not-false}
 use Rattle.bounded.proofs.Truth.{both, neither}
 use Rattle.buffers.specs.Bytes.{byte_at, number_at}
-use Rattle.sheet.specs.Sheet.{Layout, version_of, length_of, variables_of, blocks_of, size_at, row_width, row_bytes, in_order, beyond, allows_all, fault_if, block_of, block_at, after_block, blocks_from, bad_count, bad_sizes, read_sheet}
+use Rattle.sheet.specs.Sheet.{Layout, version_of, length_of, variables_of, blocks_of, size_at, row_width, row_bytes, in_order, beyond, allows_all, fault_if, block_of, block_at, after_block, blocks_from, bad_count, bad_sizes, read_sheet, Block, SheetRead, accepted, next_block}
 use Rattle.sheet.specs.declared.SheetRefusal.{SheetRefusal}
 use Rattle.sheet.specs.declared.SheetRefusal.TheVariants.{TooShort, Version, Length, Variables, Sizes, PairMissing, PairOrder, RowsCut, RowBeyond, BarsNothing, LeftOver}
-use Rattle.sheet.specs.declared.Block.{Block}
-use Rattle.sheet.specs.declared.Block.TheVariants.{Next, Fault}
-use Rattle.sheet.specs.declared.SheetRead.TheVariants.{Accepted, Refused}
+use Rattle.std.specs.Prelude.{Ok, Err}
 
 -- ---- numbers
 
@@ -29,6 +27,30 @@ rows_small z w a b = mul-le-mul {n₂ = 16} {m₂ = 2} a b
 -- the row of a is within z rows
 pub row_within : (a z w : ℕ) → a < z → a * w + w ≤ z * w
 row_within a z w h = let e = suc-mul a w in let m : suc a * w ≤ z * w = mul-le-mul_right w h in omega arith
+
+-- ---- parts of what reading finds
+
+abbrev least_in : Block → ℕ
+least_in (Ok x) = x.least
+least_in (Err _) = 0
+
+abbrev place_in : Block → ℕ
+place_in (Ok x) = x.at
+place_in (Err _) = 0
+
+next_parts : {l a m b : ℕ} → next_block l a ≡ next_block m b → (l ≡ m) × (a ≡ b)
+next_parts e = (ap least_in e, ap place_in e)
+
+abbrev variables_in : SheetRead → ℕ
+variables_in (Ok x) = x.variables
+variables_in (Err _) = 0
+
+abbrev blocks_in : SheetRead → ℕ
+blocks_in (Ok x) = x.blocks
+blocks_in (Err _) = 0
+
+pub accepted_parts : {n m a b : ℕ} → accepted n m ≡ accepted a b → (n ≡ a) × (m ≡ b)
+accepted_parts e = (ap variables_in e, ap blocks_in e)
 
 -- ---- tests
 
@@ -131,35 +153,35 @@ module _ (L : Layout) (s : List ℕ) where
       (ltb-true i j g.0, (ltb-true j (variables_of s) g.1, leb-true least (32 * i + j) f.1))
 
   module _ (least p i j : ℕ) where
-    pub block_order : in_order L s least i j ≡ false → block_of L s least p i j ≡ Fault PairOrder
+    pub block_order : in_order L s least i j ≡ false → block_of L s least p i j ≡ Err PairOrder
     unfolding block_of
     block_order o = simp o
 
-    pub block_cut : in_order L s least i j ≡ true → length s < p + 2 + row_bytes L s i j → block_of L s least p i j ≡ Fault RowsCut
+    pub block_cut : in_order L s least i j ≡ true → length s < p + 2 + row_bytes L s i j → block_of L s least p i j ≡ Err RowsCut
     unfolding block_of
     block_cut o h = simp (o, lt-ltb _ _ h)
 
     module _ (o : in_order L s least i j ≡ true) (h : p + 2 + row_bytes L s i j ≤ length s) where
-      pub block_beyond : beyond L s (row_width L s j) (size_at s j) (size_at s i) (p + 2) ≡ true → block_of L s least p i j ≡ Fault RowBeyond
+      pub block_beyond : beyond L s (row_width L s j) (size_at s j) (size_at s i) (p + 2) ≡ true → block_of L s least p i j ≡ Err RowBeyond
       unfolding block_of
       block_beyond b = simp (o, le-ltb _ _ h, b)
 
       pub block-bars-nothing :
           beyond L s (row_width L s j) (size_at s j) (size_at s i) (p + 2) ≡ false
           → allows_all L s (row_width L s j) (size_at s j) (size_at s i) (p + 2) ≡ true
-          → block_of L s least p i j ≡ Fault BarsNothing
+          → block_of L s least p i j ≡ Err BarsNothing
       unfolding block_of
       block-bars-nothing b a = simp (o, le-ltb _ _ h, b, a)
 
       pub block_next :
           beyond L s (row_width L s j) (size_at s j) (size_at s i) (p + 2) ≡ false
           → allows_all L s (row_width L s j) (size_at s j) (size_at s i) (p + 2) ≡ false
-          → block_of L s least p i j ≡ Next (32 * i + j + 1) (p + 2 + row_bytes L s i j)
+          → block_of L s least p i j ≡ next_block (32 * i + j + 1) (p + 2 + row_bytes L s i j)
       unfolding block_of
       block_next b a = simp (o, le-ltb _ _ h, b, a)
 
   module _ (least p : ℕ) where
-    pub block_missing : length s < p + 2 → block_at L s least p ≡ Fault PairMissing
+    pub block_missing : length s < p + 2 → block_at L s least p ≡ Err PairMissing
     unfolding block_at
     block_missing h = simp (lt-ltb _ _ h)
 
@@ -168,7 +190,7 @@ module _ (L : Layout) (s : List ℕ) where
     block_there h = simp (le-ltb _ _ h)
 
   -- a test that a good block has passed, and what follows it
-  passed : {l a : ℕ} (t : Bool) (f : SheetRefusal) (b : Block) → fault_if L s t f b ≡ Next l a → (t ≡ false) × (b ≡ Next l a)
+  passed : {l a : ℕ} (t : Bool) (f : SheetRefusal) (b : Block) → fault_if L s t f b ≡ next_block l a → (t ≡ false) × (b ≡ next_block l a)
   passed true f b e = let z : ◌≡◌ {A = ℕ} 0 1 = cc in absurd (omega arith)
   passed false f b e = (refl, e)
 
@@ -181,7 +203,7 @@ module _ (L : Layout) (s : List ℕ) where
     pub key : l ≡ 32 * byte_at s p + byte_at s (p + 1) + 1
     pub next : a ≡ p + 2 + row_bytes L s (byte_at s p) (byte_at s (p + 1))
 
-  pub whole : (least p l a : ℕ) → block_at L s least p ≡ Next l a → Whole least p l a
+  pub whole : (least p l a : ℕ) → block_at L s least p ≡ next_block l a → Whole least p l a
   unfolding block_at block_of
   whole least p l a e =
       let i = byte_at s p in
@@ -191,14 +213,14 @@ module _ (L : Layout) (s : List ℕ) where
       let e2 = passed (not (in_order L s least i j)) PairOrder _ e1.1 in
       let e3 = passed (ltb (length s) (p + 2 + row_bytes L s i j)) RowsCut _ e2.1 in
       let e4 = passed (beyond L s w (size_at s j) (size_at s i) (p + 2)) RowBeyond _ e3.1 in
-      let e5 = passed (allows_all L s w (size_at s j) (size_at s i) (p + 2)) BarsNothing (Next (32 * i + j + 1) (p + 2 + row_bytes L s i j)) e4.1 in
+      let e5 = passed (allows_all L s w (size_at s j) (size_at s i) (p + 2)) BarsNothing (next_block (32 * i + j + 1) (p + 2 + row_bytes L s i j)) e4.1 in
       record {
         order = not-false _ e2.0;
         within = ltb-false _ _ e3.0;
         low = e4.0;
         bars = e5.0;
-        key = cc e5.1;
-        next = cc e5.1;
+        key = sym (next_parts e5.1).0;
+        next = sym (next_parts e5.1).1;
       }
 
   -- ---- the blocks in turn
@@ -208,18 +230,18 @@ module _ (L : Layout) (s : List ℕ) where
     unfolding blocks_from
     blocks_step = ap (λ (x : ℕ). blocks_from L s x least p) (pos h)
 
-    pub blocks_fault : (f : SheetRefusal) → block_at L s least p ≡ Fault f → blocks_from L s k least p ≡ Refused f
+    pub blocks_fault : (f : SheetRefusal) → block_at L s least p ≡ Err f → blocks_from L s k least p ≡ Err f
     blocks_fault f e = blocks_step ∙ ap (λ (b : Block). after_block L s b (blocks_from L s (k - 1))) e
 
-    pub blocks_next : (l a : ℕ) → block_at L s least p ≡ Next l a → blocks_from L s k least p ≡ blocks_from L s (k - 1) l a
+    pub blocks_next : (l a : ℕ) → block_at L s least p ≡ next_block l a → blocks_from L s k least p ≡ blocks_from L s (k - 1) l a
     blocks_next l a e = blocks_step ∙ ap (λ (b : Block). after_block L s b (blocks_from L s (k - 1))) e
 
   module _ (least p : ℕ) where
-    pub blocks_over : (p ≡ length s → ⊥) → blocks_from L s 0 least p ≡ Refused LeftOver
+    pub blocks_over : (p ≡ length s → ⊥) → blocks_from L s 0 least p ≡ Err LeftOver
     unfolding blocks_from
     blocks_over h = simp (ne_eqb _ _ h)
 
-    pub blocks_end : p ≡ length s → blocks_from L s 0 least p ≡ Accepted (variables_of s) (blocks_of s)
+    pub blocks_end : p ≡ length s → blocks_from L s 0 least p ≡ accepted (variables_of s) (blocks_of s)
     unfolding blocks_from
     blocks_end h = simp (eq-eqb _ _ h)
 
@@ -234,36 +256,36 @@ module _ (L : Layout) (s : List ℕ) where
   count_good : 1 ≤ variables_of s → variables_of s ≤ 32 → bad_count L s ≡ false
   count_good h k = or_none (eqb (variables_of s) 0) (ltb 32 (variables_of s)) (ne_eqb (variables_of s) 0 (λ e. omega arith)) (le-ltb 32 (variables_of s) k)
 
-  pub sheet_short : length s < 8 → read_sheet L s ≡ Refused TooShort
+  pub sheet_short : length s < 8 → read_sheet L s ≡ Err TooShort
   unfolding read_sheet
   sheet_short h = simp (lt-ltb _ _ h)
 
   module _ (h1 : 8 ≤ length s) where
-    pub sheet_version : L.takes (version_of s) ≡ false → read_sheet L s ≡ Refused Version
+    pub sheet_version : L.takes (version_of s) ≡ false → read_sheet L s ≡ Err Version
     unfolding read_sheet
     sheet_version h = simp (le-ltb _ _ h1, h)
 
     module _ (h2 : L.takes (version_of s) ≡ true) where
-      pub sheet_length : (length_of s ≡ length s → ⊥) → read_sheet L s ≡ Refused Length
+      pub sheet_length : (length_of s ≡ length s → ⊥) → read_sheet L s ≡ Err Length
       unfolding read_sheet
       sheet_length h = simp (le-ltb _ _ h1, h2, ne_eqb _ _ h)
 
       module _ (h3 : length_of s ≡ length s) where
-        pub sheet_none : variables_of s ≡ 0 → read_sheet L s ≡ Refused Variables
+        pub sheet_none : variables_of s ≡ 0 → read_sheet L s ≡ Err Variables
         unfolding read_sheet
         sheet_none h = simp (le-ltb _ _ h1, h2, eq-eqb _ _ h3, count_zero h)
 
-        pub sheet_many : 32 < variables_of s → read_sheet L s ≡ Refused Variables
+        pub sheet_many : 32 < variables_of s → read_sheet L s ≡ Err Variables
         unfolding read_sheet
         sheet_many h = simp (le-ltb _ _ h1, h2, eq-eqb _ _ h3, count_large h)
 
         module _ (one : 1 ≤ variables_of s) (few : variables_of s ≤ 32) where
-          pub sheet_sizes_missing : length s < 8 + variables_of s → read_sheet L s ≡ Refused Sizes
+          pub sheet_sizes_missing : length s < 8 + variables_of s → read_sheet L s ≡ Err Sizes
           unfolding read_sheet
           sheet_sizes_missing h = simp (le-ltb _ _ h1, h2, eq-eqb _ _ h3, count_good one few, lt-ltb _ _ h)
 
           module _ (room : 8 + variables_of s ≤ length s) where
-            pub sheet_sizes : bad_sizes L s (variables_of s) 8 ≡ true → read_sheet L s ≡ Refused Sizes
+            pub sheet_sizes : bad_sizes L s (variables_of s) 8 ≡ true → read_sheet L s ≡ Err Sizes
             unfolding read_sheet
             sheet_sizes h = simp (le-ltb _ _ h1, h2, eq-eqb _ _ h3, count_good one few, le-ltb _ _ room, h)
 

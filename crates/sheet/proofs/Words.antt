@@ -19,8 +19,7 @@ use Rattle.sheet.specs.Sheet.{Layout, layout, version_of, variables_of, size_at,
 use Rattle.sheet.specs.Relation.{rows_from, rows_of, row_in, rows_allow, pair_allowed, listed, problem_of}
 use Rattle.sheet.specs.Parts.{pair_rows}
 use Rattle.sheet.specs.Row.{word_at, block_row, own_row, turned_row, sheet_row, sample_sheet, sample_shorter, sample_mixed, AllRows, sample_rows, mixed_rows}
-use Rattle.sheet.specs.declared.Rows.{Rows}
-use Rattle.sheet.specs.declared.Rows.TheVariants.{At, Unconstrained}
+use Rattle.std.specs.Prelude.{None, Option, Some}
 use Rattle.sheet.proofs.Accepted.{row_widths, facts, found, size_in, listed_in, listed_of, listed_out, allowed_listed, allowed_right, pair_up, pair_down, problem_bounded}
 
 module _ (L : Layout) (s : List ℕ) where
@@ -49,26 +48,26 @@ module _ (L : Layout) (s : List ℕ) where
         (lt_dec b (size_at s j)))
 
     -- "A pair with no block allows everything"
-    pub row_free : i ≢ j → pair_rows L s i j ≡ Unconstrained → 2 ^ size_at s j - 1 ≡ row_word (problem_of L s) i j a
+    pub row_free : i ≢ j → pair_rows L s i j ≡ None → 2 ^ size_at s j - 1 ≡ row_word (problem_of L s) i j a
     row_free d e =
         let q = pow_pos (size_at s j) in
         row_is (2 ^ size_at s j - 1) (omega arith)
         (λ b l. full_bit (size_at s j) b l ∙ ⊎_elim
-        (λ (m : i < j). sym (pair_up L s i a j b m ∙ ap (λ (r : Rows). rows_allow L s r j a b) (sym (rows_up i j m) ∙ e)))
-        (λ (m : j ≤ i). sym (pair_down L s i a j b (omega arith) ∙ ap (λ (r : Rows). rows_allow L s r i b a) (sym (rows_down i j m) ∙ e)))
+        (λ (m : i < j). sym (pair_up L s i a j b m ∙ ap (λ (r : Option ℕ). rows_allow L s r j a b) (sym (rows_up i j m) ∙ e)))
+        (λ (m : j ≤ i). sym (pair_down L s i a j b (omega arith) ∙ ap (λ (r : Option ℕ). rows_allow L s r i b a) (sym (rows_down i j m) ∙ e)))
         (lt_dec i j))
 
     -- the lower item's row
-    pub row_up : (r : ℕ) → i < j → rows_of L s i j ≡ At r → row_in L s j r a ≡ row_word (problem_of L s) i j a
+    pub row_up : (r : ℕ) → i < j → rows_of L s i j ≡ Some r → row_in L s j r a ≡ row_word (problem_of L s) i j a
     row_up r h e =
         row_is (row_in L s j r a) ((found L s i j r y e).low a (listed_in L s i a on).1)
-        (λ b l. sym (pair_up L s i a j b h ∙ ap (λ (q : Rows). rows_allow L s q j a b) e))
+        (λ b l. sym (pair_up L s i a j b h ∙ ap (λ (q : Option ℕ). rows_allow L s q j a b) e))
 
     -- and the row turned, from the lower item's rows
-    pub row_down : (r : ℕ) → j < i → rows_of L s j i ≡ At r → mask_of (size_at s j) (λ b. bit (row_in L s i r b) a) ≡ row_word (problem_of L s) i j a
+    pub row_down : (r : ℕ) → j < i → rows_of L s j i ≡ Some r → mask_of (size_at s j) (λ b. bit (row_in L s i r b) a) ≡ row_word (problem_of L s) i j a
     row_down r h e =
         row_is _ (mask_lt (size_at s j) (λ b. bit (row_in L s i r b) a))
-        (λ b l. bit_mask (size_at s j) (λ b. bit (row_in L s i r b) a) b l ∙ sym (pair_down L s i a j b h ∙ ap (λ (q : Rows). rows_allow L s q i b a) e))
+        (λ b l. bit_mask (size_at s j) (λ b. bit (row_in L s i r b) a) b l ∙ sym (pair_down L s i a j b h ∙ ap (λ (q : Option ℕ). rows_allow L s q i b a) e))
 
 -- ---- down to the bytes
 
@@ -91,15 +90,15 @@ module _ (s : List ℕ) (y : Keeps layout s) (i j a : ℕ) (one : i < variables_
   on : listed layout s i a ≡ true
   on = listed_of layout s i a one value
 
-  own : (x : Rows) → rows_of layout s i j ≡ x → i < j → row_word P i j a ≡ own_row s x j a
-  own (At r) e h = sym (row_up layout s y i a j on other r h e) ∙ row_word_at s j r a
-  own Unconstrained e h = sym (row_free layout s y i a j on other (λ q. apart (sym q)) (rows_up layout s i j h ∙ e))
+  own : (x : Option ℕ) → rows_of layout s i j ≡ x → i < j → row_word P i j a ≡ own_row s x j a
+  own (Some r) e h = sym (row_up layout s y i a j on other r h e) ∙ row_word_at s j r a
+  own None e h = sym (row_free layout s y i a j on other (λ q. apart (sym q)) (rows_up layout s i j h ∙ e))
 
-  turned : (x : Rows) → rows_of layout s j i ≡ x → j < i → row_word P i j a ≡ turned_row s x i j a
-  turned (At r) e h =
+  turned : (x : Option ℕ) → rows_of layout s j i ≡ x → j < i → row_word P i j a ≡ turned_row s x i j a
+  turned (Some r) e h =
       sym (row_down layout s y i a j on other r h e)
       ∙ (λ t. mask_of (size_at s j) (λ c. bit (row_word_at s i r c t) a))
-  turned Unconstrained e h = sym (row_free layout s y i a j on other (λ q. apart (sym q)) (rows_down layout s i j (omega arith) ∙ e))
+  turned None e h = sym (row_free layout s y i a j on other (λ q. apart (sym q)) (rows_down layout s i j (omega arith) ∙ e))
 
   -- The row of a towards j is what the bytes of the sheet say: the byte of the block's row, or its two bytes read in one go, the first worth
   -- the most, where i < j; the rows of the block turned where j < i; all ones below the size of j where there is no block. Where a block's

@@ -1,14 +1,12 @@
 -- One sheet, and more, for each number of the table's rows for sheets, and sheets that keep the layout: one statement, proofs/Refusals.antt.
 -- Exchanging two numbers breaks it.
-use Rattle.std.specs.Prelude.{◌≡◌, List, [], ◌∷◌, ℕ}
-use Rattle.sheet.specs.Sheet.{layout, read_sheet, sheet_number}
-use Rattle.sheet.specs.declared.SheetRead.{SheetRead}
-use Rattle.sheet.specs.declared.SheetRead.TheVariants.{Accepted, Refused}
+use Rattle.std.specs.Prelude.{◌≡◌, List, [], ◌∷◌, ℕ, Err, Ok}
+use Rattle.sheet.specs.Sheet.{layout, read_sheet, sheet_number, SheetRead}
 
 -- the number of what reading finds: the refusal's, 0 where the sheet keeps the layout
 abbrev pub reading_number : SheetRead → ℕ
-reading_number (Refused r) = sheet_number r
-reading_number (Accepted n m) = 0
+reading_number (Err r) = sheet_number r
+reading_number (Ok _) = 0
 
 pub record Numbered : Type 0 where
   pub number : ℕ

@@ -1,22 +1,20 @@
 -- Which settings of two items a sheet allows together, and so which problem a sheet is.
-use Rattle.std.specs.Prelude.{◌≡◌, Bool, cond, ◌&&◌, List, ℕ, zero, suc, ◌+◌, ◌*◌, ltb, eqb}
+use Rattle.std.specs.Prelude.{◌≡◌, Bool, cond, ◌&&◌, List, ℕ, zero, suc, ◌+◌, ◌*◌, ltb, eqb, None, Option, Some}
 use Rattle.std.proofs.Math.Path.{refl}
 use Rattle.std.proofs.Math.Bool.{true, false, and_comm}
 use Rattle.bounded.specs.Mask.{bit}
 use Rattle.problem.specs.Problem.{Problem, both_ways, both_ways_symmetric}
 use Rattle.buffers.specs.Bytes.{byte_at, number_at}
 use Rattle.sheet.specs.Sheet.{Layout, variables_of, blocks_of, size_at, row_width, row_bytes}
-use Rattle.sheet.specs.declared.Rows.{Rows}
-use Rattle.sheet.specs.declared.Rows.TheVariants.{At, Unconstrained}
 
 module _ (L : Layout) (s : List ℕ) where
   -- where the rows of the block of i and j start, among k blocks from p
-  unfoldable pub rows_from : (i j k p : ℕ) → Rows
-  rows_from i j zero p = Unconstrained
+  unfoldable pub rows_from : (i j k p : ℕ) → Option ℕ
+  rows_from i j zero p = None
   rows_from i j (suc k) p =
-      elim (eqb (byte_at s p) i && eqb (byte_at s (p + 1)) j) [ true ↦ At (p + 2) | false ↦ rows_from i j k (p + 2 + row_bytes L s (byte_at s p) (byte_at s (p + 1))) ]
+      elim (eqb (byte_at s p) i && eqb (byte_at s (p + 1)) j) [ true ↦ Some (p + 2) | false ↦ rows_from i j k (p + 2 + row_bytes L s (byte_at s p) (byte_at s (p + 1))) ]
 
-  unfoldable pub rows_of : (i j : ℕ) → Rows
+  unfoldable pub rows_of : (i j : ℕ) → Option ℕ
   rows_of i j = rows_from i j (blocks_of s) (8 + variables_of s)
 
   -- the row of setting a of i among those that start at r, of pairs with j
@@ -24,9 +22,9 @@ module _ (L : Layout) (s : List ℕ) where
   row_in j r a = number_at s (row_width L s j) (r + a * row_width L s j)
 
   -- "In a row, the bit worth 2^c is set when setting c of j is allowed"; "A pair with no block allows everything"
-  abbrev pub rows_allow : Rows → (j a c : ℕ) → Bool
-  rows_allow (At r) j a c = bit (row_in j r a) c
-  rows_allow Unconstrained j a c = true
+  abbrev pub rows_allow : Option ℕ → (j a c : ℕ) → Bool
+  rows_allow (Some r) j a c = bit (row_in j r a) c
+  rows_allow None j a c = true
 
   -- the lower item's row tells, whichever way round the pair is asked for; an item makes no pair with itself
   unfoldable pub pair_allowed : (i a j b : ℕ) → Bool

@@ -1,11 +1,9 @@
 -- The row of a setting towards another item, as the bytes of the sheet have it. No table comes into it.
-use Rattle.std.specs.Prelude.{◌≡◌, cond, List, [], ◌∷◌, ℕ, ◌+◌, ◌-◌, ◌*◌, ◌^◌, ltb, eqb}
+use Rattle.std.specs.Prelude.{◌≡◌, cond, List, [], ◌∷◌, ℕ, ◌+◌, ◌-◌, ◌*◌, ◌^◌, ltb, eqb, None, Option, Some}
 use Rattle.bounded.specs.Mask.{bit, mask_of}
 use Rattle.buffers.specs.Bytes.{byte_at}
 use Rattle.sheet.specs.Sheet.{layout, size_at, row_width}
 use Rattle.sheet.specs.Relation.{rows_of}
-use Rattle.sheet.specs.declared.Rows.{Rows}
-use Rattle.sheet.specs.declared.Rows.TheVariants.{At, Unconstrained}
 
 module _ (s : List ℕ) where
   -- "A row is taken as one word of 16 bits": the one byte at p, or the two bytes at p "read in one go, the first worth the most"
@@ -21,14 +19,14 @@ module _ (s : List ℕ) where
   all_ones j = 2 ^ size_at s j - 1
 
   -- the row of setting a of i towards j, where i < j and the block's rows start at r: they are i's, and a's is number a
-  abbrev pub own_row : Rows → (j a : ℕ) → ℕ
-  own_row (At r) j a = block_row j r a
-  own_row Unconstrained j a = all_ones j
+  abbrev pub own_row : Option ℕ → (j a : ℕ) → ℕ
+  own_row (Some r) j a = block_row j r a
+  own_row None j a = all_ones j
 
   -- the same where j < i: the rows are j's, the block's second item is i, and setting c of j is allowed with a where row c has the bit of a
-  abbrev pub turned_row : Rows → (i j a : ℕ) → ℕ
-  turned_row (At r) i j a = mask_of (size_at s j) (λ c. bit (block_row i r c) a)
-  turned_row Unconstrained i j a = all_ones j
+  abbrev pub turned_row : Option ℕ → (i j a : ℕ) → ℕ
+  turned_row (Some r) i j a = mask_of (size_at s j) (λ c. bit (block_row i r c) a)
+  turned_row None i j a = all_ones j
 
   unfoldable pub sheet_row : (i j a : ℕ) → ℕ
   sheet_row i j a = cond (ltb i j) (own_row (rows_of layout s i j) j a) (turned_row (rows_of layout s j i) i j a)

@@ -1,12 +1,26 @@
 -- docs/FORMAT.md, "The sheet", and the sheet's rows of "Where each thing is turned away", in the order of the rows.
-use Rattle.std.specs.Prelude.{◌≡◌, Bool, true, false, cond, not, ◌&&◌, ◌||◌, List, ℕ, zero, suc, ◌+◌, ◌*◌, ◌^◌, ◌≤◌, ◌<◌, ltb, leb, eqb, length}
+use Rattle.std.specs.Prelude.{◌≡◌, Bool, true, false, cond, not, ◌&&◌, ◌||◌, List, ℕ, zero, suc, ◌+◌, ◌*◌, ◌^◌, ◌≤◌, ◌<◌, ltb, leb, eqb, length, Result, Err, Ok}
 use Rattle.buffers.specs.Bytes.{byte_at, number_at}
 use Rattle.sheet.specs.declared.SheetRefusal.{SheetRefusal}
 use Rattle.sheet.specs.declared.SheetRefusal.TheVariants.{TooShort, Version, Length, Variables, Sizes, PairMissing, PairOrder, RowsCut, RowBeyond, BarsNothing, LeftOver}
-use Rattle.sheet.specs.declared.SheetRead.{SheetRead}
-use Rattle.sheet.specs.declared.SheetRead.TheVariants.{Accepted, Refused}
-use Rattle.sheet.specs.declared.Block.{Block}
-use Rattle.sheet.specs.declared.Block.TheVariants.{Next, Fault}
+use Rattle.sheet.specs.declared.Counts.{Counts}
+use Rattle.sheet.specs.declared.NextBlock.{NextBlock}
+
+-- ---- what reading finds
+
+-- of a sheet: its variables and its blocks, or the first row of the table that turns it away
+abbrev pub SheetRead : Type 0
+SheetRead = Result Counts SheetRefusal
+
+abbrev pub accepted : (n m : ℕ) → SheetRead
+accepted n m = Ok (record { variables = n; blocks = m })
+
+-- of a block: the least place in the order for the next pair and where the next block starts, or the fault
+abbrev pub Block : Type 0
+Block = Result NextBlock SheetRefusal
+
+abbrev pub next_block : (least p : ℕ) → Block
+next_block least p = Ok (record { least = least; at = p })
 
 -- the number of each refusal, as the table has it; 6 stands in three of its rows
 abbrev pub sheet_number : SheetRefusal → ℕ
@@ -84,7 +98,7 @@ module _ (L : Layout) (s : List ℕ) where
   allows_all w z (suc k) p = eqb (number_at s w p + 1) (2 ^ z) && allows_all w z k (p + w)
 
   abbrev pub fault_if : Bool → SheetRefusal → Block → Block
-  fault_if t r b = cond t (Fault r) b
+  fault_if t r b = cond t (Err r) b
 
   -- the block of i and j whose item bytes stand at p: in order, rows whole, no bit beyond, something barred
   unfoldable pub block_of : (least p i j : ℕ) → Block
@@ -93,7 +107,7 @@ module _ (L : Layout) (s : List ℕ) where
       (fault_if (ltb (length s) (p + 2 + row_bytes i j)) RowsCut
       (fault_if (beyond (row_width j) (size_at s j) (size_at s i) (p + 2)) RowBeyond
       (fault_if (allows_all (row_width j) (size_at s j) (size_at s i) (p + 2)) BarsNothing
-      (Next (32 * i + j + 1) (p + 2 + row_bytes i j)))))
+      (next_block (32 * i + j + 1) (p + 2 + row_bytes i j)))))
 
   -- the block at p: its item bytes first
   unfoldable pub block_at : (least p : ℕ) → Block
@@ -104,16 +118,16 @@ module _ (L : Layout) (s : List ℕ) where
   -- ---- the sheet
 
   abbrev pub refuse_if : Bool → SheetRefusal → SheetRead → SheetRead
-  refuse_if t r a = cond t (Refused r) a
+  refuse_if t r a = cond t (Err r) a
 
   -- a block's fault is the sheet's; after a good block come the rest
   abbrev pub after_block : Block → (ℕ → ℕ → SheetRead) → SheetRead
-  after_block (Next least p) rest = rest least p
-  after_block (Fault r) rest = Refused r
+  after_block (Ok a) rest = rest a.least a.at
+  after_block (Err r) rest = Err r
 
   -- "each block in turn": k blocks from p, and after them no bytes left over
   unfoldable pub blocks_from : (k least p : ℕ) → SheetRead
-  blocks_from zero least p = refuse_if (not (eqb p (length s))) LeftOver (Accepted (variables_of s) (blocks_of s))
+  blocks_from zero least p = refuse_if (not (eqb p (length s))) LeftOver (accepted (variables_of s) (blocks_of s))
   blocks_from (suc k) least p = after_block (block_at least p) (blocks_from k)
 
   -- 4: "n is 0 or above 32"
@@ -137,7 +151,7 @@ module _ (L : Layout) (s : List ℕ) where
 
   -- "a sheet that keeps the layout (no sheet row turns it away)"
   abbrev pub Keeps : Type 0
-  Keeps = read_sheet ≡ Accepted (variables_of s) (blocks_of s)
+  Keeps = read_sheet ≡ accepted (variables_of s) (blocks_of s)
 
 -- the front and the sizes are good: what the reader of the blocks may count on
 pub record Front (s : List ℕ) : Type 0 where

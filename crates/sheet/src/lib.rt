@@ -5,12 +5,11 @@ ghost use Rattle.std.specs.Prelude.{◌≡◌, ◌+◌, ◌*◌, ◌<◌, ◌≤
 ghost use Rattle.buffers.specs.Bytes.{number_at, Is};
 ghost use Rattle.sheet.specs.Sheet.{layout, sheet_number, variables_of, row_width, Front};
 ghost use Rattle.sheet.specs.Parts.{Width};
-ghost use Rattle.sheet.specs.declared.Rows.TheVariants.{At};
 
 use buffers::{byte, word};
 
 // Why a sheet is turned away: one case for each row of the format's table.
-#[derive(Clone, Copy)]
+#[derive(Clone, Copy, Debug, PartialEq, Eq)]
 pub enum SheetRefusal {
     TooShort,
     Version,
@@ -25,43 +24,38 @@ pub enum SheetRefusal {
     LeftOver,
 }
 
-// What reading a sheet finds.
+// What an accepted sheet counts: its items and its pair blocks.
 #[derive(Clone, Copy)]
-pub enum SheetRead {
-    Accepted { variables: usize, blocks: usize },
-    Refused(SheetRefusal),
+pub struct Counts {
+    pub variables: usize,
+    pub blocks: usize,
 }
 
-// What reading a block finds: the least place in the order for the next pair and where the next block starts, or the fault.
+// After a good block: the least place in the order for the next pair, and where the next block starts.
 #[derive(Clone, Copy)]
-pub enum Block {
-    Next { least: usize, at: usize },
-    Fault(SheetRefusal),
-}
-
-// Where the rows of a pair start, if it has a block.
-#[derive(Clone, Copy)]
-pub enum Rows {
-    At(usize),
-    Unconstrained,
+pub struct NextBlock {
+    pub least: usize,
+    pub at: usize,
 }
 
 // The format's number for a refusal.
-pub fn sheet_number(r: SheetRefusal) -> u8
-    ensures { result ≡ sheet_number r }
-{
-    match r {
-        SheetRefusal::TooShort => 1,
-        SheetRefusal::Version => 2,
-        SheetRefusal::Length => 3,
-        SheetRefusal::Variables => 4,
-        SheetRefusal::Sizes => 5,
-        SheetRefusal::PairMissing => 6,
-        SheetRefusal::PairOrder => 7,
-        SheetRefusal::RowsCut => 6,
-        SheetRefusal::RowBeyond => 8,
-        SheetRefusal::BarsNothing => 9,
-        SheetRefusal::LeftOver => 6,
+impl From<SheetRefusal> for u8 {
+    ghost from_gives = { λ r n. n ≡ sheet_number r };
+
+    fn from(r: SheetRefusal) -> u8 {
+        match r {
+            SheetRefusal::TooShort => 1,
+            SheetRefusal::Version => 2,
+            SheetRefusal::Length => 3,
+            SheetRefusal::Variables => 4,
+            SheetRefusal::Sizes => 5,
+            SheetRefusal::PairMissing => 6,
+            SheetRefusal::PairOrder => 7,
+            SheetRefusal::RowsCut => 6,
+            SheetRefusal::RowBeyond => 8,
+            SheetRefusal::BarsNothing => 9,
+            SheetRefusal::LeftOver => 6,
+        }
     }
 }
 

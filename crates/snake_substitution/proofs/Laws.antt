@@ -1,4 +1,5 @@
 -- Snake substitution over words. Assumes nothing.
+use Rattle.std.specs.Prelude.{Some, None}
 use mathlib.Core.Path.{◌≡◌, sym, ap, ◌∙◌}
 use mathlib.Core.Bool.{not}
 use mathlib.Core.Logic.Iff
@@ -26,7 +27,6 @@ use Rattle.cover.specs.Words.{all_served_in, others, thirds}
 use Rattle.cover.specs.Broken.{UnservedBy, UnservedIn}
 use Rattle.snake_substitution.specs.Parts.{substitution_at, lowest_goal}
 use Rattle.problem.specs.declared.Record.TheVariants as record·
-use Rattle.problem.specs.declared.Next.TheVariants.{Step, Nothing}
 use Rattle.held.proofs.Laws.{near_free, live_value, active_32, word_iff}
 use Rattle.cover.proofs.Laws.{broken_at, all_served_in_iff, thirds_iff, other_apart}
 use Rattle.problem.proofs.Search.{step_if_on, step_if_off, first_off, first_at, outside}
@@ -97,11 +97,11 @@ module _ {t : List ℕ} {m : Masks} (R : Ready t m) where
       )
 
 -- the lowest goal of a word
-pub lowest_goal_none : (i b word : ℕ) → word ≡ 0 → Nothing ≡ lowest_goal i b word
+pub lowest_goal_none : (i b word : ℕ) → word ≡ 0 → None ≡ lowest_goal i b word
 unfolding lowest_goal
 lowest_goal_none i b word e = sym (first_off 16 _ (λ a l. step_if_off _ _ (ap (λ (x : ℕ). bit x a) e ∙ bit_none a)))
 
-pub lowest_goal_at : (i b word : ℕ) → word < 2 ^ 16 → word ≢ 0 → Step (record·.SnakeSubstitution i b (lowest 16 (bit word))) ≡ lowest_goal i b word
+pub lowest_goal_at : (i b word : ℕ) → word < 2 ^ 16 → word ≢ 0 → Some (record·.SnakeSubstitution i b (lowest 16 (bit word))) ≡ lowest_goal i b word
 unfolding lowest_goal
 lowest_goal_at i b word l d =
     let m = lowest_member 16 word l d in

@@ -1,11 +1,11 @@
 -- Snake substitution, the format's slide, in the parts that the code tests: at one other variable, and all of a variable at once.
-use Rattle.std.specs.Prelude.{◌≡◌, Bool, ◌≢◌, ◌↔◌, List, ℕ, ◌<◌, T, length, get_or}
+use Rattle.std.specs.Prelude.{◌≡◌, Bool, ◌≢◌, ◌↔◌, List, ℕ, ◌<◌, T, length, get_or, Option}
 use Rattle.bounded.specs.Quantifiers.{imp}
 use Rattle.bounded.specs.Mask.{bit}
+use Rattle.problem.specs.declared.Record.{Record}
 use Rattle.problem.specs.Problem.{Problem, State, all_live, any_live, substitution_serves, substitution_spares}
 use Rattle.problem.specs.Run.{step_if, first}
 use Rattle.problem.specs.declared.Record.TheVariants as record·
-use Rattle.problem.specs.declared.Next.{Next}
 use Rattle.problem.specs.Sentences.{Live, Allowed, SubstitutionServes, SnakeSubstitution}
 use Rattle.rests.specs.Rests.{Rests, Of}
 
@@ -20,7 +20,7 @@ abbrev pub Goal : (goals : List ℕ) (b a : ℕ) → Type 0
 Goal goals b a = T (bit (get_or goals b 0) a)
 
 -- the lowest step that slides b of i to a goal, one of a word
-unfoldable pub lowest_goal : (i b word : ℕ) → Next
+unfoldable pub lowest_goal : (i b word : ℕ) → Option Record
 lowest_goal i b word = first 16 (λ a. step_if (bit word a) (record·.SnakeSubstitution i b a))
 
 -- goals are of values of i

@@ -7,75 +7,57 @@ ghost use Rattle.bounded.specs.Quantifiers.{imp};
 ghost use Rattle.bounded.specs.Mask.{bit};
 ghost use Rattle.problem.specs.Problem.{all_other, substitution_spares, snake_substitution};
 ghost use Rattle.problem.specs.Held.{held, RowTable};
-ghost use Rattle.problem.specs.Masks.{state_of, sets};
+ghost use Rattle.problem.specs.Masks.{state_of};
 ghost use Rattle.problem.specs.Run.{first};
-ghost use Rattle.held.specs.Ready.{Ready, Value, Values};
+ghost use Rattle.held.specs.Ready.{Value, Values};
 ghost use Rattle.cover.specs.Words.{others, thirds};
 ghost use Rattle.support.specs.Words.{partners_of};
 ghost use Rattle.snake_substitution.specs.Parts.{substitution_at, lowest_goal, Goals, AllTried, AllGoals, Closed, Limited, NoGoal, Narrowed};
 
-use bounded::{
-    has16, highest16, highest32, lowest16, lowest32, where16, with32, without16, without32,
-};
+use bounded::{Set, where16};
 use cover::{serving, unserved};
-use held::{neighbours, row_among};
-use problem::{Next, Record, is_step};
+use held::{View, neighbours, row_among};
+use problem::Record;
 use support::partners;
 
 // ---- the test
 
 // What the slide rule asks of k, one of `rest`: the active variables other than i. Covering is asked for at these but k.
-fn substitution_at(
-    t: &[u16],
-    active: u32,
-    on: &[u16; 32],
-    rest: u32,
-    i: usize,
-    b: usize,
-    a: usize,
-    k: usize,
-) -> bool
-    requires { Ready t.now (sets active on.now) × Value t.now i b × Value t.now i a × (rest ≡ others active i) × (k < 32) × (bit rest k ≡ true) }
-    ensures { result ≡ imp (bit rest k) (substitution_at (held t.now) (state_of (sets active on.now)) i b a k) }
+fn substitution_at(view: View, rest: u32, i: usize, b: usize, a: usize, k: usize) -> bool
+    requires { Value view.table.now i b × Value view.table.now i a × (rest ≡ others view.state.now.active i) × (k < 32) × (bit rest k ≡ true) }
+    ensures { result ≡ imp (bit rest k) (substitution_at (held view.entry.table.now) (state_of view.entry.state.now) i b a k) }
 {
-    let domain = on[k];
-    let good = row_among(t, domain, i, k, a);
-    let bad = row_among(t, domain, i, k, b);
-    unserved(t, active, on, without32(rest, k), good, bad, k) == 0
+    let domain = view.state.domains[k];
+    let good = row_among(view.table, domain, i, k, a);
+    let bad = row_among(view.table, domain, i, k, b);
+    unserved(view, rest.without(k), good, bad, k) == 0
 }
 
 // A variable that has no block with i bars nothing with a: each of its values serves for itself, and it is passed over.
-fn substitution_others(t: &[u16], active: u32, on: &[u16; 32], i: usize, b: usize, a: usize) -> bool
-    requires { Ready t.now (sets active on.now) × Value t.now i b × Value t.now i a }
-    ensures { result ≡ all_other (held t.now) (state_of (sets active on.now)) i (substitution_at (held t.now) (state_of (sets active on.now)) i b a) }
+fn substitution_others(view: View, i: usize, b: usize, a: usize) -> bool
+    requires { Value view.table.now i b × Value view.table.now i a }
+    ensures { result ≡ all_other (held view.entry.table.now) (state_of view.entry.state.now) i (substitution_at (held view.entry.table.now) (state_of view.entry.state.now) i b a) }
 {
-    let rest = without32(active, i);
-    let mut left = rest & neighbours(t, i);
+    let rest = view.state.active.without(i);
+    let mut left = rest & neighbours(view.table, i);
     while left != 0 {
-        let k = lowest32(left);
-        if !substitution_at(t, active, on, rest, i, b, a, k) {
+        let k = left.lowest();
+        if !substitution_at(view, rest, i, b, a, k) {
             return false;
         }
-        left = without32(left, k);
+        left = left.without(k);
     }
     true
 }
 
 // Values a and b of i differ and are in its domain, and at each other item each value allowed with b has one that serves with a.
-pub fn snake_substitution(
-    t: &[u16],
-    active: u32,
-    on: &[u16; 32],
-    i: usize,
-    b: usize,
-    a: usize,
-) -> bool
-    requires { Ready t.now (sets active on.now) × (i < 32) × (b < 16) × (a < 16) }
-    ensures { result ≡ snake_substitution (held t.now) (state_of (sets active on.now)) substitution_spares i b a }
+pub fn snake_substitution(view: View, i: usize, b: usize, a: usize) -> bool
+    requires { (i < 32) × (b < 16) × (a < 16) }
+    ensures { result ≡ snake_substitution (held view.entry.table.now) (state_of view.entry.state.now) substitution_spares i b a }
 {
-    let domain = on[i];
-    if has16(domain, b) & (has16(domain, a) & (a != b)) {
-        substitution_others(t, active, on, i, b, a)
+    let domain = view.state.domains[i];
+    if domain.has(b) & (domain.has(a) & (a != b)) {
+        substitution_others(view, i, b, a)
     } else {
         false
     }
@@ -91,10 +73,8 @@ fn all_goals(domain: u16, goals: &mut [u16; 16])
     requires { length goals.old ≡ 16 }
     ensures { AllGoals domain goals.new }
 {
-    let mut b: usize = 0;
-    while b < 16 {
-        goals[b] = where16(domain, b, without16(domain, b));
-        b += 1;
+    for b in 0..16 {
+        goals[b] = where16(domain, b, domain.without(b));
     }
 }
 
@@ -103,10 +83,8 @@ fn asks(set: u16, goals: &[u16; 16]) -> bool
     ensures { result ≡ false → Closed set goals.now }
 {
     let mut all: u16 = 0;
-    let mut b: usize = 0;
-    while b < 16 {
+    for b in 0..16 {
         all = all | where16(set, b, goals[b]);
-        b += 1;
     }
     all & !set != 0
 }
@@ -116,10 +94,8 @@ fn keep(set: u16, kept: u16, goals: &mut [u16; 16])
     requires { length goals.old ≡ 16 }
     ensures { Limited set kept goals.old goals.new }
 {
-    let mut b: usize = 0;
-    while b < 16 {
+    for b in 0..16 {
         goals[b] = goals[b] & !where16(set, b, !kept);
-        b += 1;
     }
 }
 
@@ -137,48 +113,35 @@ fn reached(t: &[u16], domain: u16, set: u16, k: usize, i: usize) -> u16
 
 // What value d of k asks of the slides of i, where it is allowed with the values `set`: these, and what is allowed with a value in its place,
 // are kept as goals. It answers k and where others in the place of d break, or 0 where nothing was asked.
-fn narrow_by(
-    t: &[u16],
-    active: u32,
-    on: &[u16; 32],
-    goals: &mut [u16; 16],
-    rest: u32,
-    i: usize,
-    k: usize,
-    d: usize,
-) -> u32
-    requires { Ready t.now (sets active on.now) × Goals (state_of (sets active on.now)) i goals.old × (i < 32) × (rest ≡ thirds active i k) × (k < 32) × (k ≢ i) × T (bit (get_or on.now k 0) d) }
-    ensures { Narrowed (held t.now) (state_of (sets active on.now)) i (λ l c. (l ≡ k) × (c ≡ d)) goals.old goals.new result }
+fn narrow_by(view: View, goals: &mut [u16; 16], rest: u32, i: usize, k: usize, d: usize) -> u32
+    requires { Goals (state_of view.state.now) i goals.old × (i < 32) × (rest ≡ thirds view.state.now.active i k) × (k < 32) × (k ≢ i) × T (bit (get_or view.state.now.domains k 0) d) }
+    ensures { Narrowed (held view.entry.table.now) (state_of view.entry.state.now) i (λ l c. (l ≡ k) × (c ≡ d)) goals.old goals.new result }
 {
-    let domain = on[i];
-    let set = row_among(t, domain, k, i, d);
+    let domain = view.state.domains[i];
+    let set = row_among(view.table, domain, k, i, d);
     if !asks(set, goals) {
         return 0;
     }
-    let found = serving(t, active, on, rest, without16(on[k], d), k, k, d);
-    keep(set, set | reached(t, domain, found.left, k, i), goals);
-    with32(found.broken, k)
+    let found = serving(view, rest, view.state.domains[k].without(d), k, k, d);
+    keep(
+        set,
+        set | reached(view.table, domain, found.left, k, i),
+        goals,
+    );
+    found.broken.with(k)
 }
 
 // What the values of k ask, the highest first.
-fn narrow_at(
-    t: &[u16],
-    active: u32,
-    on: &[u16; 32],
-    goals: &mut [u16; 16],
-    rest: u32,
-    i: usize,
-    k: usize,
-) -> u32
-    requires { Ready t.now (sets active on.now) × Goals (state_of (sets active on.now)) i goals.old × (i < 32) × (rest ≡ thirds active i k) × (k < 32) × (k ≢ i) }
-    ensures { Narrowed (held t.now) (state_of (sets active on.now)) i (λ l c. l ≡ k) goals.old goals.new result }
+fn narrow_at(view: View, goals: &mut [u16; 16], rest: u32, i: usize, k: usize) -> u32
+    requires { Goals (state_of view.state.now) i goals.old × (i < 32) × (rest ≡ thirds view.state.now.active i k) × (k < 32) × (k ≢ i) }
+    ensures { Narrowed (held view.entry.table.now) (state_of view.entry.state.now) i (λ l c. l ≡ k) goals.old goals.new result }
 {
     let mut rests: u32 = 0;
-    let mut left = on[k];
+    let mut left = view.state.domains[k];
     while left != 0 {
-        let d = highest16(left);
-        rests = rests | narrow_by(t, active, on, goals, rest, i, k, d);
-        left = without16(left, d);
+        let d = left.highest();
+        rests = rests | narrow_by(view, goals, rest, i, k, d);
+        left = left.without(d);
     }
     rests
 }
@@ -189,67 +152,57 @@ fn some_goal(goals: &[u16; 16]) -> bool
     ensures { result ≡ false → NoGoal goals.now }
 {
     let mut all: u16 = 0;
-    let mut b: usize = 0;
-    while b < 16 {
+    for b in 0..16 {
         all = all | goals[b];
-        b += 1;
     }
     all != 0
 }
 
 // What all other variables ask, the highest first, while a goal is left.
-fn narrow_from(t: &[u16], active: u32, on: &[u16; 32], goals: &mut [u16; 16], i: usize) -> u32
-    requires { Ready t.now (sets active on.now) × Goals (state_of (sets active on.now)) i goals.old × (i < 32) }
-    ensures { Narrowed (held t.now) (state_of (sets active on.now)) i (λ l c. l ≢ i) goals.old goals.new result }
+fn narrow_from(view: View, goals: &mut [u16; 16], i: usize) -> u32
+    requires { Goals (state_of view.state.now) i goals.old × (i < 32) }
+    ensures { Narrowed (held view.entry.table.now) (state_of view.entry.state.now) i (λ l c. l ≢ i) goals.old goals.new result }
 {
-    let rest = without32(active, i);
+    let rest = view.state.active.without(i);
     let mut rests: u32 = 0;
-    let mut left = rest & neighbours(t, i);
+    let mut left = rest & neighbours(view.table, i);
     while (left != 0) & some_goal(goals) {
-        let k = highest32(left);
-        rests = rests | narrow_at(t, active, on, goals, without32(rest, k), i, k);
-        left = without32(left, k);
+        let k = left.highest();
+        rests = rests | narrow_at(view, goals, rest.without(k), i, k);
+        left = left.without(k);
     }
     rests
 }
 
 // Tries all values of i: the goals that are left are its substitutions, and where there is none, that rests on the variables of the answer.
-pub fn substitution_rests(
-    t: &[u16],
-    active: u32,
-    on: &[u16; 32],
-    goals: &mut [u16; 16],
-    i: usize,
-) -> u32
-    requires { Ready t.now (sets active on.now) × (i < 32) × (length goals.old ≡ 16) }
-    ensures { AllTried (held t.now) (state_of (sets active on.now)) i goals.new result }
+pub fn substitution_rests(view: View, goals: &mut [u16; 16], i: usize) -> u32
+    requires { (i < 32) × (length goals.old ≡ 16) }
+    ensures { AllTried (held view.entry.table.now) (state_of view.entry.state.now) i goals.new result }
 {
-    all_goals(on[i], goals);
-    narrow_from(t, active, on, goals, i)
+    all_goals(view.state.domains[i], goals);
+    narrow_from(view, goals, i)
 }
 
 // The lowest goal of b. Its word is handed over: of one in a lent array it is not known that it is a set of 16.
-fn lowest_goal(word: u16, i: usize, b: usize) -> Next
+fn lowest_goal(word: u16, i: usize, b: usize) -> Option<Record>
     ensures { result ≡ lowest_goal i b word }
 {
     if word == 0 {
-        Next::Nothing
+        None
     } else {
-        Next::Step(Record::SnakeSubstitution(i, b, lowest16(word)))
+        Some(Record::SnakeSubstitution(i, b, word.lowest()))
     }
 }
 
 // The step by the lowest value that has a goal, with its lowest goal.
-pub fn lowest_substitution(goals: &[u16; 16], i: usize) -> Next
+pub fn lowest_substitution(goals: &[u16; 16], i: usize) -> Option<Record>
     ensures { result ≡ first 16 (λ b. lowest_goal i b (get_or goals.now b 0)) }
 {
-    let mut b: usize = 0;
-    while b < 16 {
+    for b in 0..16 {
         let found = lowest_goal(goals[b], i, b);
-        if is_step(found) {
+        if found.is_some() {
             return found;
         }
-        b += 1;
     }
-    Next::Nothing
+    None
 }

@@ -1,6 +1,6 @@
 -- The starred bench sheets of the format, and rows for what no run shows, as bytes: one table, whose one statement is
 -- proofs/Starred.antt.
-use Rattle.std.specs.Prelude.{◌≡◌, Bool, true, false, List, [], ◌∷◌, ◌++◌, ℕ, ◌-◌, length}
+use Rattle.std.specs.Prelude.{◌≡◌, Bool, true, false, List, [], ◌∷◌, ◌++◌, ℕ, ◌-◌, length, Err, Ok}
 use Rattle.problem.specs.Problem.{Problem, State, full, snake}
 use Rattle.problem.specs.Run.{after_trace}
 use Rattle.problem.specs.Hand.{start}
@@ -12,15 +12,12 @@ use Rattle.problem.specs.declared.End.{End}
 use Rattle.problem.specs.declared.End.TheVariants.{Impossible, Solved, Rest}
 use Rattle.sheet.specs.Sheet.{layout}
 use Rattle.sheet.specs.Relation.{problem_of}
-use Rattle.run.specs.Numbers.{run_number}
+use Rattle.run.specs.Numbers.{run_number, ran}
 use Rattle.hand.specs.Numbers.{call_number}
 use Rattle.put_back.specs.Numbers.{put_back_number}
 use Rattle.run.specs.Run.{run_job}
 use Rattle.hand.specs.Hand.{hand_of, call_job}
 use Rattle.put_back.specs.PutBack.{put_back_job}
-use Rattle.run.specs.declared.RunOutcome.TheVariants as reduced
-use Rattle.hand.specs.declared.CallOutcome.TheVariants as called
-use Rattle.put_back.specs.declared.PutBackOutcome.TheVariants as extended
 use Rattle.put_back.specs.declared.PutBackRefusal.TheVariants as refusal
 use Rattle.jobs.specs.Sheets.{lent, masks, sheet_a, sheet_b, sheet_c, sheet_d, sheet_e, sheet_f, sheet_g, sheet_h, sheet_slide, sheet_k, sheet_l, sheet_choice, sheet_fold, sheet_elsewhere, short_a, short_b, short_c, short_d, short_e, short_f, short_g, short_h, short_slide, short_k, short_l, short_choice, short_fold, short_elsewhere}
 
@@ -55,7 +52,7 @@ abbrev pub Meets : List ℕ → Claim → Type 0
 Meets s (Runs b t e k m) =
     run_job s (lent b)
     ≡ record {
-      answer = record { outcome = reduced.Done e k (length t); state = m };
+      answer = record { outcome = ran e k (length t); state = m };
       buffer = t ++ lent (b - length t);
     }
 Meets s (NotRun b k) = (run_number (run_job s (lent b)).answer.outcome ≡ k) × ((run_job s (lent b)).buffer ≡ lent b)
@@ -65,12 +62,12 @@ Meets s (Serves i v b) = snake (problem_of layout s) (full (problem_of layout s)
 Meets s (NotTaken b i k) =
     (call_number (call_job s (hand_of (from b (problem_of layout s))) i).outcome ≡ k)
     × ((call_job s (hand_of (from b (problem_of layout s))) i).state ≡ hand_of (from b (problem_of layout s)))
-Meets s (Taken i v m) = call_job s (hand_of (full (problem_of layout s))) i ≡ record { outcome = called.Eliminated v; state = record { masks = m } }
-Meets s (PutBack t p q) = put_back_job s t p (lent (length p)) ≡ record { answer = extended.Done; result = q }
+Meets s (Taken i v m) = call_job s (hand_of (full (problem_of layout s))) i ≡ record { outcome = Ok v; state = record { masks = m } }
+Meets s (PutBack t p q) = put_back_job s t p (lent (length p)) ≡ record { answer = Ok tt; result = q }
 Meets s (NotPutBack t p k) = (put_back_number (put_back_job s t p (lent (length p))).answer ≡ k) × ((put_back_job s t p (lent (length p))).result ≡ lent (length p))
 Meets s (NotLawful t p k l c) =
     (put_back_number (put_back_job s t p (lent (length p))).answer ≡ 17)
-    × (put_back_job s t p (lent (length p)) ≡ record { answer = extended.Refused (refusal.Unlawful k l c); result = lent (length p) })
+    × (put_back_job s t p (lent (length p)) ≡ record { answer = Err (refusal.Unlawful k l c); result = lent (length p) })
 
 abbrev pub AllMeet : List ℕ → List Claim → Type 0
 AllMeet s [] = Unit {0}

@@ -5,46 +5,43 @@ ghost use Rattle.hand.specs.Call.{start_call};
 ghost use Rattle.std.specs.Prelude.{◌≡◌, ◌<◌};
 ghost use Rattle.problem.specs.Problem.{none_empty, max_variables};
 ghost use Rattle.problem.specs.Hand.{start as largest};
-ghost use Rattle.problem.specs.Masks.{state_of, masks_of, sets};
+ghost use Rattle.problem.specs.Masks.{state_of, masks_of};
 ghost use Rattle.problem.specs.Held.{held, RowTable};
-ghost use Rattle.held.specs.Ready.{Ready};
 ghost use Rattle.hand.specs.Hand.{start_refused, start_over, start_job};
 ghost use Rattle.support.specs.Words.{domain_left};
 ghost use Rattle.start.specs.Parts.{prune_below, same_domains};
 
-use hand::{HandState, StartAnswer, StartOutcome};
+use hand::{HandState, StartAnswer};
+use held::View;
 use problem::Masks;
-use sheet::{SheetRead, SheetRefusal};
+use sheet::SheetRefusal;
 use support::supported;
 
 // ---- one sweep
 
 // The domain of i after one sweep. `lasts` says that no item in is without a setting on; at one that is, nothing has a partner.
-fn domain_left(t: &[u16], active: u32, on: &[u16; 32], lasts: bool, i: usize) -> u16
-    requires { Ready t.now (sets active on.now) × (lasts ≡ none_empty (held t.now) (state_of (sets active on.now))) × (i < 32) }
-    ensures { result ≡ domain_left (held t.now) (state_of (sets active on.now)) i }
+fn domain_left(view: View, lasts: bool, i: usize) -> u16
+    requires { (lasts ≡ none_empty (held view.table.now) (state_of view.state.now)) × (i < 32) }
+    ensures { result ≡ domain_left (held view.entry.table.now) (state_of view.entry.state.now) i }
 {
-    if lasts {
-        supported(t, active, on, i)
-    } else {
-        0
-    }
+    if lasts { supported(view, i) } else { 0 }
 }
 
 // Item after item, each setting without a partner at some other item goes off, and the items that follow are judged by what is left.
-fn sweep(t: &[u16], m: Masks) -> Masks
-    requires { Ready t.now m }
-    ensures { result ≡ masks_of (prune_below max_variables (held t.now) (state_of m)) }
+fn sweep(view: View) -> Masks
+    ensures { result ≡ masks_of (prune_below max_variables (held view.entry.table.now) (state_of view.entry.state.now)) }
 {
-    let mut r = m;
-    let mut lasts = held::none_empty(t, r.active, &r.domains);
-    let mut i: usize = 0;
-    while i < 32 {
+    let mut r = *view.state;
+    let mut lasts = view.none_empty();
+    for i in 0..32 {
         let was = r.domains[i];
-        let left = domain_left(t, r.active, &r.domains, lasts, i);
+        let so_far = View {
+            table: view.table,
+            state: &r,
+        };
+        let left = domain_left(so_far, lasts, i);
         r.domains[i] = left;
         lasts = lasts & ((left != 0) | (was == 0));
-        i += 1;
     }
     r
 }
@@ -54,17 +51,7 @@ fn sweep(t: &[u16], m: Masks) -> Masks
 fn same_domains(x: Masks, y: Masks) -> bool
     ensures { result ≡ same_domains x y }
 {
-    let mut i: usize = 0;
-    while i < 32 {
-        let was = x.domains[i];
-        let left = y.domains[i];
-        let same = was == left;
-        if !same {
-            return false;
-        }
-        i += 1;
-    }
-    true
+    x.domains == y.domains
 }
 
 // Sweeps until one changes nothing. Each before it takes at least one setting off, so that they end.
@@ -73,10 +60,18 @@ fn settle(t: &[u16]) -> Masks
     ensures { result ≡ masks_of (largest (held t.now)) }
 {
     let mut kept = held::full_masks(t);
-    let mut next = sweep(t, kept);
+    let full = View {
+        table: t,
+        state: &kept,
+    };
+    let mut next = sweep(full);
     while !same_domains(kept, next) {
         kept = next;
-        next = sweep(t, kept);
+        let view = View {
+            table: t,
+            state: &kept,
+        };
+        next = sweep(view);
     }
     kept
 }
@@ -90,7 +85,7 @@ pub fn start_over(t: &[u16]) -> StartAnswer
     let masks = settle(t);
     let state = HandState { masks };
     StartAnswer {
-        outcome: StartOutcome::Started,
+        outcome: Ok(()),
         state,
     }
 }
@@ -102,7 +97,7 @@ fn refused_start(r: SheetRefusal) -> StartAnswer
     let masks = problem::empty_masks();
     let state = HandState { masks };
     StartAnswer {
-        outcome: StartOutcome::Refused(r),
+        outcome: Err(r),
         state,
     }
 }
@@ -113,35 +108,28 @@ pub fn start(s: &[u8]) -> StartAnswer
 {
     let mut t = table::blank_table();
     match read_sheet::read_table(s, &mut t) {
-        SheetRead::Refused(r) => refused_start(r),
-        SheetRead::Accepted {
-            variables: _,
-            blocks: _,
-        } => start_over(&t),
+        Ok(_) => start_over(&t),
+        Err(r) => refused_start(r),
     }
 }
 
 // ---- from C
-
-// The bytes of a hand state, which holds a run's state and nothing else.
-const HAND_STATE_LENGTH: usize = 68;
 
 // The start of taking out by hand. The refusal's number, or 0 with the state written.
 pub fn start_call(sheet: &[u8], state: &mut [u8]) -> u64
     ensures answer { result ≡ (start_call sheet.now state.old).answer }
     ensures state { state.new ≡ (start_call sheet.now state.old).state }
 {
-    if state.len() != HAND_STATE_LENGTH {
+    if state.len() != boundary::STATE_LENGTH {
         return boundary::bad_hand_state();
     }
     let first = start(sheet);
-    let outcome = first.outcome;
-    match outcome {
-        StartOutcome::Refused(r) => sheet::sheet_number(r) as u64,
-        StartOutcome::Started => {
+    match first.outcome {
+        Ok(()) => {
             let st = first.state;
             boundary::put_state(state, st.masks);
             0
         }
+        Err(r) => u8::from(r) as u64,
     }
 }

@@ -8,7 +8,7 @@ ghost use Rattle.problem.specs.Held.{table_length, Located};
 ghost use Rattle.problem.specs.Filling.{Entered};
 ghost use Rattle.table.specs.Parts.{transposed_row, transposed_rows, cleared, Wrote, HasPlaces, Blank};
 
-use bounded::{where16, without16};
+use bounded::{Set, where16};
 use held::{FAR_START, TABLE_LENGTH, rows_at};
 
 // ---- a block turned
@@ -27,10 +27,8 @@ fn column(rows: &[u16; 16], b: usize) -> u16
     ensures { result ≡ transposed_row rows.now b }
 {
     let mut word: u16 = 0;
-    let mut a: usize = 0;
-    while a < 16 {
+    for a in 0..16 {
         word = word | lane(rows[a], b, a);
-        a += 1;
     }
     word
 }
@@ -40,10 +38,8 @@ fn turn(rows: &[u16; 16], turned: &mut [u16; 16])
     requires { length turned.old ≡ 16 }
     ensures { turned.new ≡ transposed_rows rows.now }
 {
-    let mut b: usize = 0;
-    while b < 16 {
+    for b in 0..16 {
         turned[b] = column(rows, b);
-        b += 1;
     }
 }
 
@@ -61,10 +57,8 @@ fn put_rows(t: &mut [u16], at: usize, rows: &[u16; 16])
     requires { at + 16 ≤ length t.old }
     ensures { Wrote 16 t.old t.new at (λ a. get_or rows.now a 0) }
 {
-    let mut a: usize = 0;
-    while a < 16 {
+    for a in 0..16 {
         t[at + a] = rows[a];
-        a += 1;
     }
 }
 
@@ -74,7 +68,7 @@ fn clear_far(t: &mut [u16], i: usize, j: usize)
     ensures { t.new ≡ cleared t.old i j }
 {
     let at = FAR_START + (32 * (j / 16) + i);
-    t[at] = without16(t[at], j % 16);
+    t[at] = t[at].without(j % 16);
 }
 
 // Stores the list of places behind the sizes.
@@ -82,10 +76,8 @@ fn copy_places(t: &mut [u16], q: &[u16; 1024])
     requires { (length t.old ≡ table_length) × (q.now ≡ place_list) }
     ensures { HasPlaces t.old t.new }
 {
-    let mut k: usize = 0;
-    while k < 1024 {
+    for k in 0..1024 {
         t[32 + k] = q[k];
-        k += 1;
     }
 }
 

@@ -1,4 +1,5 @@
 -- The cases of what stands at a place of a trace. Assumes nothing.
+use Rattle.std.specs.Prelude.{Option, Some, None}
 use mathlib.Core.Path.{◌≡◌, refl, ap, ◌∙◌, subst}
 use mathlib.Core.Bool.{Bool, true, false, ◌&&◌}
 use mathlib.Core.List.{List}
@@ -12,14 +13,12 @@ use Rattle.bounded.proofs.Truth.{T_true, T_false, T_dec, lt_dec, and_iff, eqb_if
 use Rattle.buffers.specs.Bytes.{byte_at}
 use Rattle.problem.specs.Record.{fields_of}
 use Rattle.problem.specs.declared.Record.{Record}
-use Rattle.problem.specs.declared.Numbered.{Numbered}
-use Rattle.problem.specs.declared.Numbered.TheVariants.{Kind, NoKind}
 use Rattle.trace.specs.Trace.{numbered_at, whole_at, record_at}
 use Rattle.trace.specs.declared.RecordRead.{RecordRead}
 use Rattle.trace.specs.declared.RecordRead.TheVariants.{Read, End, Malformed}
 
 -- the definition over its tests
-abbrev picked : List ℕ → ℕ → Bool → Numbered → RecordRead
+abbrev picked : List ℕ → ℕ → Bool → Option Record → RecordRead
 picked s p a x = elim a [ false ↦ End | true ↦ whole_at s p x ]
 
 abbrev taken : List ℕ → ℕ → Record → Bool → RecordRead
@@ -34,27 +33,27 @@ module _ (s : List ℕ) (p : ℕ) where
   unfolding record_at
   at_end h = ap (λ (b : Bool). picked s p b (numbered_at s p)) (le-ltb p (length s) h)
 
-  pub at_none : p < length s → numbered_at s p ≡ NoKind → record_at s p ≡ Malformed
+  pub at_none : p < length s → numbered_at s p ≡ None → record_at s p ≡ Malformed
   unfolding record_at
   at_none h e = λ i. picked s p (lt-ltb p (length s) h i) (e i)
 
-  at_kind : (r : Record) → p < length s → numbered_at s p ≡ Kind r → record_at s p ≡ taken s p r (is_whole r)
+  at_kind : (r : Record) → p < length s → numbered_at s p ≡ Some r → record_at s p ≡ taken s p r (is_whole r)
   unfolding record_at
   at_kind r h e = λ i. picked s p (lt-ltb p (length s) h i) (e i)
 
-  at_broken : (r : Record) → p < length s → numbered_at s p ≡ Kind r → (T (is_whole r) → ⊥) → record_at s p ≡ Malformed
+  at_broken : (r : Record) → p < length s → numbered_at s p ≡ Some r → (T (is_whole r) → ⊥) → record_at s p ≡ Malformed
   at_broken r h e f = at_kind r h e ∙ ap (taken s p r) (T_false (is_whole r) f)
 
   -- a length byte that is not the kind's, and one that is
-  pub at_wrong : (r : Record) → p < length s → numbered_at s p ≡ Kind r → (byte_at s p ≡ suc (length (fields_of r)) → ⊥) → record_at s p ≡ Malformed
+  pub at_wrong : (r : Record) → p < length s → numbered_at s p ≡ Some r → (byte_at s p ≡ suc (length (fields_of r)) → ⊥) → record_at s p ≡ Malformed
   at_wrong r h e n = at_broken r h e (λ t. n (simp (and_iff, eqb_iff, ltb_iff) at t).0)
 
-  pub at_record : (r : Record) → p + byte_at s p < length s → numbered_at s p ≡ Kind r → byte_at s p ≡ suc (length (fields_of r)) → record_at s p ≡ Read r (p + 1 + byte_at s p)
+  pub at_record : (r : Record) → p + byte_at s p < length s → numbered_at s p ≡ Some r → byte_at s p ≡ suc (length (fields_of r)) → record_at s p ≡ Read r (p + 1 + byte_at s p)
   at_record r h e q = at_kind r (omega arith) e ∙ ap (taken s p r) (T_true (is_whole r) (simp (and_iff, eqb_iff, ltb_iff) (q, h)))
 
   -- what a record that is read is read from
   pub record ReadFrom (r : Record) (q : ℕ) : Type 0 where
-    pub made : numbered_at s p ≡ Kind r
+    pub made : numbered_at s p ≡ Some r
     pub long : byte_at s p ≡ suc (length (fields_of r))
     pub inside : p + byte_at s p < length s
     pub next : q ≡ p + 1 + byte_at s p
@@ -63,13 +62,13 @@ module _ (s : List ℕ) (p : ℕ) where
   inside_cases : p < length s → (record_at s p ≡ Malformed) ⊎ ((r : Record) × (record_at s p ≡ Read r (p + 1 + byte_at s p)) × ReadFrom r (p + 1 + byte_at s p))
   inside_cases h = kinds (numbered_at s p) refl
     where
-      whole : (r : Record) → numbered_at s p ≡ Kind r → T (is_whole r) ⊎ (T (is_whole r) → ⊥) → (record_at s p ≡ Malformed) ⊎ ((r : Record) × (record_at s p ≡ Read r (p + 1 + byte_at s p)) × ReadFrom r (p + 1 + byte_at s p))
+      whole : (r : Record) → numbered_at s p ≡ Some r → T (is_whole r) ⊎ (T (is_whole r) → ⊥) → (record_at s p ≡ Malformed) ⊎ ((r : Record) × (record_at s p ≡ Read r (p + 1 + byte_at s p)) × ReadFrom r (p + 1 + byte_at s p))
       whole r f (inr n) = inl (at_broken r h f n)
       whole r f (inl t) = let w = simp (and_iff, eqb_iff, ltb_iff) at t in inr (r, at_record r w.1 f w.0, record { made = f; long = w.0; inside = w.1; next = refl })
 
-      kinds : (x : Numbered) → numbered_at s p ≡ x → (record_at s p ≡ Malformed) ⊎ ((r : Record) × (record_at s p ≡ Read r (p + 1 + byte_at s p)) × ReadFrom r (p + 1 + byte_at s p))
-      kinds NoKind f = inl (at_none h f)
-      kinds (Kind r) f = whole r f (T_dec (is_whole r))
+      kinds : (x : Option Record) → numbered_at s p ≡ x → (record_at s p ≡ Malformed) ⊎ ((r : Record) × (record_at s p ≡ Read r (p + 1 + byte_at s p)) × ReadFrom r (p + 1 + byte_at s p))
+      kinds None f = inl (at_none h f)
+      kinds (Some r) f = whole r f (T_dec (is_whole r))
 
   -- cut short
   pub at_cut : p < length s → length s ≤ p + byte_at s p → record_at s p ≡ Malformed

@@ -1,10 +1,8 @@
 -- The trace: "byte 0, version 1, then one record a step: first a length byte (4 for kinds 1, 4, 5; 3 for kinds 2, 3), then the bytes above".
-use Rattle.std.specs.Prelude.{true, false, ◌&&◌, List, [], ◌∷◌, ◌++◌, ℕ, suc, ◌+◌, ◌<◌, ltb, eqb, length}
+use Rattle.std.specs.Prelude.{true, false, ◌&&◌, List, [], ◌∷◌, ◌++◌, ℕ, suc, ◌+◌, ◌<◌, ltb, eqb, length, Option, Some, None}
 use Rattle.buffers.specs.Bytes.{byte_at}
 use Rattle.problem.specs.Record.{item_of, third_of, fourth_of, kind_of, fields_of, record_of}
 use Rattle.problem.specs.declared.Record.{Record}
-use Rattle.problem.specs.declared.Numbered.{Numbered}
-use Rattle.problem.specs.declared.Numbered.TheVariants.{Kind, NoKind}
 use Rattle.trace.specs.declared.RecordRead.{RecordRead}
 use Rattle.trace.specs.declared.RecordRead.TheVariants.{Read, End, Malformed}
 
@@ -28,13 +26,13 @@ Small r = (item_of r < 256) × (third_of r < 256) × (fourth_of r < 256)
 -- ---- records from bytes
 
 -- the record that the bytes after a length byte at p make
-abbrev pub numbered_at : List ℕ → ℕ → Numbered
+abbrev pub numbered_at : List ℕ → ℕ → Option Record
 numbered_at s p = record_of (byte_at s (p + 1)) (byte_at s (p + 2)) (byte_at s (p + 3)) (byte_at s (p + 4))
 
 -- these read as a record with the place after it, or as one that is "cut short, unknown kind, or length byte wrong for the kind"
-abbrev pub whole_at : List ℕ → ℕ → Numbered → RecordRead
-whole_at s p NoKind = Malformed
-whole_at s p (Kind r) = elim (eqb (byte_at s p) (suc (length (fields_of r))) && ltb (p + byte_at s p) (length s)) [ true ↦ Read r (p + 1 + byte_at s p) | false ↦ Malformed ]
+abbrev pub whole_at : List ℕ → ℕ → Option Record → RecordRead
+whole_at s p None = Malformed
+whole_at s p (Some r) = elim (eqb (byte_at s p) (suc (length (fields_of r))) && ltb (p + byte_at s p) (length s)) [ true ↦ Read r (p + 1 + byte_at s p) | false ↦ Malformed ]
 
 -- what stands at p: the end, a record, or a malformed one
 unfoldable pub record_at : List ℕ → ℕ → RecordRead

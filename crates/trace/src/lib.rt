@@ -7,7 +7,7 @@ ghost use Rattle.buffers.specs.Written.{written};
 ghost use Rattle.trace.specs.Place.{place_after};
 
 use buffers::byte_at;
-use problem::{Numbered, Record, parts_of, record_of};
+use problem::{Record, parts_of, record_of};
 
 // What stands at a place of a trace.
 #[derive(Clone, Copy)]
@@ -20,7 +20,7 @@ pub enum RecordRead {
 // ---- reading
 
 // The record that the bytes after a length byte at p make.
-fn numbered_at(s: &[u8], p: usize) -> Numbered
+fn numbered_at(s: &[u8], p: usize) -> Option<Record>
     requires { p < length s.now }
     ensures { result ≡ numbered_at s.now p }
 {
@@ -45,8 +45,8 @@ pub fn record_at(s: &[u8], at: usize) -> RecordRead
         return RecordRead::Malformed;
     }
     match numbered_at(s, at) {
-        Numbered::NoKind => RecordRead::Malformed,
-        Numbered::Kind(record) => {
+        None => RecordRead::Malformed,
+        Some(record) => {
             // The length byte is wrong for the kind.
             if n != 1 + parts_of(record).count {
                 return RecordRead::Malformed;

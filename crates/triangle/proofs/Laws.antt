@@ -1,5 +1,6 @@
 -- The triangle rule over words, and what its failure rests on. Assumes nothing.
-use mathlib.Core.Path.{◌≡◌, refl, ◌∙◌}
+use Rattle.std.specs.Prelude.{Option, Some, None, true, false, not, is_some}
+use mathlib.Core.Path.{◌≡◌, refl, sym, ◌∙◌}
 use mathlib.Core.Bool.{Bool, ◌&&◌}
 use mathlib.Core.Logic.Iff
 use mathlib.Core.Logic.{inl, inr, ◌≢◌, ◌↔◌}
@@ -11,7 +12,7 @@ use lib.Bits.{bit_and}
 use lib.ListN.{get_or}
 use Rattle.bounded.specs.Quantifiers.{lowest}
 use Rattle.bounded.specs.Mask.{bit, mask_of, without}
-use Rattle.bounded.proofs.Truth.{T_ext, T_false, and_iff, eqb_iff, eq_dec}
+use Rattle.bounded.proofs.Truth.{T_ext, T_of, T_not, T_true, T_false, and_iff, eqb_iff, eq_dec}
 use Rattle.bounded.proofs.Mask.{bit_without16, mask_is, member_some}
 use Rattle.bounded.proofs.Members.{Sought, sought_all, sought_next, sought_none, lowest_member}
 use Rattle.problem.specs.Problem.{Problem, State, triangle_serves, triangle}
@@ -27,6 +28,7 @@ use Rattle.cover.specs.Words.{servers_in, thirds}
 use Rattle.cover.specs.Broken.{BrokenIn}
 use Rattle.cover.proofs.Laws.{broken_at, servers_in_iff, servers_lt, thirds_iff}
 use Rattle.triangle.specs.Parts.{TriangleTried}
+use Rattle.triangle.specs.declared.Unserved.{Unserved}
 
 module _ (t : List ℕ) (m : Masks) (i j : ℕ) where
   -- the values of i that are allowed with v, and of those the ones that serve for it
@@ -90,43 +92,35 @@ module _ {t : List ℕ} {m : Masks} (R : Ready t m) where
     tried_next {left} {v} S k e d = sought_next 16 bit_without16 S k (T_false _ (λ h. d (e ∙ ((unserved_iff t m i j v).0 h).1)))
 
     -- one for which nothing does: each candidate breaks
-    pub tried_fails : {some broken v : ℕ} → v < 16 → Live s j v → BrokenIn P s rest (word v) some broken i j v → some ≡ 0 → TriangleTried P s i j v broken
-    tried_fails {some} {broken} {v} k o B e =
-        record {
-          most = omega arith;
-          holds = λ f. absurd (omega arith);
-          fails = λ d. triangle_rests i j v o (inr (refl, refl)) (λ u on a.
-              let y = broken_at R.fits B u ((word_iff R j v i u).1 (on, turn P i u j v a)) (λ h. member_some some u h e) in
-              let z = (thirds_iff m.active i j y.0 p q y.1).0 y.3 in
-              (y.0, (z.0.1, z.1), λ c. inl y.2, y.4));
-        }
+    pub tried_fails : {some broken v : ℕ} → v < 16 → Live s j v → BrokenIn P s rest (word v) some broken i j v → some ≡ 0 → TriangleTried P s i j (Some (record { value = v; rests = broken }))
+    tried_fails {some} {broken} {v} k o B e = (
+      k,
+      triangle_rests i j v o (inr (refl, refl)) (λ u on a.
+          let y = broken_at R.fits B u ((word_iff R j v i u).1 (on, turn P i u j v a)) (λ h. member_some some u h e) in
+          let z = (thirds_iff m.active i j y.0 p q y.1).0 y.3 in
+          (y.0, (z.0.1, z.1), λ c. inl y.2, y.4)),
+    )
 
     -- none left: something serves for each
-    pub tried_holds : {left : ℕ} → Active s i → Active s j → j ≢ i → left ≡ 0 → Sought 16 (unserved_at t m i j) domain left → TriangleTried P s i j 16 0
+    pub tried_holds : {left : ℕ} → Active s i → Active s j → j ≢ i → left ≡ 0 → Sought 16 (unserved_at t m i j) domain left → TriangleTried P s i j None
     unfolding state_of
-    tried_holds ai aj d e S =
-        record {
-          most = omega arith;
-          holds = λ f. (
-            ai,
-            (
-              aj,
-              (
-                d,
-                λ v o. elim (eq_dec (servers t m i j v) 0) [
-                  | inl z ↦ absurd (sought_none S e v (live_value R j v o).value ((unserved_iff t m i j v).1 (o, z)))
-                  | inr n ↦ let y = (servers_iff v _).0 (lowest_member 16 (servers t m i j v) (servers_lt P s rest (word v) i j v) n).1 in (lowest 16 (bit (servers t m i j v)), y.0, y.1)
-                ],
-              ),
-            ),
-          );
-          fails = λ n. absurd (n refl);
-        }
+    tried_holds ai aj d e S = (
+      ai,
+      (
+        aj,
+        (
+          d,
+          λ v o. elim (eq_dec (servers t m i j v) 0) [
+            | inl z ↦ absurd (sought_none S e v (live_value R j v o).value ((unserved_iff t m i j v).1 (o, z)))
+            | inr n ↦ let y = (servers_iff v _).0 (lowest_member 16 (servers t m i j v) (servers_lt P s rest (word v) i j v) n).1 in (lowest 16 (bit (servers t m i j v)), y.0, y.1)
+          ],
+        ),
+      ),
+    )
 
   -- what trying tells of the rule
-  pub tried_triangle : {i j by rests : ℕ} → TriangleTried P s i j by rests → eqb by 16 ≡ triangle P s i j
-  tried_triangle {i} {j} {by} {rests} F =
-      T_ext (
-        λ h. (triangle_iff R.fits i j).1 (F.holds ((eqb_iff by 16).0 h)),
-        λ h. elim (eq_dec by 16) [ inl e ↦ (eqb_iff by 16).1 e | inr n ↦ absurd (rests_fails R.fits (F.fails n) ((triangle_iff R.fits i j).0 h)) ],
-      )
+  pub tried_triangle : (i j : ℕ) (r : Option Unserved) (b : Bool) → TriangleTried P s i j r → is_some r ≡ not b → b ≡ triangle P s i j
+  tried_triangle i j None true F e = sym (T_true _ ((triangle_iff R.fits i j).1 F))
+  tried_triangle i j None false F e = absurd (T_of e)
+  tried_triangle i j (Some u) true F e = absurd (T_not e tt)
+  tried_triangle i j (Some u) false F e = sym (T_false _ (λ h. rests_fails R.fits F.1 ((triangle_iff R.fits i j).0 h)))

@@ -1,4 +1,5 @@
 -- The loop of the run: what holds before each turn, at its start, after a turn, and at its end. Assumes nothing.
+use Rattle.std.specs.Prelude.{Some, None}
 use mathlib.Core.Path.{◌≡◌, refl, sym, ap, ◌∙◌, subst}
 use mathlib.Core.Bool.{true}
 use mathlib.Core.List.{List, [], ◌∷◌, ◌++◌, append-nil, append_assoc}
@@ -14,7 +15,6 @@ use Rattle.problem.specs.Held.{held, RowTable}
 use Rattle.problem.specs.Masks.{state_of, masks_of}
 use Rattle.problem.specs.declared.Masks.{Masks}
 use Rattle.problem.specs.declared.Record.{Record}
-use Rattle.problem.specs.declared.Next.TheVariants.{Step, Nothing}
 use Rattle.problem.proofs.Reflect.{full_fits, none_empty_iff}
 use Rattle.problem.specs.Sentences.{Fits}
 use Rattle.problem.proofs.HeldTable.{held_few, held_narrow, held_bounded}
@@ -26,7 +26,7 @@ use Rattle.problem.proofs.Bridge.{masks_back}
 use Rattle.trace.specs.Trace.{record_bytes, records_bytes, trace_bytes, Small}
 use Rattle.buffers.specs.Written.{fronted, written}
 use Rattle.run.specs.Run.{run_done}
-use Rattle.run.specs.declared.RunOutcome.TheVariants.{Done}
+use Rattle.run.specs.Numbers.{ran}
 use Rattle.run.proofs.Worked.{trace_length}
 use Rattle.buffers.proofs.Written.{fronted_more, length_fronted}
 use Rattle.trace.proofs.Back.{trace_more, record_most}
@@ -37,13 +37,13 @@ use Rattle.steps.proofs.States.{after_state, after_ready}
 -- ---- the run, one step at a time
 
 module _ (P : Problem) where
-  pub run_more : {s : State} → Fits P s → (r : Record) → next P s ≡ Step r → run P s ≡ r ∷ run P (after P s r)
+  pub run_more : {s : State} → Fits P s → (r : Record) → next P s ≡ Some r → run P s ≡ r ∷ run P (after P s r)
   unfolding run_by
   run_more {s} F r e =
       run_step P (live_count P s) s r e
       ∙ ap (λ (t : List Record). r ∷ t) (run_enough P (live_count P s) (suc (live_count P (after P s r))) (after P s r) (after_fits P F r) (step_falls P F r (next_lawful P s r e)) (omega arith))
 
-  pub run_ended : (s : State) → next P s ≡ Nothing → run P s ≡ []
+  pub run_ended : (s : State) → next P s ≡ None → run P s ≡ []
   unfolding run_by
   run_ended s e = run_stop P (suc (live_count P s)) s e
 
@@ -120,7 +120,7 @@ module _ (t d : List ℕ) where
     pub same_length : length b ≡ length d
     same_length = ap length W.bytes ∙ length_fronted (trace_bytes W.done) d (omega (arith, few, room, W.place, W.long))
 
-    module _ (r : Record) (e : next (held t) (state_of m) ≡ Step r) where
+    module _ (r : Record) (e : next (held t) (state_of m) ≡ Some r) where
       holds_here : T (lawful (held t) (state_of m) r)
       holds_here = next_lawful (held t) (state_of m) r e
 
@@ -162,7 +162,7 @@ module _ (t d : List ℕ) where
           }
 
     -- no step is left
-    module _ (e : next (held t) (state_of m) ≡ Nothing) where
+    module _ (e : next (held t) (state_of m) ≡ None) where
       all_done : run (held t) (full (held t)) ≡ W.done
       all_done = W.told ∙ ap (λ (l : List Record). W.done ++ l) (run_ended (held t) (state_of m) e) ∙ append-nil W.done
 
@@ -186,6 +186,6 @@ module _ (t d : List ℕ) where
       unfolding run_done
       done_buffer d₀ q = W.bytes ∙ (λ i. fronted (trace_bytes (sym all_done i)) (q i)) ∙ fronted_first (run (held t) (full (held t))) d₀
 
-      pub done_answer : (d₀ : List ℕ) → record { outcome = Done (end_of (held t) (state_of m)) steps at; state = m } ≡ (run_done (held t) d₀).answer
+      pub done_answer : (d₀ : List ℕ) → record { outcome = ran (end_of (held t) (state_of m)) steps at; state = m } ≡ (run_done (held t) d₀).answer
       unfolding run_done
-      done_answer d₀ = λ i. record { outcome = Done (done_end i) (done_count i) (done_place i); state = done_state i }
+      done_answer d₀ = λ i. record { outcome = ran (done_end i) (done_count i) (done_place i); state = done_state i }

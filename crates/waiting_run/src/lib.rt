@@ -7,28 +7,25 @@ ghost use Rattle.problem.specs.Problem.{size_sum};
 ghost use Rattle.problem.specs.Run.{end_of};
 ghost use Rattle.problem.specs.Held.{held, RowTable};
 ghost use Rattle.problem.specs.Masks.{state_of};
-ghost use Rattle.held.specs.Ready.{Ready};
 ghost use Rattle.run.specs.Run.{run_refused, run_done, run_over, run_job};
 
-use held::{full_masks, size_sum};
-use problem::{End, Masks, Next};
-use run::{RunAnswer, RunOutcome, RunRefusal};
-use sheet::SheetRead;
-use waiting::{ROWS, WAITING};
+use held::{View, full_masks, size_sum};
+use problem::{End, Masks};
+use run::{Finished, RunAnswer, RunRefusal};
+use waiting::{Memory, ROWS, WAITING};
 use waiting_search::{advance, next_step};
 use waiting_unsupported::first_unsupported;
 
 // ---- the end
 
 // How a run ends that ends in this state.
-fn end_of(t: &[u16], m: Masks) -> End
-    requires { Ready t.now m }
-    ensures { result ≡ end_of (held t.now) (state_of m) }
+fn end_of(view: View) -> End
+    ensures { result ≡ end_of (held view.entry.table.now) (state_of view.entry.state.now) }
 {
-    if !held::none_empty(t, m.active, &m.domains) {
+    if !view.none_empty() {
         return End::Impossible;
     }
-    if m.active == 0 {
+    if view.state.active == 0 {
         return End::Solved;
     }
     End::Rest
@@ -52,33 +49,37 @@ pub fn run_table(t: &[u16], b: &mut [u8]) -> RunAnswer
     write_version(b);
     let mut state = full_masks(t);
     let mut words = [0u16; 32];
-    first_unsupported(t, state.active, &state.domains, &mut words);
-    let mut pending = [65535u16; ROWS];
-    let mut waiting = [0u16; WAITING];
+    let first = View {
+        table: t,
+        state: &state,
+    };
+    first_unsupported(first, &mut words);
+    // Written out, so that it is built where it stays: two copies of it would not fit the stack that the header asks for.
+    let mut memory = Memory {
+        pending: [65535u16; ROWS],
+        waiting: [0u16; WAITING],
+    };
     let mut at: usize = 1;
     let mut steps: usize = 0;
     loop {
-        match next_step(
-            t,
-            state.active,
-            &state.domains,
-            &words,
-            &mut pending,
-            &mut waiting,
-        ) {
-            Next::Step(r) => {
+        let view = View {
+            table: t,
+            state: &state,
+        };
+        match next_step(view, &words, &mut memory) {
+            Some(r) => {
                 at = trace::write_record(b, at, r);
-                state = advance(t, state, &mut words, &mut pending, &mut waiting, r);
+                state = advance(view, &mut words, &mut memory, r);
                 steps += 1;
             }
-            Next::Nothing => {
-                let end = end_of(t, state);
+            None => {
+                let end = end_of(view);
                 return RunAnswer {
-                    outcome: RunOutcome::Done {
+                    outcome: Ok(Finished {
                         end,
                         steps,
                         written: at,
-                    },
+                    }),
                     state,
                 };
             }
@@ -92,7 +93,7 @@ fn refused(r: RunRefusal) -> RunAnswer
 {
     let state = problem::empty_masks();
     RunAnswer {
-        outcome: RunOutcome::Refused(r),
+        outcome: Err(r),
         state,
     }
 }
@@ -114,18 +115,12 @@ pub fn run_sheet(s: &[u8], b: &mut [u8]) -> RunAnswer
 {
     let mut t = table::blank_table();
     match read_sheet::read_table(s, &mut t) {
-        SheetRead::Refused(r) => refused(RunRefusal::Sheet(r)),
-        SheetRead::Accepted {
-            variables: _,
-            blocks: _,
-        } => run_over(&t, b),
+        Ok(_) => run_over(&t, b),
+        Err(r) => refused(RunRefusal::Sheet(r)),
     }
 }
 
 // ---- from C
-
-// The bytes of a run's state: the active variables in 4, then 32 domains in 2 each, big-endian.
-const STATE_LENGTH: usize = 68;
 
 // The run. Bits 0-7: the refusal's number, 0 where there is none; bits 8-15: the end; bits 16-31: the steps; bits 32-47: the bytes
 // written. A refused run writes neither the trace nor the state.
@@ -134,7 +129,7 @@ pub fn run_call(sheet: &[u8], trace: &mut [u8], state: &mut [u8]) -> u64
     ensures trace { trace.new ≡ (run_call sheet.now trace.old state.old).trace }
     ensures state { state.new ≡ (run_call sheet.now trace.old state.old).state }
 {
-    if state.len() != STATE_LENGTH {
+    if state.len() != boundary::STATE_LENGTH {
         return boundary::bad_state();
     }
     let done = run_sheet(sheet, trace);

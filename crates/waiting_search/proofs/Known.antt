@@ -1,4 +1,5 @@
 -- What is known of a state, its unsupported values and what the search waits for, brought up to the next step. Assumes nothing.
+use Rattle.std.specs.Prelude.{Some}
 use mathlib.Core.Path.{◌≡◌, sym, subst}
 use mathlib.Core.List.{List}
 use Prim.Native.Nat.{ℕ, ◌≤◌, ◌<◌}
@@ -15,7 +16,6 @@ use Rattle.problem.specs.declared.Effect.{Effect}
 use Rattle.problem.specs.declared.Effect.TheVariants.{Removes, Eliminates}
 use Rattle.problem.specs.declared.Record.{Record}
 use Rattle.problem.specs.declared.Record.TheVariants.{Unsupported, Snake, Triangle, Neighbourhood, SnakeSubstitution}
-use Rattle.problem.specs.declared.Next.TheVariants.{Step}
 use Rattle.problem.proofs.Reflect.{unsupported_iff, snake_iff, triangle_iff, neighbourhood_iff, snake_substitution_iff, eliminate_active, eliminate_live, remove_fits, eliminate_fits}
 use Rattle.problem.specs.Sentences.{Active, Live, Fits, ArcConsistent}
 use Rattle.problem.proofs.Trace.{Present, lawful_iff, holds_present}
@@ -38,7 +38,7 @@ module _ {P : Problem} {s : State} (F : Fits P s) where
       let y = C j a ((eliminate_live P s F i j a).0 o).0 k x.0 d in
       (y.0, eliminate_keeps F C i h k y.0 x.1 y.1, y.2)
 
-module _ {P : Problem} {s : State} (F : Fits P s) (r : Record) (e : next P s ≡ Step r) where
+module _ {P : Problem} {s : State} (F : Fits P s) (r : Record) (e : next P s ≡ Some r) where
   -- no active variable is emptied, and the rule of the step holds
   pub step_holds : T (none_empty P s) × T (holds P s r)
   step_holds = (lawful_iff P s r).0 (next_lawful P s r e)

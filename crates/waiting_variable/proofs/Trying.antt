@@ -1,5 +1,6 @@
 -- The tests of a variable that are pending, tried one after another: where one finds a step, where it fails and waits, and where none is
 -- left. Assumes nothing.
+use Rattle.std.specs.Prelude.{Some, None}
 use mathlib.Core.Path.{◌≡◌, sym, ap, ◌∙◌, subst}
 use mathlib.Core.Bool.{Bool, true, false, not, ◌||◌}
 use mathlib.Core.List.{List}
@@ -22,7 +23,6 @@ use Rattle.problem.specs.Masks.{state_of}
 use Rattle.problem.specs.Run.{step_if, first, is_step}
 use Rattle.problem.specs.declared.Masks.{Masks}
 use Rattle.problem.specs.declared.Record.TheVariants as record·
-use Rattle.problem.specs.declared.Next.TheVariants.{Step, Nothing}
 use Rattle.problem.proofs.Reflect.{snake_iff, triangle_iff, neighbourhood_iff, snake_substitution_iff}
 use Rattle.problem.proofs.Run.{first_each, step_if_none}
 use Rattle.problem.proofs.Search.{step_if_on, first_ext, first_off, first_at, outside}
@@ -36,6 +36,7 @@ use Rattle.held.proofs.Laws.{live_value}
 use Rattle.held.proofs.Bounds.{not_active}
 use Rattle.neighbourhood.specs.Parts.{NeighbourhoodTried}
 use Rattle.triangle.specs.Parts.{TriangleTried}
+use Rattle.triangle.specs.declared.Unserved.{Unserved}
 use Rattle.snake_substitution.specs.Parts.{lowest_goal, AllTried}
 use Rattle.search_order.specs.Lowest.{step_at, step_from}
 use Rattle.search_order.proofs.Lowest.{made_holds, first_holds, Seeking}
@@ -57,7 +58,7 @@ module _ {t : List ℕ} {m : Masks} (R : Ready t m) where
   unfolding step_at
   snake_made i v h = let x = (snake_iff R.fits i v).0 (made_holds _ _ h) in (x, x.0)
 
-  pub snake_found : (i v : ℕ) → Snake P s i v → step_at P s 2 i v ≡ Step (record·.Snake i v)
+  pub snake_found : (i v : ℕ) → Snake P s i v → step_at P s 2 i v ≡ Some (record·.Snake i v)
   unfolding step_at
   snake_found i v h = step_if_on _ _ (T_true _ ((snake_iff R.fits i v).1 h))
 
@@ -65,7 +66,7 @@ module _ {t : List ℕ} {m : Masks} (R : Ready t m) where
   unfolding step_at
   triangle_made i j h = (triangle_iff R.fits i j).0 (made_holds _ _ h)
 
-  pub triangle_found : (i j : ℕ) → Triangle P s i j → step_at P s 3 i j ≡ Step (record·.Triangle i j)
+  pub triangle_found : (i j : ℕ) → Triangle P s i j → step_at P s 3 i j ≡ Some (record·.Triangle i j)
   unfolding step_at
   triangle_found i j h = step_if_on _ _ (T_true _ ((triangle_iff R.fits i j).1 h))
 
@@ -74,7 +75,7 @@ module _ {t : List ℕ} {m : Masks} (R : Ready t m) where
   neighbourhood_made i b h = let x = first_holds 16 _ _ h in let y = (neighbourhood_iff R.fits i b x.0).0 x.1 in ((x.0, y), y.0)
 
   -- the lowest of those that substitute for b
-  pub neighbourhood_found : {left broken : ℕ} (i b a : ℕ) → NeighbourhoodTried P s i b left broken → left < 2 ^ 16 → left ≢ 0 → a ≡ lowest 16 (bit left) → step_at P s 4 i b ≡ Step (record·.Neighbourhood i b a)
+  pub neighbourhood_found : {left broken : ℕ} (i b a : ℕ) → NeighbourhoodTried P s i b left broken → left < 2 ^ 16 → left ≢ 0 → a ≡ lowest 16 (bit left) → step_at P s 4 i b ≡ Some (record·.Neighbourhood i b a)
   unfolding step_at
   neighbourhood_found {left} i b a K small d e =
       let low = lowest_member 16 left small d in
@@ -120,13 +121,13 @@ module _ {t : List ℕ} {m : Masks} (R : Ready t m) where
         )))
 
     -- one that fails waits for what that rests on
-    pub triangles_next : {p w q x : List ℕ} {set left by rests : ℕ} (j : ℕ) → Seeking P s 3 i set left → Waits P s p w → j < 32 → TriangleLearned rests i j by p w q x → rests < 2 ^ 32 → TriangleTried P s i j by rests → by ≢ 16
+    pub triangles_next : {p w q x : List ℕ} {set left : ℕ} (j : ℕ) (u : Unserved) → Seeking P s 3 i set left → Waits P s p w → j < 32 → TriangleLearned u.rests i j u.value p w q x → u.rests < 2 ^ 32 → TriangleTried P s i j (Some u)
         → Seeking P s 3 i set (without 32 left j) × Waits P s q x
-    triangles_next {by = by} j S H q E small K d =
-        let Q = K.fails d in
-        (sought_next 32 bit_without32 S q (T_false _ (λ h. rests_fails R.fits Q (triangle_made i j h))), waits_triangle_learned H i j by l q E small Q)
+    triangles_next j u S H q E small K =
+        let Q = K.1 in
+        (sought_next 32 bit_without32 S q (T_false _ (λ h. rests_fails R.fits Q (triangle_made i j h))), waits_triangle_learned H i j u.value l q E small Q)
 
-    pub triangles_off : bit m.active i ≡ false → step_from P s 3 i ≡ Nothing
+    pub triangles_off : bit m.active i ≡ false → step_from P s 3 i ≡ None
     unfolding step_from step_at
     triangles_off e = first_off 32 _ (λ j q. outside _ _ (λ x. not_active R i e ((triangle_iff R.fits i j).0 x).0))
 
@@ -142,14 +143,14 @@ module _ {t : List ℕ} {m : Masks} (R : Ready t m) where
       ))))
 
       -- where there is no step, no goal is left
-      pub goals_rest : step_from P s 5 i ≡ Nothing → Rests P s (Passes P substitutions i 0) (Of rests)
+      pub goals_rest : step_from P s 5 i ≡ None → Rests P s (Passes P substitutions i 0) (Of rests)
       unfolding step_from step_at
       goals_rest e =
           K.fails (λ b a h. let S = (K.holds b a).0 h in
           step_if_none _ (record·.SnakeSubstitution i b a) (first_each 16 _ (first_each 16 _ e b (live_value R i b S.0).value) a (live_value R i a S.1.0).value) ((snake_substitution_iff R.fits substitution_spares i b a).1 S))
 
     -- a test that is not pending has failed, and an empty domain has no step
-    pub goals_none : {p w : List ℕ} → Waits P s p w → (word : ℕ) (has : Bool) → word ≡ get_or p (row_of substitutions i) 0 → has ≡ bit word 0 → (not has || eqb (get_or m.domains i 0) 0) ≡ true → step_from P s 5 i ≡ Nothing
+    pub goals_none : {p w : List ℕ} → Waits P s p w → (word : ℕ) (has : Bool) → word ≡ get_or p (row_of substitutions i) 0 → has ≡ bit word 0 → (not has || eqb (get_or m.domains i 0) 0) ≡ true → step_from P s 5 i ≡ None
     unfolding state_of step_from step_at
     goals_none H word has f e h =
         first_off 16 _ (λ b q. first_off 16 _ (λ a r. outside _ _ (λ x.

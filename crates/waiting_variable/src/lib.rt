@@ -4,123 +4,91 @@
 
 ghost use Rattle.std.specs.Prelude.{◌≡◌, ◌<◌};
 ghost use Rattle.problem.specs.Held.{held};
-ghost use Rattle.problem.specs.Masks.{state_of, sets};
-ghost use Rattle.held.specs.Ready.{Ready};
+ghost use Rattle.problem.specs.Masks.{state_of};
 ghost use Rattle.search_order.specs.Lowest.{step_from};
 ghost use Rattle.waiting.specs.Waiting.{Waits};
 
-use bounded::{has16, has32, lowest16, lowest32, without16, without32};
+use bounded::Set;
+use held::View;
 use neighbourhood::neighbourhood_rests;
-use problem::{Next, Record, is_step};
+use problem::Record;
 use snake::snake_rests;
 use snake_substitution::{lowest_substitution, substitution_rests};
 use triangle::triangle_rests;
-use waiting::{
-    NEIGHBOURHOODS, ROWS, SNAKES, SUBSTITUTIONS, WAITING, learn, learn_triangle, pending_of,
-    pending_triangles,
-};
+use waiting::{Memory, NEIGHBOURHOODS, SNAKES, SUBSTITUTIONS};
 
-pub fn snake_variable(
-    t: &[u16],
-    active: u32,
-    on: &[u16; 32],
-    pending: &mut [u16; ROWS],
-    waiting: &mut [u16; WAITING],
-    i: usize,
-) -> Next
-    requires { Ready t.now (sets active on.now) × Waits (held t.now) (state_of (sets active on.now)) pending.old waiting.old × (i < 32) }
-    ensures is { result ≡ step_from (held t.now) (state_of (sets active on.now)) 2 i }
-    ensures waits { Waits (held t.now) (state_of (sets active on.now)) pending.new waiting.new }
+pub fn snake_variable(view: View, memory: &mut Memory, i: usize) -> Option<Record>
+    requires { Waits (held view.table.now) (state_of view.state.now) memory.old.pending memory.old.waiting × (i < 32) }
+    ensures is { result ≡ step_from (held view.entry.table.now) (state_of view.entry.state.now) 2 i }
+    ensures waits { Waits (held view.entry.table.now) (state_of view.entry.state.now) memory.new.pending memory.new.waiting }
 {
-    let mut left = pending_of(pending, SNAKES, i) & on[i];
+    let mut left = memory.pending_of(SNAKES, i) & view.state.domains[i];
     while left != 0 {
-        let v = lowest16(left);
-        let fails = snake_rests(t, active, on, i, v);
+        let v = left.lowest();
+        let fails = snake_rests(view, i, v);
         if fails == 0 {
-            return Next::Step(Record::Snake(i, v));
+            return Some(Record::Snake(i, v));
         }
-        learn(pending, waiting, fails, SNAKES, i, v);
-        left = without16(left, v);
+        memory.learn(fails, SNAKES, i, v);
+        left = left.without(v);
     }
-    Next::Nothing
+    None
 }
 
-pub fn triangle_variable(
-    t: &[u16],
-    active: u32,
-    on: &[u16; 32],
-    pending: &mut [u16; ROWS],
-    waiting: &mut [u16; WAITING],
-    i: usize,
-) -> Next
-    requires { Ready t.now (sets active on.now) × Waits (held t.now) (state_of (sets active on.now)) pending.old waiting.old × (i < 32) }
-    ensures is { result ≡ step_from (held t.now) (state_of (sets active on.now)) 3 i }
-    ensures waits { Waits (held t.now) (state_of (sets active on.now)) pending.new waiting.new }
+pub fn triangle_variable(view: View, memory: &mut Memory, i: usize) -> Option<Record>
+    requires { Waits (held view.table.now) (state_of view.state.now) memory.old.pending memory.old.waiting × (i < 32) }
+    ensures is { result ≡ step_from (held view.entry.table.now) (state_of view.entry.state.now) 3 i }
+    ensures waits { Waits (held view.entry.table.now) (state_of view.entry.state.now) memory.new.pending memory.new.waiting }
 {
-    if !has32(active, i) {
-        return Next::Nothing;
+    if !view.state.active.has(i) {
+        return None;
     }
-    let mut left = without32(active & pending_triangles(pending, i), i);
+    let mut left = (view.state.active & memory.pending_triangles(i)).without(i);
     while left != 0 {
-        let j = lowest32(left);
-        let found = triangle_rests(t, active, on, i, j);
-        if found.by == 16 {
-            return Next::Step(Record::Triangle(i, j));
+        let j = left.lowest();
+        match triangle_rests(view, i, j) {
+            None => return Some(Record::Triangle(i, j)),
+            Some(u) => memory.learn_triangle(u.rests, i, j, u.value),
         }
-        learn_triangle(pending, waiting, found.rests, i, j, found.by);
-        left = without32(left, j);
+        left = left.without(j);
     }
-    Next::Nothing
+    None
 }
 
 // The values that substitute for b are found together, and the lowest is taken.
-pub fn neighbourhood_variable(
-    t: &[u16],
-    active: u32,
-    on: &[u16; 32],
-    pending: &mut [u16; ROWS],
-    waiting: &mut [u16; WAITING],
-    i: usize,
-) -> Next
-    requires { Ready t.now (sets active on.now) × Waits (held t.now) (state_of (sets active on.now)) pending.old waiting.old × (i < 32) }
-    ensures is { result ≡ step_from (held t.now) (state_of (sets active on.now)) 4 i }
-    ensures waits { Waits (held t.now) (state_of (sets active on.now)) pending.new waiting.new }
+pub fn neighbourhood_variable(view: View, memory: &mut Memory, i: usize) -> Option<Record>
+    requires { Waits (held view.table.now) (state_of view.state.now) memory.old.pending memory.old.waiting × (i < 32) }
+    ensures is { result ≡ step_from (held view.entry.table.now) (state_of view.entry.state.now) 4 i }
+    ensures waits { Waits (held view.entry.table.now) (state_of view.entry.state.now) memory.new.pending memory.new.waiting }
 {
-    let mut left = pending_of(pending, NEIGHBOURHOODS, i) & on[i];
+    let mut left = memory.pending_of(NEIGHBOURHOODS, i) & view.state.domains[i];
     while left != 0 {
-        let b = lowest16(left);
-        let found = neighbourhood_rests(t, active, on, i, b);
+        let b = left.lowest();
+        let found = neighbourhood_rests(view, i, b);
         if found.left != 0 {
-            return Next::Step(Record::Neighbourhood(i, b, lowest16(found.left)));
+            return Some(Record::Neighbourhood(i, b, found.left.lowest()));
         }
-        learn(pending, waiting, found.rests, NEIGHBOURHOODS, i, b);
-        left = without16(left, b);
+        memory.learn(found.broken, NEIGHBOURHOODS, i, b);
+        left = left.without(b);
     }
-    Next::Nothing
+    None
 }
 
 // All values of a variable are one test.
-pub fn substitution_variable(
-    t: &[u16],
-    active: u32,
-    on: &[u16; 32],
-    pending: &mut [u16; ROWS],
-    waiting: &mut [u16; WAITING],
-    i: usize,
-) -> Next
-    requires { Ready t.now (sets active on.now) × Waits (held t.now) (state_of (sets active on.now)) pending.old waiting.old × (i < 32) }
-    ensures is { result ≡ step_from (held t.now) (state_of (sets active on.now)) 5 i }
-    ensures waits { Waits (held t.now) (state_of (sets active on.now)) pending.new waiting.new }
+pub fn substitution_variable(view: View, memory: &mut Memory, i: usize) -> Option<Record>
+    requires { Waits (held view.table.now) (state_of view.state.now) memory.old.pending memory.old.waiting × (i < 32) }
+    ensures is { result ≡ step_from (held view.entry.table.now) (state_of view.entry.state.now) 5 i }
+    ensures waits { Waits (held view.entry.table.now) (state_of view.entry.state.now) memory.new.pending memory.new.waiting }
 {
-    if !has16(pending_of(pending, SUBSTITUTIONS, i), 0) | (on[i] == 0) {
-        return Next::Nothing;
+    if !memory.pending_of(SUBSTITUTIONS, i).has(0) | (view.state.domains[i] == 0) {
+        return None;
     }
     let mut goals = [0u16; 16];
-    let rests = substitution_rests(t, active, on, &mut goals, i);
+    let rests = substitution_rests(view, &mut goals, i);
     let found = lowest_substitution(&goals, i);
-    if is_step(found) {
+    if found.is_some() {
         return found;
     }
-    learn(pending, waiting, rests, SUBSTITUTIONS, i, 0);
-    Next::Nothing
+    memory.learn(rests, SUBSTITUTIONS, i, 0);
+    None
 }

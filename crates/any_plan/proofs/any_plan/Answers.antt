@@ -3,4 +3,4 @@ use Rattle.any_plan.proofs.Branches.{none_around}
 use Rattle.any_plan.proofs.any_plan.Goals as goal
 
 pub explore-requires : goal.explore-requires
-explore-requires c = (c.requires, none_around c.args.on.now)
+explore-requires c = none_around c.args.on.now

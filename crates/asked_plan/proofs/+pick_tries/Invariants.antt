@@ -3,7 +3,7 @@ use Rattle.std.proofs.Common.{◌+◌, ◌*◌, get_or}
 use Rattle.asked_plan.proofs.+pick_tries.Given as goal
 
 abbrev pub decreases-pick : goal.decreases-pick
-decreases-pick l = l.active * 65537 + 65536
+decreases-pick l = l.m.now.active * 65537 + 65536
 
 abbrev pub decreases-tries : goal.decreases-tries
-decreases-tries l = l.active * 65537 + get_or l.on.now l.i 0
+decreases-tries l = l.m.now.active * 65537 + get_or l.m.now.domains l.i 0

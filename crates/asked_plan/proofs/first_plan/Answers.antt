@@ -1,5 +1,6 @@
 -- `asked_plan::first_plan`. Assumes nothing.
-use Rattle.asked_plan.proofs.Branches.{unsolved_first, none_active}
+use Rattle.first_plan.proofs.Branches.{unsolved_first}
+use Rattle.asked_plan.proofs.Branches.{none_active}
 use Rattle.asked_plan.proofs.first_plan.Goals as goal
 
 pub returns-then-m-eq0 : goal.returns-then-m-eq0

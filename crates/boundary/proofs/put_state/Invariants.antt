@@ -1,4 +1,4 @@
-use Prim.Native.Nat.{◌≤◌, ◌-◌}
+use Prim.Native.Nat.{◌≤◌}
 use mathlib.Core.Path.{◌≡◌}
 use lib.ListN.{length, take}
 use Rattle.buffers.specs.Bytes.{words_bytes}
@@ -7,6 +7,3 @@ use Rattle.boundary.proofs.put_state.Given as goal
 
 abbrev pub invariant-loop-i : goal.invariant-loop-i
 invariant-loop-i l = (l.i ≤ 32) × (length l.b ≡ 68) × (l.b ≡ written l.initial.b 4 (words_bytes (take l.i l.m.domains)))
-
-abbrev pub decreases-loop-i : goal.decreases-loop-i
-decreases-loop-i l = 32 - l.i

@@ -4,7 +4,6 @@ use mathlib.Core.List.{List}
 use Prim.Native.Nat.{ℕ, ◌-◌, ◌^◌}
 use native.Mathlib.Omega.{arith}
 use lib.ListN.{set, length-replicate}
-use borrow.Author.Rules.{rules}
 use Rattle.bounded.specs.Mask.{without}
 use Rattle.bounded.proofs.Table.{filled_none, filled_more, filled_end}
 use Rattle.colour.specs.Parts.{edge_rows}
@@ -14,41 +13,17 @@ pub loop-a-preserved : goal.loop-a-preserved
 loop-a-preserved c =
     let l = c.loop-a in
     let k = c.args.k in
-    let p = c.below16-all.ensures in (
+    let p = c.below-all.ensures in (
       omega arith,
       l.invariant.1,
-      ap (λ (v : ℕ). set l.rows l.a v) (c.without16.ensures ∙ ap (λ (y : ℕ). without 16 y l.a) p)
+      ap (λ (v : ℕ). set l.rows l.a v) (c.without.ensures ∙ ap (λ (y : ℕ). without 16 y l.a) p)
           ∙ ap (λ (x : List ℕ). set x l.a (without 16 (2 ^ k - 1) l.a)) l.invariant.2
           ∙ filled_more l.a _ _ (omega arith),
     )
 
-pub below16-all-requires : goal.below16-all-requires
-unfolding edge_rows
-below16-all-requires c = search rules
-
 pub loop-a-init : goal.loop-a-init
 unfolding edge_rows
 loop-a-init c = (omega arith, length-replicate {A = ℕ} 16 0, sym (filled_none _ _))
-
-pub without16-requires : goal.without16-requires
-unfolding edge_rows
-without16-requires c = search rules
-
-pub offset_bounds-rows-a : goal.offset_bounds-rows-a
-unfolding edge_rows
-offset_bounds-rows-a c = search rules
-
-pub bounds-rows-a : goal.bounds-rows-a
-unfolding edge_rows
-bounds-rows-a c = search rules
-
-pub overflow_add-a : goal.overflow_add-a
-unfolding edge_rows
-overflow_add-a c = search rules
-
-pub loop-a-smaller : goal.loop-a-smaller
-unfolding edge_rows
-loop-a-smaller c = omega arith
 
 pub returns : goal.returns
 unfolding edge_rows

@@ -7,6 +7,3 @@ use Rattle.colour.proofs.edge_rows.Given as goal
 
 abbrev pub invariant-loop-a : goal.invariant-loop-a
 invariant-loop-a l = (l.a ≤ 16) × (length l.initial.rows ≡ 16) × (l.rows ≡ filled l.a (λ (b : ℕ). without 16 (2 ^ l.k - 1) b) l.initial.rows)
-
-abbrev pub decreases-loop-a : goal.decreases-loop-a
-decreases-loop-a l = 16 - l.a

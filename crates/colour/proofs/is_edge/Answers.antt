@@ -13,4 +13,4 @@ unfolding block_here
 returns c =
     let a = c.args in
     let e : 32 * (a.x / 32) + a.x % 32 ≡ a.x = omega arith in
-    ap (λ (y : ℕ). ltb (a.x / 32) (a.x % 32) && (ltb (a.x % 32) a.n && eqb (get_or a.near.now y 0) 1)) (sym e)
+    ap (λ (y : ℕ). ltb (a.x / 32) (a.x % 32) && (ltb (a.x % 32) a.g.now.vertices && eqb (get_or a.g.now.near.now y 0) 1)) (sym e)

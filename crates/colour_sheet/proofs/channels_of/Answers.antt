@@ -6,8 +6,8 @@ use Rattle.colour_sheet.proofs.channels_of.Goals as goal
 pub returns-then-n-gt9 : goal.returns-then-n-gt9
 returns-then-n-gt9 c = sym (none_long c.args.word.now c.if-n-gt9.true)
 
-pub returns-in-NoNumber : goal.returns-in-NoNumber
-returns-in-NoNumber c = sym (none_read c.args.word.now c.in-NoNumber.ensures)
+pub returns-in-None : goal.returns-in-None
+returns-in-None c = sym (none_read c.args.word.now c.in-None.ensures)
 
-pub returns-in-Number : goal.returns-in-Number
-returns-in-Number c = c.whole.ensures ∙ one_read c.args.word.now _ _ c.in-Number.ensures
+pub returns-in-Some : goal.returns-in-Some
+returns-in-Some c = c.whole.ensures ∙ one_read c.args.word.now _ _ c.in-Some.ensures

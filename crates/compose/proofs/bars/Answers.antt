@@ -8,7 +8,6 @@ use Rattle.problem.proofs.HeldTable.{held_few, held_narrow}
 use Rattle.compose.specs.Compose.{row_bars, pair_bars}
 use Rattle.compose.proofs.Rows.{row_free, row_bars_lem}
 use Rattle.compose.proofs.Writing.{full_is}
-use borrow.Author.Rules.{rules}
 use Rattle.compose.proofs.bars.Goals as goal
 
 pub size-z-requires : goal.size-z-requires
@@ -17,17 +16,11 @@ size-z-requires c = let p = c.requires in let few = held_few c.args.t.now in (p.
 pub size-requires : goal.size-requires
 size-requires c = let p = c.requires in let few = held_few c.args.t.now in (p.table, omega arith)
 
-pub below32-full-requires : goal.below32-full-requires
-below32-full-requires c = let e = c.size.ensures in let l = held_narrow c.requires.table c.args.j in omega arith
-
-pub overflow_cast-full : goal.overflow_cast-full
-overflow_cast-full c = search rules
+pub below-full-requires : goal.below-full-requires
+below-full-requires c = let e = c.size.ensures in let l = held_narrow c.requires.table c.args.j in omega arith
 
 pub loop-a-init : goal.loop-a-init
 loop-a-init c = (omega arith, any_none _)
-
-pub row_number-requires : goal.row_number-requires
-row_number-requires c = let e = c.size-z.ensures in (c.requires, omega arith)
 
 pub returns-then-row_number-full : goal.returns-then-row_number-full
 unfolding pair_bars
@@ -36,8 +29,8 @@ returns-then-row_number-full c =
     let P = held a.t.now in
     let l = c.loop-a in
     let r = c.row_number.ensures.is in
-    let f = full_is _ _ _ c.below32-full.ensures c.size.ensures in
-    let n : c.row_number.result ≡ c.below32-full.result → ⊥ = c.if-row_number-full.true in
+    let f = full_is _ _ _ c.below-full.ensures c.size.ensures in
+    let n : c.row_number.result ≡ c.below-full.result → ⊥ = c.if-row_number-full.true in
     let e = c.size-z.ensures in
     let k : l.a < P.size a.i = omega arith in
     sym (any_hit (row_bars P a.i a.j) _ l.a k (row_bars_lem P a.i a.j l.a (λ q. n (omega arith))))
@@ -47,7 +40,7 @@ loop-a-preserved c =
     let a = c.args in
     let l = c.loop-a in
     let r = c.row_number.ensures.is in
-    let f = full_is _ _ _ c.below32-full.ensures c.size.ensures in
+    let f = full_is _ _ _ c.below-full.ensures c.size.ensures in
     (omega arith, any_more (row_bars (held a.t.now) a.i a.j) l.a l.invariant.1 (row_free (held a.t.now) a.i a.j l.a (omega arith)))
 
 pub returns : goal.returns

@@ -16,11 +16,8 @@ use Rattle.compose.proofs.mark_blocks.Goals as goal
 pub loop-x-init : goal.loop-x-init
 loop-x-init c = (omega arith, (c.requires.1.1, (sym (filled_none _ _), omega arith)))
 
-pub overflow_mul-n : goal.overflow_mul-n
-overflow_mul-n c = let few = held_few c.args.t.now in let e = c.requires.1.0 in omega arith
-
-pub mark-m-requires : goal.mark-m-requires
-mark-m-requires c = (c.requires.0, c.requires.1.0)
+pub overflow_mul-x-end : goal.overflow_mul-x-end
+overflow_mul-x-end c = let few = held_few c.args.t.now in let e = c.requires.1.0 in omega arith
 
 pub bounds-marks-x : goal.bounds-marks-x
 bounds-marks-x c = let few = held_few c.args.t.now in let e = c.requires.1.0 in let l = c.loop-x.invariant.1.0 in omega arith
@@ -37,9 +34,6 @@ overflow_add-blocks c =
     let f = l.invariant.1.1.1 in
     let k = count_few P 1024 0 in
     omega arith
-
-pub overflow_add-x : goal.overflow_add-x
-overflow_add-x c = let few = held_few c.args.t.now in let e = c.requires.1.0 in omega arith
 
 pub loop-x-preserved : goal.loop-x-preserved
 loop-x-preserved c =
@@ -63,9 +57,6 @@ loop-x-preserved c =
         ),
       ),
     )
-
-pub shape_of-marks : goal.shape_of-marks
-shape_of-marks c = c.loop-x.invariant.1.0 ∙ sym c.requires.1.1
 
 pub returns : goal.returns
 returns c =

@@ -9,6 +9,3 @@ use Rattle.compose.proofs.mark_blocks.Given as goal
 
 abbrev pub invariant-loop-x : goal.invariant-loop-x
 invariant-loop-x l = (l.x ≤ 32 * l.n) × ((length l.marks ≡ 1024) × ((l.marks ≡ filled l.x (mark_of (held l.t)) l.initial.marks) × (l.blocks + block_count (held l.t) (1024 - l.x) l.x ≡ block_count (held l.t) 1024 0)))
-
-abbrev pub decreases-loop-x : goal.decreases-loop-x
-decreases-loop-x l = 32 * l.n - l.x

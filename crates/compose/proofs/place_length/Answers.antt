@@ -13,28 +13,22 @@ use Rattle.compose.proofs.Writing.{place_hit, place_miss, marked_not, marked_tru
 use Rattle.compose.proofs.place_length.Goals as goal
 use Rattle.compose.proofs.place_length.Goals.{After-row_width}
 
-pub bounds-marks-x : goal.bounds-marks-x
-bounds-marks-x c = let few = held_few c.args.t.now in let l = c.requires.0.long in omega arith
+pub bounds-d-x : goal.bounds-d-x
+bounds-d-x c = let few = held_few c.args.d.now.t.now in let l = c.args.d.now.marked.long in omega arith
 
-pub returns-then-marks-x-eq0 : goal.returns-then-marks-x-eq0
-returns-then-marks-x-eq0 c =
+pub returns-then-d-x-eq0 : goal.returns-then-d-x-eq0
+returns-then-d-x-eq0 c =
     let a = c.args in
     let p = c.requires in
-    let P = held a.t.now in
-    sym (ap length (place_miss layout a.v P a.x (marked_not (has_block P a.x) (sym (p.0.says a.x p.1) ∙ c.if-marks-x-eq0.true))))
-
-pub size-requires : goal.size-requires
-size-requires c = let p = c.requires in let few = held_few c.args.t.now in (p.0.table, omega arith)
-
-pub size-requires-2 : goal.size-requires-2
-size-requires-2 c = let p = c.requires in (p.0.table, omega arith)
+    let P = held a.d.now.t.now in
+    sym (ap length (place_miss layout a.d.now.v P a.x (marked_not (has_block P a.x) (sym (a.d.now.marked.says a.x p) ∙ c.if-d-x-eq0.true))))
 
 -- the rows are few
 few_rows : (c : After-row_width) → c.size.result * c.row_width.result ≤ 32
 few_rows c =
     let a = c.args in
     let e = c.size.ensures in
-    let l = held_narrow c.requires.0.table (a.x / 32) in
+    let l = held_narrow c.args.d.now.marked.table (a.x / 32) in
     rows_small c.size.result c.row_width.result (omega arith) c.row_width.ensures.few
 
 pub overflow_mul-result : goal.overflow_mul-result
@@ -47,9 +41,9 @@ pub returns : goal.returns
 returns c =
     let a = c.args in
     let p = c.requires in
-    let P = held a.t.now in
-    let W = layout.width a.v (P.size (a.x % 32)) in
+    let P = held a.d.now.t.now in
+    let W = layout.width a.d.now.v (P.size (a.x % 32)) in
     let e : c.size.result * c.row_width.result ≡ P.size (a.x / 32) * W =
-    ap (λ (y : ℕ). y * c.row_width.result) c.size.ensures ∙ ap (λ (y : ℕ). P.size (a.x / 32) * y) (c.row_width.ensures.is ∙ ap (layout.width a.v) c.size-2.ensures) in
+    ap (λ (y : ℕ). y * c.row_width.result) c.size.ensures ∙ ap (λ (y : ℕ). P.size (a.x / 32) * y) (c.row_width.ensures.is ∙ ap (layout.width a.d.now.v) c.size-2.ensures) in
     ap (λ (y : ℕ). 2 + y) e
-    ∙ sym (ap length (place_hit layout a.v P a.x (marked_true (has_block P a.x) (λ q. c.if-marks-x-eq0.false (p.0.says a.x p.1 ∙ q)))) ∙ length_block layout a.v P (a.x / 32) (a.x % 32))
+    ∙ sym (ap length (place_hit layout a.d.now.v P a.x (marked_true (has_block P a.x) (λ q. c.if-d-x-eq0.false (a.d.now.marked.says a.x p ∙ q)))) ∙ length_block layout a.d.now.v P (a.x / 32) (a.x % 32))

@@ -8,7 +8,7 @@ use Rattle.problem.specs.Held.{held}
 use Rattle.problem.proofs.HeldTable.{held_few}
 use Rattle.sheet.specs.Sheet.{layout}
 use Rattle.compose.specs.Compose.{rows_bytes, block_bytes}
-use Rattle.compose.proofs.Writing.{block_parts, pair_put, wrote_both, wrote_same}
+use Rattle.compose.proofs.Writing.{block_parts, pair_put, wrote_both}
 use Rattle.compose.proofs.put_block.Goals as goal
 
 -- room for the items and the rows
@@ -30,9 +30,6 @@ bounds-out-at-2 c = let h = room _ _ _ _ _ _ c.requires.1.1 in simp length-set (
 
 pub put_rows-requires : goal.put_rows-requires
 put_rows-requires c = let h = room _ _ _ _ _ _ c.requires.1.1 in (c.requires.0, (c.requires.1.0, simp length-set (omega arith)))
-
-pub shape_of-out : goal.shape_of-out
-shape_of-out c = let h = room _ _ _ _ _ _ c.requires.1.1 in wrote_same c.args.out.now c.put_rows.ensures (simp length-set (omega arith)) (simp length-set)
 
 pub returns : goal.returns
 unfolding block_bytes

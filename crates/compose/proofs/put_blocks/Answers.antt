@@ -7,49 +7,39 @@ use Rattle.problem.proofs.HeldTable.{held_few}
 use Rattle.sheet.specs.Sheet.{layout}
 use Rattle.compose.specs.Compose.{place_bytes, blocks_bytes}
 use Rattle.compose.specs.Parts.{Underway}
-use Rattle.compose.proofs.Writing.{starts, writes, part_room, ends, blocks_step, blocks_beyond}
+use Rattle.compose.proofs.Writing.{writes, part_room, ends, blocks_step, blocks_beyond}
 use Rattle.compose.proofs.put_blocks.Goals as goal
 use Rattle.compose.proofs.put_blocks.Goals.{In-loop-x}
 
-pub loop-x-init : goal.loop-x-init
-loop-x-init c = (omega arith, starts _ _ _ c.requires.1.1.1)
-
-pub overflow_mul-n : goal.overflow_mul-n
-overflow_mul-n c = let few = held_few c.args.t.now in let e = c.requires.1.0 in omega arith
+pub overflow_mul-x-end : goal.overflow_mul-x-end
+overflow_mul-x-end c = let few = held_few c.args.d.now.t.now in let e = c.args.d.now.items in omega arith
 
 -- the block of place x is the next part
-next : (c : In-loop-x) → let a = c.args in let l = c.loop-x in let P = held a.t.now in
-    Underway a.out.now (8 + a.n) (blocks_bytes layout a.v P 1024 0) l.out l.p (place_bytes layout a.v P l.x ++ blocks_bytes layout a.v P (1024 - (l.x + 1)) (l.x + 1))
+next : (c : In-loop-x) → let a = c.args in let l = c.loop-x in let P = held a.d.now.t.now in
+    Underway a.out.now (8 + a.d.now.n) (blocks_bytes layout a.d.now.v P 1024 0) l.out l.p (place_bytes layout a.d.now.v P l.x ++ blocks_bytes layout a.d.now.v P (1024 - (l.x + 1)) (l.x + 1))
 next c =
     let a = c.args in
     let l = c.loop-x in
-    let few = held_few a.t.now in
-    let e = c.requires.1.0 in
-    rw (blocks_step layout a.v (held a.t.now) l.x (omega arith)) at l.invariant.1
+    let few = held_few a.d.now.t.now in
+    let e = c.args.d.now.items in
+    rw (blocks_step layout a.d.now.v (held a.d.now.t.now) l.x (omega arith)) at l.invariant.1
 
 pub put_place-p-requires : goal.put_place-p-requires
 put_place-p-requires c =
     let a = c.args in
-    let p = c.requires in
-    let e = p.1.0 in
-    (p.0, (omega arith, (p.1.1.0, part_room _ _ _ _ _ (place_bytes layout a.v (held a.t.now) c.loop-x.x) _ (next (goal.at.put_place-p-requires c).In-loop-x))))
-
-pub overflow_add-x : goal.overflow_add-x
-overflow_add-x c = let few = held_few c.args.t.now in let e = c.requires.1.0 in omega arith
+    let e = a.d.now.items in
+    (omega arith, part_room _ _ _ _ _ (place_bytes layout a.d.now.v (held a.d.now.t.now) c.loop-x.x) _ (next (goal.at.put_place-p-requires c).In-loop-x))
 
 pub loop-x-preserved : goal.loop-x-preserved
 loop-x-preserved c =
     let a = c.args in
-    (omega arith, writes _ _ _ _ _ (place_bytes layout a.v (held a.t.now) c.loop-x.x) _ _ _ (next (goal.at.loop-x-preserved c).In-loop-x) c.put_place-p.ensures)
-
-pub shape_of-out : goal.shape_of-out
-shape_of-out c = c.loop-x.invariant.1.same
+    (omega arith, writes _ _ _ _ _ (place_bytes layout a.d.now.v (held a.d.now.t.now) c.loop-x.x) _ _ _ (next (goal.at.loop-x-preserved c).In-loop-x) c.put_place-p.ensures)
 
 pub returns : goal.returns
 returns c =
     let a = c.args in
-    let P = held a.t.now in
-    let e = c.requires.1.0 in
+    let P = held a.d.now.t.now in
+    let e = c.args.d.now.items in
     let l = c.loop-x in
-    let o = ends _ _ _ _ _ (rw (blocks_beyond layout a.v P (1024 - l.x) l.x (omega arith)) at l.invariant.1) in
+    let o = ends _ _ _ _ _ (rw (blocks_beyond layout a.d.now.v P (1024 - l.x) l.x (omega arith)) at l.invariant.1) in
     o.is

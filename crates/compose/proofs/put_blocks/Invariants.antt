@@ -6,7 +6,4 @@ use Rattle.compose.specs.Parts.{Underway}
 use Rattle.compose.proofs.put_blocks.Given as goal
 
 abbrev pub invariant-loop-x : goal.invariant-loop-x
-invariant-loop-x l = (l.x ≤ 32 * l.n) × Underway l.initial.out (8 + l.n) (blocks_bytes layout l.v (held l.t) 1024 0) l.out l.p (blocks_bytes layout l.v (held l.t) (1024 - l.x) l.x)
-
-abbrev pub decreases-loop-x : goal.decreases-loop-x
-decreases-loop-x l = 32 * l.n - l.x
+invariant-loop-x l = (l.x ≤ 32 * l.d.n) × Underway l.initial.out (8 + l.d.n) (blocks_bytes layout l.d.v (held l.d.t.now) 1024 0) l.out l.p (blocks_bytes layout l.d.v (held l.d.t.now) (1024 - l.x) l.x)

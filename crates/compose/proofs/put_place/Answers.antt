@@ -10,29 +10,29 @@ use Rattle.compose.proofs.Rows.{has_block_lem}
 use Rattle.compose.proofs.Writing.{place_hit, place_miss, marked_not, marked_true, bytes_wrote_none}
 use Rattle.compose.proofs.put_place.Goals as goal
 
-pub bounds-marks-x : goal.bounds-marks-x
-bounds-marks-x c = let few = held_few c.args.t.now in let l = c.requires.0.long in omega arith
+pub bounds-d-x : goal.bounds-d-x
+bounds-d-x c = let few = held_few c.args.d.now.t.now in let l = c.args.d.now.marked.long in omega arith
 
-pub returns-then-marks-x-eq0 : goal.returns-then-marks-x-eq0
-returns-then-marks-x-eq0 c =
+pub returns-then-d-x-eq0 : goal.returns-then-d-x-eq0
+returns-then-d-x-eq0 c =
     let a = c.args in
     let p = c.requires in
-    let P = held a.t.now in
-    rw (place_miss layout a.v P a.x (marked_not (has_block P a.x) (sym (p.0.says a.x p.1.0) ∙ c.if-marks-x-eq0.true))) (bytes_wrote_none _ _)
+    let P = held a.d.now.t.now in
+    rw (place_miss layout a.d.now.v P a.x (marked_not (has_block P a.x) (sym (a.d.now.marked.says a.x p.0) ∙ c.if-d-x-eq0.true))) (bytes_wrote_none _ _)
 
 pub put_block-requires : goal.put_block-requires
 put_block-requires c =
     let a = c.args in
     let p = c.requires in
-    let P = held a.t.now in
-    let e : has_block P a.x ≡ true = marked_true (has_block P a.x) (λ q. c.if-marks-x-eq0.false (p.0.says a.x p.1.0 ∙ q)) in
+    let P = held a.d.now.t.now in
+    let e : has_block P a.x ≡ true = marked_true (has_block P a.x) (λ q. c.if-d-x-eq0.false (a.d.now.marked.says a.x p.0 ∙ q)) in
     let b = has_block_lem P a.x e in
-    (record { table = p.0.table; rises = b.rises; ends = b.ends }, (p.1.1.0, rw (place_hit layout a.v P a.x e) at p.1.1.1))
+    (record { table = a.d.now.marked.table; rises = b.rises; ends = b.ends }, (a.d.now.version, rw (place_hit layout a.d.now.v P a.x e) at p.1))
 
 pub returns : goal.returns
 returns c =
     let a = c.args in
     let p = c.requires in
-    let P = held a.t.now in
-    let e : has_block P a.x ≡ true = marked_true (has_block P a.x) (λ q. c.if-marks-x-eq0.false (p.0.says a.x p.1.0 ∙ q)) in
-    rw (place_hit layout a.v P a.x e) c.put_block.ensures
+    let P = held a.d.now.t.now in
+    let e : has_block P a.x ≡ true = marked_true (has_block P a.x) (λ q. c.if-d-x-eq0.false (a.d.now.marked.says a.x p.0 ∙ q)) in
+    rw (place_hit layout a.d.now.v P a.x e) c.put_block.ensures

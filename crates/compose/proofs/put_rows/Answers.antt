@@ -12,7 +12,7 @@ use Rattle.compose.specs.Compose.{row_number, rows_bytes}
 use Rattle.compose.specs.Parts.{Underway}
 use Rattle.buffers.proofs.Stands.{length_number}
 use Rattle.compose.proofs.Blocks.{layout_roomy}
-use Rattle.compose.proofs.Writing.{starts, writes, part_room, ends, wrote_number, rows_step, rows_none}
+use Rattle.compose.proofs.Writing.{writes, part_room, ends, wrote_number, rows_step, rows_none}
 use Rattle.compose.proofs.put_rows.Goals as goal
 use Rattle.compose.proofs.put_rows.Goals.{In-loop-a}
 
@@ -21,16 +21,6 @@ size-z-requires c = let p = c.requires.0 in let few = held_few c.args.t.now in (
 
 pub size-requires : goal.size-requires
 size-requires c = let p = c.requires.0 in let few = held_few c.args.t.now in (p.table, omega arith)
-
-pub loop-a-init : goal.loop-a-init
-loop-a-init c =
-    let a = c.args in
-    let S = (held a.t.now).size a.i in
-    let z : S - 0 ≡ S = omega arith in
-    (omega arith, rw z (starts _ _ _ c.requires.1.1))
-
-pub row_number-x-requires : goal.row_number-x-requires
-row_number-x-requires c = let e = c.size-z.ensures in (c.requires.0, omega arith)
 
 -- the bytes of a row
 abbrev width_of : (c : In-loop-a) → ℕ
@@ -69,21 +59,12 @@ put_row-requires c =
     let g = ap (λ (y : ℕ). 256 ^ y) (width_is (goal.at.put_row-requires c).In-loop-a) in
     (w.some, (w.few, (omega arith, omega arith)))
 
-pub overflow_add-p : goal.overflow_add-p
-overflow_add-p c = let m = room (goal.at.overflow_add-p c).In-loop-a in let w = c.row_width-w.ensures.few in omega arith
-
-pub loop-a-smaller : goal.loop-a-smaller
-loop-a-smaller c = let e = c.size-z.ensures in omega arith
-
 pub loop-a-preserved : goal.loop-a-preserved
 loop-a-preserved c =
     let a = c.args in
     let e = c.size-z.ensures in
     let o = wrote_number _ _ _ c.row_width-w.result (width_of (goal.at.loop-a-preserved c).In-loop-a) c.row_number-x.result (row_number (held a.t.now) a.i a.j c.loop-a.a) (width_is (goal.at.loop-a-preserved c).In-loop-a) c.row_number-x.ensures.is c.put_row.ensures in
     (omega arith, writes _ _ _ _ _ (number_bytes (width_of (goal.at.loop-a-preserved c).In-loop-a) (row_number (held a.t.now) a.i a.j c.loop-a.a)) _ _ _ (next (goal.at.loop-a-preserved c).In-loop-a) o)
-
-pub shape_of-out : goal.shape_of-out
-shape_of-out c = c.loop-a.invariant.1.same
 
 pub returns : goal.returns
 returns c =

@@ -7,6 +7,3 @@ use Rattle.compose.proofs.put_rows.Given as goal
 
 abbrev pub invariant-loop-a : goal.invariant-loop-a
 invariant-loop-a l = (l.a ≤ (held l.t).size l.i) × Underway l.initial.out l.at (rows_bytes layout l.v (held l.t) l.i l.j ((held l.t).size l.i) 0) l.out l.p (rows_bytes layout l.v (held l.t) l.i l.j ((held l.t).size l.i - l.a) l.a)
-
-abbrev pub decreases-loop-a : goal.decreases-loop-a
-decreases-loop-a l = (held l.t).size l.i - l.a

@@ -15,31 +15,25 @@ pub put_front-requires : goal.put_front-requires
 put_front-requires c =
     let a = c.args in
     let p = c.requires in
-    let P = held a.t.now in
-    let few = held_few a.t.now in
-    let en = p.1.0 in
-    let em = p.1.1.0 in
-    let el = p.1.1.1.0 in
-    let h = p.1.1.1.1.1 in
+    let d = c.args.d.now in
+    let P = held a.d.now.t.now in
+    let few = held_few a.d.now.t.now in
+    let en = d.items in
+    let em = d.counted in
+    let el = p.0 in
+    let h = p.1 in
     let m = count_few P 1024 0 in
-    let b = blocks_short layout a.v P layout_roomy (held_bounded p.0.table) 1024 0 in
-    (omega arith, (version_byte a.v p.1.1.1.1.0.taken, (omega arith, (omega arith, omega arith))))
-
-pub put_blocks-requires : goal.put_blocks-requires
-put_blocks-requires c =
-    let p = c.requires in
-    let en = p.1.0 in
-    let el = p.1.1.1.0 in
-    let h = p.1.1.1.1.1 in
-    (p.0, (en, (p.1.1.1.1.0, omega arith)))
+    let b = blocks_short layout a.d.now.v P layout_roomy (held_bounded d.marked.table) 1024 0 in
+    (omega arith, (version_byte a.d.now.v d.version.taken, (omega arith, (omega arith, omega arith))))
 
 pub returns : goal.returns
 returns c =
     let a = c.args in
     let p = c.requires in
-    let P = held a.t.now in
-    let el = p.1.1.1.0 in
-    let k = p.1.1.1.1.1 in
-    let h : sheet_length layout a.v P ≤ length a.out.now = omega arith in
-    sheet_written layout a.v P a.out.now a.len a.n a.blocks _ _ _ h el p.1.0 p.1.1.0
+    let d = c.args.d.now in
+    let P = held a.d.now.t.now in
+    let el = p.0 in
+    let k = p.1 in
+    let h : sheet_length layout a.d.now.v P ≤ length a.out.now = omega arith in
+    sheet_written layout a.d.now.v P a.out.now a.len a.d.now.n a.d.now.blocks _ _ _ h el d.items d.counted
     c.put_front.ensures c.put_sizes.ensures c.put_blocks.ensures

@@ -1,13 +1,11 @@
 -- `compose::put_sizes`: the sizes so far are written. Assumes nothing.
-use mathlib.Core.Path.{◌≡◌, refl, sym, ap, ◌∙◌}
+use mathlib.Core.Path.{refl, sym, ap, ◌∙◌}
 use mathlib.Core.List.{List}
 use Prim.Native.Nat.{ℕ, ◌+◌, ◌<◌}
 use native.Mathlib.Omega.{arith}
 use lib.ListN.{length, set, length-set}
-use Rattle.bounded.specs.Table.{tab}
 use Rattle.problem.specs.Held.{held}
 use Rattle.problem.proofs.HeldTable.{held_few, held_narrow}
-use Rattle.buffers.specs.Written.{written}
 use Rattle.buffers.proofs.Written.{tab_none, tab_next}
 use Rattle.compose.proofs.put_sizes.Goals as goal
 
@@ -33,13 +31,3 @@ loop-i-preserved c =
         ap (λ (x : ℕ). set l.out (8 + l.i) x) c.size.ensures ∙ ap (λ (d : List ℕ). set d (8 + l.i) (f l.i)) l.invariant.1.1 ∙ tab_next b 8 f l.i h,
       ),
     )
-
-pub shape_of-out : goal.shape_of-out
-shape_of-out c = c.loop-i.invariant.1.0
-
-pub returns : goal.returns
-returns c =
-    let l = c.loop-i in
-    let a = c.args in
-    let e : l.i ≡ a.n = omega arith in
-    l.invariant.1.1 ∙ ap (λ (k : ℕ). written a.out.now 8 (tab k (held a.t.now).size)) e

@@ -6,9 +6,14 @@ use Rattle.compose.proofs.Writing.{marked}
 use borrow.Author.Rules.{rules}
 use Rattle.compose.proofs.write_sheet.Goals as goal
 
-pub write_marked-requires : goal.write_marked-requires
-write_marked-requires c =
+pub invariant_of-d : goal.invariant_of-d
+invariant_of-d c =
     let few = held_few c.args.t.now in
     let en = c.variables-n.ensures in
     let k : c.variables-n.result ≤ 32 = omega arith in
-    (marked c.requires.0 _ _ _ en k (search rules) (search rules) c.mark_blocks-blocks.ensures.0, (en, (c.mark_blocks-blocks.ensures.1, c.requires.1)))
+    record {
+      version = c.requires.1;
+      items = en;
+      counted = c.mark_blocks-blocks.ensures.1;
+      marked = marked c.requires.0 _ _ _ en k (search rules) (search rules) c.mark_blocks-blocks.ensures.0;
+    }

@@ -1,7 +1,6 @@
 -- `cover::allowed_with`: the word so far has the values passed. Assumes nothing.
-use mathlib.Core.Path.{◌≡◌, sym, ap, ◌∙◌}
+use mathlib.Core.Path.{◌≡◌, ap, ◌∙◌}
 use mathlib.Core.Bool.{cond}
-use mathlib.Core.Logic.{◌≢◌}
 use Prim.Native.Nat.{ℕ, ◌+◌, ◌^◌}
 use native.Mathlib.Omega.{arith}
 use lib.Bits.{bit_and}
@@ -26,12 +25,6 @@ returns c =
     let w = c.loop-u in
     let e : w.u ≡ 16 = omega arith in
     allowed_met p.0 _ _ _ p.2 p.5 _ w.word w.u p.1 e w.invariant.1
-
-pub rows_at-at-requires : goal.rows_at-at-requires
-rows_at-at-requires c = let p = c.requires in let a = c.args in let d : a.i ≢ a.l = λ e. p.5 (sym e) in search rules
-
-pub one_of-one-requires : goal.one_of-one-requires
-one_of-one-requires c = c.requires.0.located
 
 pub loop-u-init : goal.loop-u-init
 loop-u-init c = (search rules, mask_none _)

@@ -3,11 +3,8 @@ use mathlib.Core.Path.{◌∙◌}
 use Rattle.cover.proofs.Laws.{part_out, near_break}
 use Rattle.cover.proofs.first_break.Goals as goal
 
-pub neighbours-requires : goal.neighbours-requires
-neighbours-requires c = let p = c.requires in (p.0.table, p.1.variable)
-
 pub break_in-requires : goal.break_in-requires
-break_in-requires c = let p = c.requires in let a = c.args in (p.0, p.1, p.2, part_out a.rest _ a.i p.3, part_out a.rest _ a.j p.4)
+break_in-requires c = let p = c.requires in let a = c.args in (p.0, p.1, part_out a.rest _ a.i p.2, part_out a.rest _ a.j p.3)
 
 pub returns : goal.returns
-returns c = let p = c.requires in c.break_in.ensures ∙ near_break p.0 _ _ _ _ _ _ p.1 c.neighbours.ensures p.3
+returns c = let p = c.requires in c.break_in.ensures ∙ near_break c.args.view.ready _ _ _ _ _ _ p.0 c.neighbours.ensures p.2

@@ -7,56 +7,50 @@ use Rattle.bounded.specs.Mask.{bit, without}
 use Rattle.bounded.proofs.Mask.{bit_without16}
 use Rattle.bounded.proofs.Members.{sought_next, left_highest}
 use Rattle.problem.specs.Held.{held}
-use Rattle.problem.specs.Masks.{state_of, sets}
+use Rattle.problem.specs.Masks.{state_of}
 use Rattle.held.proofs.Laws.{live_value}
 use Rattle.cover.proofs.Laws.{part_out}
 use Rattle.cover.proofs.Servers.{near_servers, part_broken, asked_iff, unserved_first, served_here, unserved_here, unserved_end}
 use Rattle.cover.proofs.unserved.Goals as goal
-use Rattle.cover.proofs.unserved.Goals.{After-highest16-w}
+use Rattle.cover.proofs.unserved.Goals.{After-highest-w}
 
 -- the value of a turn: one that is to be served
-at_turn : (c : After-highest16-w) → let w = c.highest16-w.result in let left = c.loop-left.left in let a = c.args in
+at_turn : (c : After-highest-w) → let w = c.highest-w.result in let left = c.loop-left.left in let a = c.args in
     (w < 16) × (T (bit a.bad w) × (T (bit a.good w) → ⊥)) × (without 16 left w < left)
 at_turn c =
     let a = c.args in
     let S = c.loop-left.invariant in
-    let k = left_highest 16 bit_without16 S.left c.highest16-w.ensures in
-    (k.0, (asked_iff (held a.t.now) (state_of (sets a.active a.on.now)) a.rest a.good a.bad a.j (search rules) _ k.0).0 (S.left.part _ k.1), k.2)
+    let k = left_highest 16 bit_without16 S.left c.highest-w.ensures in
+    (k.0, (asked_iff (held a.view.table.now) (state_of a.view.state.now) a.rest a.good a.bad a.j (search rules) _ k.0).0 (S.left.part _ k.1), k.2)
 
 pub serving_in-found-requires : goal.serving_in-found-requires
 serving_in-found-requires c =
     let p = c.requires in
     let a = c.args in
-    let out = part_out a.rest _ a.j p.3 in
-    (p.0, p.1, live_value p.0 _ _ (p.2.live _ (at_turn (goal.at.serving_in-found-requires c).After-highest16-w).1.0), out, out, p.4)
+    let out = part_out a.rest _ a.j p.2 in
+    (p.0, live_value c.args.view.ready _ _ (p.1.live _ (at_turn (goal.at.serving_in-found-requires c).After-highest-w).1.0), out, out, p.3)
 
 pub returns-then-found-eq0 : goal.returns-then-found-eq0
 returns-then-found-eq0 c =
     let p = c.requires in
     let found = c.serving_in-found in
-    let w = at_turn (goal.at.returns-then-found-eq0 c).After-highest16-w in
-    rw c.with32.ensures (unserved_here _ _ _ _ _ _ _ _ _ w.0 p.4 w.1 c.if-found-eq0.true (part_broken c.args.rest _ found.ensures.shown))
-
-pub without16-left-requires : goal.without16-left-requires
-without16-left-requires c = (at_turn (goal.at.without16-left-requires c).After-highest16-w).0
+    let w = at_turn (goal.at.returns-then-found-eq0 c).After-highest-w in
+    rw c.with.ensures (unserved_here _ _ _ _ _ _ _ _ _ w.0 p.3 w.1 c.if-found-eq0.true (part_broken c.args.rest _ found.ensures.shown))
 
 pub loop-left-smaller : goal.loop-left-smaller
-loop-left-smaller c = rw c.without16-left.ensures (at_turn (goal.at.loop-left-smaller c).After-highest16-w).2
+loop-left-smaller c = rw c.without-left.ensures (at_turn (goal.at.loop-left-smaller c).After-highest-w).2
 
 pub loop-left-preserved : goal.loop-left-preserved
 loop-left-preserved c =
     let p = c.requires in
     let found = c.serving_in-found in
-    let near = near_servers p.0 _ _ _ _ _ _ p.1 c.neighbours.ensures p.3 in
-    rw c.without16-left.ensures
-    (sought_next 16 bit_without16 c.loop-left.invariant (at_turn (goal.at.loop-left-preserved c).After-highest16-w).0
-    (served_here _ _ _ _ _ _ p.0.fits _ (λ z. c.if-found-eq0.false (found.ensures.is ∙ near ∙ z))))
+    let near = near_servers c.args.view.ready _ _ _ _ _ _ p.0 c.neighbours.ensures p.2 in
+    rw c.without-left.ensures
+    (sought_next 16 bit_without16 c.loop-left.invariant (at_turn (goal.at.loop-left-preserved c).After-highest-w).0
+    (served_here _ _ _ _ _ _ c.args.view.ready.fits _ (λ z. c.if-found-eq0.false (found.ensures.is ∙ near ∙ z))))
 
 pub returns : goal.returns
 returns c = unserved_end _ _ _ _ _ _ _ c.loop-left-test.false c.loop-left.invariant
-
-pub neighbours-requires : goal.neighbours-requires
-neighbours-requires c = let p = c.requires in (p.0.table, p.4)
 
 pub loop-left-init : goal.loop-left-init
 loop-left-init c = unserved_first _ _ _ _ _ _ (search rules) (search rules)

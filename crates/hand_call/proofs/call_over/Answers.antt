@@ -39,8 +39,8 @@ returns-then-not-fits c =
     let e = sym c.fits.ensures ∙ c.if-not-fits.true in
     c.refused_call.ensures ∙ sym (ap (call_answer P a.st a.i) (call_misfit P (state_of a.st.masks) a.i e))
 
-pub none_empty-requires : goal.none_empty-requires
-none_empty-requires c = let at = goal.at.none_empty-requires c in ready at.Else-not-fits (proper at.Start)
+pub invariant_of-view : goal.invariant_of-view
+invariant_of-view c = let at = goal.at.invariant_of-view c in record { ready = ready at.Else-not-fits (proper at.Start) }
 
 pub call_fitting-requires : goal.call_fitting-requires
 call_fitting-requires c =

@@ -15,12 +15,6 @@ fits_at-requires c = let p = c.requires in (p.0, p.1, c.variables-n.ensures, sea
 pub returns-then-not-fits_at : goal.returns-then-not-fits_at
 returns-then-not-fits_at c = sym (sym (fits_all _ _) ∙ all_fail _ 32 _ (omega arith) (sym c.fits_at.ensures ∙ c.if-not-fits_at.true))
 
-pub overflow_add-i : goal.overflow_add-i
-overflow_add-i c = omega arith
-
-pub loop-i-smaller : goal.loop-i-smaller
-loop-i-smaller c = omega arith
-
 pub loop-i-preserved : goal.loop-i-preserved
 loop-i-preserved c = (omega arith, all_more _ _ c.loop-i.invariant.1 (sym c.fits_at.ensures ∙ c.if-not-fits_at.false))
 

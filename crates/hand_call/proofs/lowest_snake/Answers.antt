@@ -9,10 +9,10 @@ pub loop-v-init : goal.loop-v-init
 loop-v-init c = (search rules, lowest_none _)
 
 pub returns-then-snake : goal.returns-then-snake
-returns-then-snake c = sym (lowest_hit _ 16 _ (omega arith) c.loop-v.invariant.1 (sym c.snake.ensures ∙ c.if-snake.true))
+returns-then-snake c = (sym (lowest_hit _ 16 _ (omega arith) c.loop-v.invariant.1 (sym c.snake.ensures ∙ c.if-snake.true)), omega arith)
 
 pub loop-v-preserved : goal.loop-v-preserved
 loop-v-preserved c = (omega arith, lowest_more _ _ c.loop-v.invariant.1 (sym c.snake.ensures ∙ c.if-snake.false))
 
 pub returns : goal.returns
-returns c = sym (lowest_end _ 16 _ (omega arith) (omega arith) c.loop-v.invariant.1)
+returns c = (lowest_end _ 16 _ (omega arith) (omega arith) c.loop-v.invariant.1)

@@ -12,23 +12,17 @@ use Rattle.problem.proofs.HeldTable.{held_narrow, held_entry}
 use Rattle.held.proofs.Full.{full_domain, full_outside}
 use Rattle.held.proofs.full_domain.Goals as goal
 
-pub bounds-t-i : goal.bounds-t-i
-bounds-t-i c = omega (arith, c.requires.0.located.long)
-
 narrow : (t : List ℕ) → RowTable t → (i : ℕ) → i < 32 → get_or t i 0 ≤ 16
 narrow t R i l = omega (arith, held_narrow R i, held_entry t i l)
 
-pub overflow_cast-t : goal.overflow_cast-t
-overflow_cast-t c = let q = c.requires in omega (arith, narrow _ q.0 _ q.2)
-
-pub below16-requires : goal.below16-requires
-below16-requires c = let q = c.requires in narrow _ q.0 _ q.2
+pub below-requires : goal.below-requires
+below-requires c = let q = c.requires in narrow _ q.0 _ q.2
 
 pub returns-then-i-n : goal.returns-then-i-n
 returns-then-i-n c =
     let q = c.requires in
     let i = c.args.i in
-    c.below16.ensures ∙ below_mask 16 _ (narrow _ q.0 i q.2) ∙ ap (λ (z : ℕ). mask_of 16 (λ a. ltb a z)) (sym (held_entry _ i q.2)) ∙ full_domain _ i (omega (arith, q.1, c.if-i-n.true))
+    c.below.ensures ∙ below_mask 16 _ (narrow _ q.0 i q.2) ∙ ap (λ (z : ℕ). mask_of 16 (λ a. ltb a z)) (sym (held_entry _ i q.2)) ∙ full_domain _ i (omega (arith, q.1, c.if-i-n.true))
 
 pub returns-else-i-n : goal.returns-else-i-n
 returns-else-i-n c = let q = c.requires in full_outside _ c.args.i (omega (arith, q.1, c.if-i-n.false))

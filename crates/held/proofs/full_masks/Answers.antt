@@ -15,8 +15,8 @@ use Rattle.problem.proofs.HeldTable.{held_few}
 use Rattle.held.proofs.Full.{full_active}
 use Rattle.held.proofs.full_masks.Goals as goal
 
-pub below32-requires : goal.below32-requires
-below32-requires c = omega (arith, c.variables-n.ensures, held_few c.args.t.now)
+pub below-requires : goal.below-requires
+below-requires c = omega (arith, c.variables-n.ensures, held_few c.args.t.now)
 
 pub loop-i-init : goal.loop-i-init
 loop-i-init c = (search rules, refl, sym (filled_none _ _))
@@ -33,6 +33,6 @@ returns c =
     let w = c.loop-i in
     let len = ap (λ (m : Masks). length m.domains) c.empty_masks-m.ensures in
     let t = c.args.t.now in
-    let p = w.invariant.1 ∙ c.below32.ensures ∙ below_mask 32 _ (omega (arith, c.variables-n.ensures, held_few t)) ∙ ap (λ (n : ℕ). mask_of 32 (λ c. ltb c n)) c.variables-n.ensures ∙ full_active (held t) in
+    let p = w.invariant.1 ∙ c.below.ensures ∙ below_mask 32 _ (omega (arith, c.variables-n.ensures, held_few t)) ∙ ap (λ (n : ℕ). mask_of 32 (λ c. ltb c n)) c.variables-n.ensures ∙ full_active (held t) in
     let q = w.invariant.2 ∙ filled_end 32 w.i _ _ len (omega arith) (omega arith) in
     λ k. record { active = p k; domains = q k }

@@ -1,4 +1,4 @@
-use Prim.Native.Nat.{◌≤◌, ◌-◌}
+use Prim.Native.Nat.{◌≤◌}
 use mathlib.Core.Path.{◌≡◌}
 use Rattle.bounded.specs.Mask.{mask_of}
 use Rattle.bounded.specs.Table.{filled}
@@ -8,6 +8,3 @@ use Rattle.held.proofs.full_masks.Given as goal
 
 abbrev pub invariant-loop-i : goal.invariant-loop-i
 invariant-loop-i l = (l.i ≤ 32) × (l.m.active ≡ l.initial.m.active) × (l.m.domains ≡ filled l.i (λ k. mask_of 16 ((full (held l.t)).live k)) l.initial.m.domains)
-
-abbrev pub decreases-loop-i : goal.decreases-loop-i
-decreases-loop-i l = 32 - l.i

@@ -7,7 +7,7 @@ use Rattle.held.proofs.is_live.Goals as goal
 
 pub returns-then-v-lt16 : goal.returns-then-v-lt16
 unfolding state_of
-returns-then-v-lt16 c = c.has16.ensures
+returns-then-v-lt16 c = c.has.ensures
 
 pub returns-else-v-lt16 : goal.returns-else-v-lt16
 unfolding state_of

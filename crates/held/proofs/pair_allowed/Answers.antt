@@ -14,5 +14,5 @@ pub returns-else-j-i : goal.returns-else-j-i
 returns-else-j-i c =
     let a = c.args in
     let p = c.requires in
-    c.has16.ensures ∙ ap (λ (x : ℕ). bit (get_or a.t.now (x + a.a) 0) a.b) c.rows_at.ensures.is
+    c.has.ensures ∙ ap (λ (x : ℕ). bit (get_or a.t.now (x + a.a) 0) a.b) c.rows_at.ensures.is
     ∙ held_row_tells p.0 a.i a.a a.j p.1.listed (λ e. c.if-j-i.false (sym e)) a.b p.2.listed

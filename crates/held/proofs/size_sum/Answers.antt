@@ -25,16 +25,6 @@ offset_bounds-t-i c = let few = held_few c.args.t.now in let e = c.variables-n.e
 pub bounds-t-i : goal.bounds-t-i
 bounds-t-i c = omega (arith, c.requires.located.long, held_few c.args.t.now, c.variables-n.ensures)
 
-pub overflow_cast-sum : goal.overflow_cast-sum
-overflow_cast-sum c = let x = size_small c.requires c.loop-i.i (omega (arith, c.variables-n.ensures)) in search rules
-
-pub overflow_add-sum : goal.overflow_add-sum
-overflow_add-sum c =
-    let few = held_few c.args.t.now in
-    let e = c.variables-n.ensures in
-    let x = size_small c.requires c.loop-i.i (omega arith) in
-    search rules
-
 pub loop-i-preserved : goal.loop-i-preserved
 loop-i-preserved c =
     let l = c.loop-i in

@@ -10,9 +10,6 @@ use Rattle.held.proofs.variables.Goals as goal
 pub loop-i-init : goal.loop-i-init
 loop-i-init c = (search rules, lowest_none _)
 
-pub bounds-t-i : goal.bounds-t-i
-bounds-t-i c = omega (arith, c.requires.located.long)
-
 pub returns-then-t-i-eq0 : goal.returns-then-t-i-eq0
 returns-then-t-i-eq0 c =
     let l = c.loop-i-test.true in

@@ -1,10 +1,9 @@
 -- `most_apart::apart_pair`: the word so far has the values passed that are allowed at both. Assumes nothing.
-use mathlib.Core.Path.{◌≡◌, sym}
+use mathlib.Core.Path.{◌≡◌}
 use native.Mathlib.Omega.{arith}
-use borrow.Author.Rules.{rules}
 use borrow.Author.Tests.{eqb-true}
 use Rattle.bounded.proofs.Mask.{one_shifted}
-use Rattle.most_apart.proofs.Laws.{diagonal_none, diagonal_more, diagonal_end}
+use Rattle.most_apart.proofs.Laws.{diagonal_more, diagonal_end}
 use Rattle.most_apart.proofs.apart_pair.Goals as goal
 
 pub loop-a-preserved : goal.loop-a-preserved
@@ -19,9 +18,3 @@ returns c =
     let w = c.loop-a in
     let e : w.a ≡ 16 = omega (arith, w.invariant.0, c.loop-a-test.false) in
     record { apart = λ h. diagonal_end p.0 p.1 p.2 p.3 p.5 e w.invariant.1 (eqb-true _ 0 h) }
-
-pub rows_at-at-requires : goal.rows_at-at-requires
-rows_at-at-requires c = let p = c.requires in (p.0.located, p.3, p.4, λ e. p.5 (sym e))
-
-pub loop-a-init : goal.loop-a-init
-loop-a-init c = (search rules, diagonal_none _ _ _)

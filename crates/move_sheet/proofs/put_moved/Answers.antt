@@ -4,14 +4,14 @@ use Rattle.moved.proofs.Demands.{move_longest}
 use Rattle.move_sheet.proofs.Text.{text_sheet, text_line}
 use Rattle.move_sheet.proofs.put_moved.Goals as goal
 
-pub returns-in-Written : goal.returns-in-Written
-returns-in-Written c =
-    let r = c.move_sheet-a in
-    let e = c.in-Written.is in
+pub returns-in-Ok : goal.returns-in-Ok
+returns-in-Ok c =
+    let r = c.move_sheet in
+    let e = c.in-Ok.is in
     record { text = text_sheet _ _ r.ensures.answer _ _ e r.ensures.target; within = move_longest _ _ _ (sym r.ensures.answer ∙ e) }
 
-pub returns-in-Refused : goal.returns-in-Refused
-returns-in-Refused c =
-    let r = c.move_sheet-a in
+pub returns-in-Err : goal.returns-in-Err
+returns-in-Err c =
+    let r = c.move_sheet in
     let p = c.put_refused_line in
-    record { text = text_line _ _ r.ensures.answer _ _ _ _ _ c.in-Refused.is c.move_number.ensures p.ensures.text.0 p.ensures.text.1 (omega arith); within = omega arith }
+    record { text = text_line _ _ r.ensures.answer _ _ _ _ _ c.in-Err.is c.from.ensures p.ensures.text.0 p.ensures.text.1 (omega arith); within = omega arith }

@@ -26,9 +26,3 @@ returns c = let w = c.loop-k in let a = c.args in record { text = all_put _ _ _ 
 
 pub bounds-plan-k : goal.bounds-plan-k
 bounds-plan-k c = omega arith
-
-pub overflow_add-k : goal.overflow_add-k
-overflow_add-k c = omega arith
-
-pub loop-k-smaller : goal.loop-k-smaller
-loop-k-smaller c = omega arith

@@ -6,6 +6,3 @@ use Rattle.plan_report.proofs.put_settings.Given as goal
 
 abbrev pub invariant-loop-k : goal.invariant-loop-k
 invariant-loop-k l = Putting 6 (length l.plan) l.initial.out l.at (fields_text l.plan) l.out l.end l.k (fields_text (drop l.k l.plan))
-
-abbrev pub decreases-loop-k : goal.decreases-loop-k
-decreases-loop-k l = length l.plan - l.k

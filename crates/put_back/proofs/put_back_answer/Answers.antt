@@ -7,14 +7,14 @@ use Rattle.put_back.proofs.Call.{fields_small}
 use Rattle.put_back.proofs.put_back_answer.Goals as goal
 
 pub unlawful_fields-requires : goal.unlawful_fields-requires
-unlawful_fields-requires c = subst BackFits c.in-Refused.is c.requires
+unlawful_fields-requires c = subst BackFits c.in-Err.is c.requires
 
 pub overflow_mul-result : goal.overflow_mul-result
-overflow_mul-result c = let l = fields_small c.in-Refused.r (subst BackFits c.in-Refused.is c.requires) in let e = c.unlawful_fields.ensures in omega arith
+overflow_mul-result c = let l = fields_small c.in-Err.r (subst BackFits c.in-Err.is c.requires) in let e = c.unlawful_fields.ensures in omega arith
 
 pub overflow_add-result : goal.overflow_add-result
-overflow_add-result c = let l = fields_small c.in-Refused.r (subst BackFits c.in-Refused.is c.requires) in let e = c.unlawful_fields.ensures in omega arith
+overflow_add-result c = let l = fields_small c.in-Err.r (subst BackFits c.in-Err.is c.requires) in let e = c.unlawful_fields.ensures in omega arith
 
-pub returns-in-Refused : goal.returns-in-Refused
-returns-in-Refused c =
-    (λ i. c.put_back_number.ensures i + 256 * c.unlawful_fields.ensures i) ∙ ap back_number (sym c.in-Refused.is)
+pub returns-in-Err : goal.returns-in-Err
+returns-in-Err c =
+    (λ i. c.from.ensures i + 256 * c.unlawful_fields.ensures i) ∙ ap back_number (sym c.in-Err.is)

@@ -1,5 +1,5 @@
 use mathlib.Core.Path.{◌≡◌}
-use Prim.Native.Nat.{◌-◌, ◌≤◌}
+use Prim.Native.Nat.{◌≤◌}
 use lib.ListN.{length}
 use Rattle.bounded.specs.Table.{filled}
 use Rattle.problem.specs.PutBack.{plan_of}
@@ -7,6 +7,3 @@ use Rattle.putting_back.proofs.copy.Given as goal
 
 abbrev pub invariant-loop-i : goal.invariant-loop-i
 invariant-loop-i l = (l.i ≤ length l.plan) × (length l.out ≡ length l.initial.out) × (l.out ≡ filled l.i (plan_of l.plan) l.initial.out)
-
-abbrev pub decreases-loop-i : goal.decreases-loop-i
-decreases-loop-i l = length l.plan - l.i

@@ -8,7 +8,7 @@ pub loop-i-init : goal.loop-i-init
 loop-i-init c = (omega arith, all_none _)
 
 pub pairs_of-requires : goal.pairs_of-requires
-pairs_of-requires c = let p = c.requires in (p.0, (p.1.0, (p.1.1, c.loop-i-test.true)))
+pairs_of-requires c = let p = c.requires in (p.0, (p.1, c.loop-i-test.true))
 
 pub returns-then-not-pairs_of : goal.returns-then-not-pairs_of
 returns-then-not-pairs_of c = sym (all_fail _ _ c.loop-i.i (omega arith) (sym c.pairs_of.ensures ∙ c.if-not-pairs_of.true))

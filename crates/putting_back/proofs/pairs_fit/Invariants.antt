@@ -1,16 +1,13 @@
 use mathlib.Core.Path.{◌≡◌}
-use Prim.Native.Nat.{◌-◌, ◌≤◌}
+use Prim.Native.Nat.{◌≤◌}
 use mathlib.Core.Bool.{true}
 use lib.ListN.{length}
 use Rattle.bounded.specs.Quantifiers.{all_below}
 use Rattle.problem.specs.PutBack.{plan_of}
 use Rattle.problem.specs.Held.{held}
-use Rattle.problem.specs.Masks.{state_of, sets}
+use Rattle.problem.specs.Masks.{state_of}
 use Rattle.putting_back.specs.Plan.{pairs_of}
 use Rattle.putting_back.proofs.pairs_fit.Given as goal
 
 abbrev pub invariant-loop-i : goal.invariant-loop-i
-invariant-loop-i l = (l.i ≤ length l.plan) × (all_below l.i (pairs_of (held l.t) (state_of (sets l.active l.on)) (plan_of l.plan)) ≡ true)
-
-abbrev pub decreases-loop-i : goal.decreases-loop-i
-decreases-loop-i l = length l.plan - l.i
+invariant-loop-i l = (l.i ≤ length l.plan) × (all_below l.i (pairs_of (held l.view.table.now) (state_of l.view.state.now) (plan_of l.plan)) ≡ true)

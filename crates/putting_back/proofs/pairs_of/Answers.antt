@@ -9,7 +9,7 @@ pub loop-j-init : goal.loop-j-init
 loop-j-init c = (omega arith, all_none _)
 
 pub pair_fits-requires : goal.pair_fits-requires
-pair_fits-requires c = let p = c.requires in (p.0, (p.1.0, (p.1.1.1, c.loop-j-test.true)))
+pair_fits-requires c = let p = c.requires in (p.0, (p.1.1, c.loop-j-test.true))
 
 pub returns-then-not-pair_fits : goal.returns-then-not-pair_fits
 unfolding pairs_of

@@ -8,13 +8,13 @@ use native.Mathlib.Omega.{arith}
 use Rattle.putting_back.proofs.plan_fits.Goals as goal
 
 pub entries_fit-requires : goal.entries_fit-requires
-entries_fit-requires c = let p = c.requires in let h = held_few c.args.t.now in let e = p.1 in (p.0.proper, omega arith)
+entries_fit-requires c = let p = c.requires in let h = held_few c.args.view.table.now in let e = p in (c.args.view.ready.proper, omega arith)
 
 pub pairs_fit-requires : goal.pairs_fit-requires
-pairs_fit-requires c = let p = c.requires in let h = held_few c.args.t.now in let e = p.1 in (p.0, (record { few = omega arith; each = λ i l. T_of (all_each _ _ (sym c.entries_fit.ensures ∙ c.if-entries_fit.true) i l) }, p.1))
+pairs_fit-requires c = let p = c.requires in let h = held_few c.args.view.table.now in let e = p in (record { few = omega arith; each = λ i l. T_of (all_each _ _ (sym c.entries_fit.ensures ∙ c.if-entries_fit.true) i l) }, p)
 
 pub returns-then-entries_fit : goal.returns-then-entries_fit
-returns-then-entries_fit c = let p = c.requires in c.pairs_fit.ensures ∙ plan_pairs p.0.fits c.args.plan.now p.1 (sym c.entries_fit.ensures ∙ c.if-entries_fit.true)
+returns-then-entries_fit c = let p = c.requires in c.pairs_fit.ensures ∙ plan_pairs c.args.view.ready.fits c.args.plan.now p (sym c.entries_fit.ensures ∙ c.if-entries_fit.true)
 
 pub returns-else-entries_fit : goal.returns-else-entries_fit
-returns-else-entries_fit c = let p = c.requires in plan_entries p.0.fits c.args.plan.now p.1 (sym c.entries_fit.ensures ∙ c.if-entries_fit.false)
+returns-else-entries_fit c = let p = c.requires in plan_entries c.args.view.ready.fits c.args.plan.now p (sym c.entries_fit.ensures ∙ c.if-entries_fit.false)

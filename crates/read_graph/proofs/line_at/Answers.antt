@@ -7,12 +7,6 @@ use Rattle.read_graph.proofs.Found.{comment_here}
 use native.Mathlib.Omega.{arith}
 use Rattle.read_graph.proofs.line_at.Goals as goal
 
-pub edge_line-requires : goal.edge_line-requires
-edge_line-requires c =
-    let a = c.args in
-    let p = c.requires in
-    (p.0, sym (get_d_any a.f.now a.p 0 10 p.1) ∙ c.if-b-eq101.true)
-
 pub overflow_add-result : goal.overflow_add-result
 overflow_add-result c =
     let a = c.args in
@@ -26,9 +20,3 @@ pub returns-then-b-eq99 : goal.returns-then-b-eq99
 returns-then-b-eq99 c =
     let a = c.args in
     comment_here a.f.now a.p _ (sym (get_d_any a.f.now a.p 0 10 c.requires.1) ∙ c.if-b-eq99.true) (let e = c.line_end.ensures in omega arith)
-
-pub size_line-requires : goal.size_line-requires
-size_line-requires c =
-    let a = c.args in
-    let p = c.requires in
-    (p.0, record { comment = λ e. c.if-b-eq99.false (get_d_any a.f.now a.p 0 10 p.1 ∙ e); edge = λ e. c.if-b-eq101.false (get_d_any a.f.now a.p 0 10 p.1 ∙ e) })

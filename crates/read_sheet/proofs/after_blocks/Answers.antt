@@ -2,8 +2,7 @@
 use mathlib.Core.Path.{sym, ap, ◌∙◌}
 use Prim.Native.Nat.{ℕ}
 use native.Mathlib.Omega.{arith}
-use Rattle.sheet.specs.Sheet.{layout, variables_of}
-use Rattle.sheet.specs.declared.SheetRead.TheVariants.{Accepted}
+use Rattle.sheet.specs.Sheet.{layout, variables_of, accepted}
 use Rattle.sheet.proofs.Laws.{blocks_over, blocks_end}
 use Rattle.read_sheet.proofs.after_blocks.Goals as goal
 
@@ -20,5 +19,5 @@ pub returns : goal.returns
 returns c =
     let s = c.args.s.now in
     λ least.
-    ap (λ (x : ℕ). Accepted x c.word.result) c.byte.ensures.is ∙ ap (Accepted (variables_of s)) c.word.ensures.is
+    ap (λ (x : ℕ). accepted x c.word.result) c.byte.ensures.is ∙ ap (accepted (variables_of s)) c.word.ensures.is
     ∙ sym (blocks_end layout s least c.args.p c.if-p-s.false)

@@ -21,6 +21,3 @@ returns c = let l = c.loop-a in sym (all_end _ _ l.a (omega arith) l.invariant.1
 
 pub loop-a-init : goal.loop-a-init
 loop-a-init c = (omega arith, all_none _)
-
-pub loop-a-smaller : goal.loop-a-smaller
-loop-a-smaller c = omega arith

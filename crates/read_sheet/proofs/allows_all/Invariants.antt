@@ -8,6 +8,3 @@ use Rattle.read_sheet.proofs.allows_all.Given as goal
 
 abbrev pub invariant-loop-a : goal.invariant-loop-a
 invariant-loop-a l = (l.a ≤ l.k) × (all_below l.a (λ (n : ℕ). eqb (get_or l.x n 0) l.full) ≡ true)
-
-abbrev pub decreases-loop-a : goal.decreases-loop-a
-decreases-loop-a l = l.k - l.a

@@ -1,11 +1,7 @@
 use mathlib.Core.Path.{◌≡◌}
-use Prim.Native.Nat.{◌+◌, ◌≤◌}
-use lib.ListN.{length}
+use Prim.Native.Nat.{◌+◌, ◌-◌, ◌≤◌}
 use Rattle.sheet.specs.Sheet.{layout, bad_sizes}
 use Rattle.read_sheet.proofs.bad_sizes.Given as goal
 
-abbrev pub invariant-loop-left : goal.invariant-loop-left
-invariant-loop-left l = (bad_sizes layout l.s l.n l.p ≡ bad_sizes layout l.s l.left l.at) × (l.at + l.left ≤ length l.s)
-
-abbrev pub decreases-loop-left : goal.decreases-loop-left
-decreases-loop-left l = l.left
+abbrev pub invariant-loop-at : goal.invariant-loop-at
+invariant-loop-at l = (bad_sizes layout l.s l.n l.p ≡ bad_sizes layout l.s (l.p + l.n - l.at) l.at) × (l.p ≤ l.at)

@@ -20,9 +20,6 @@ loop-k-preserved c =
 pub loop-k-init : goal.loop-k-init
 loop-k-init c = (omega arith, wrote_none _ _ _)
 
-pub loop-k-smaller : goal.loop-k-smaller
-loop-k-smaller c = omega arith
-
 pub shape_of-t : goal.shape_of-t
 shape_of-t c = c.loop-k.invariant.1.long
 

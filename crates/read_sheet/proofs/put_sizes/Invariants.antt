@@ -6,6 +6,3 @@ use Rattle.read_sheet.proofs.put_sizes.Given as goal
 
 abbrev pub invariant-loop-k : goal.invariant-loop-k
 invariant-loop-k l = (l.k ≤ 32) × Wrote l.k l.initial.t l.t 0 (size_of layout l.s)
-
-abbrev pub decreases-loop-k : goal.decreases-loop-k
-decreases-loop-k l = 32 - l.k

@@ -43,8 +43,5 @@ loop-a-preserved c =
 pub loop-a-init : goal.loop-a-init
 loop-a-init c = (omega arith, omega arith, wrote_none _ _ _)
 
-pub loop-a-smaller : goal.loop-a-smaller
-loop-a-smaller c = omega arith
-
 pub returns : goal.returns
 returns c = let l = c.loop-a in let e : l.a ≡ c.args.k = omega arith in rw e at l.invariant.2

@@ -8,12 +8,12 @@ use Rattle.read_sheet.proofs.rows_tell.Goals.{After-allows_all, After-some_beyon
 
 -- what the tests say
 beyond : (b : Bool) (c : After-some_beyond) → c.some_beyond.result ≡ b → some_beyond c.args.x.now (2 ^ c.args.z - 1) ≡ b
-beyond b c e = ap (some_beyond c.args.x.now) (sym c.below16-full.ensures) ∙ sym c.some_beyond.ensures ∙ e
+beyond b c e = ap (some_beyond c.args.x.now) (sym c.below-full.ensures) ∙ sym c.some_beyond.ensures ∙ e
 
 full : (b : Bool) (c : After-allows_all) → c.allows_all.result ≡ b → let a = c.args in all_full a.x.now (2 ^ a.z - 1) a.k ≡ b
 full b c e =
     let a = c.args in
-    ap (λ (n : ℕ). all_full a.x.now n a.k) (sym c.below16-full.ensures) ∙ sym c.allows_all.ensures ∙ e
+    ap (λ (n : ℕ). all_full a.x.now n a.k) (sym c.below-full.ensures) ∙ sym c.allows_all.ensures ∙ e
 
 pub returns-then-some_beyond : goal.returns-then-some_beyond
 unfolding rows_tell

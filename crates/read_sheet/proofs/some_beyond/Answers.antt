@@ -25,6 +25,3 @@ returns c =
 
 pub loop-a-init : goal.loop-a-init
 loop-a-init c = (omega arith, sym (any_none _))
-
-pub loop-a-smaller : goal.loop-a-smaller
-loop-a-smaller c = omega arith

@@ -7,6 +7,3 @@ use Rattle.read_sheet.proofs.some_beyond.Given as goal
 
 abbrev pub invariant-loop-a : goal.invariant-loop-a
 invariant-loop-a l = (l.a ≤ 16) × (l.found ≡ any_below l.a (λ (k : ℕ). ltb l.full (get_or l.x k 0)))
-
-abbrev pub decreases-loop-a : goal.decreases-loop-a
-decreases-loop-a l = 16 - l.a

@@ -4,7 +4,7 @@ use Rattle.steps.proofs.States.{holds_within}
 use Rattle.replay.proofs.after_lawful.Goals as goal
 
 pub apply-requires : goal.apply-requires
-apply-requires c = let p = c.requires in (p.0, holds_within p.0 _ ((lawful_iff _ _ _).0 p.1).1)
+apply-requires c = holds_within c.args.view.ready _ ((lawful_iff _ _ _).0 c.requires).1
 
 pub returns : goal.returns
 returns c = c.apply.ensures

@@ -5,7 +5,7 @@ use Rattle.replay.proofs.Range.{asked_values}
 use Rattle.replay.proofs.broken_neighbourhood.Goals as goal
 
 pub first_break-requires : goal.first_break-requires
-first_break-requires c = let p = c.requires in let v = asked_values p _ _ _ (sym c.cover_asked.ensures ∙ c.if-cover_asked.true) in (p, v.0, v.1)
+first_break-requires c = let v = asked_values c.args.view.ready _ _ _ (sym c.cover_asked.ensures ∙ c.if-cover_asked.true) in v
 
 pub returns-then-cover_asked : goal.returns-then-cover_asked
 returns-then-cover_asked c = c.first_break.ensures ∙ sym (broken_asked _ _ _ _ _ (sym c.cover_asked.ensures ∙ c.if-cover_asked.true))

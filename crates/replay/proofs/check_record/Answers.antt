@@ -11,7 +11,10 @@ use Rattle.replay.specs.Walk.{going_on, stopped_with, ruled_turn, checked_turn}
 use Rattle.replay.proofs.check_record.Goals as goal
 
 pub after_lawful-requires : goal.after_lawful-requires
-after_lawful-requires c = (c.requires.0, T_of (sym c.lawful.ensures ∙ c.if-lawful.true))
+after_lawful-requires c = T_of (sym c.lawful.ensures ∙ c.if-lawful.true)
+
+pub invariant_of-view : goal.invariant_of-view
+invariant_of-view c = record { ready = c.requires.0 }
 
 pub returns-then-lawful : goal.returns-then-lawful
 returns-then-lawful c =

@@ -41,13 +41,13 @@ pub loop-c-init : goal.loop-c-init
 loop-c-init c =
     let e = c.placed-r.ensures in
     let a = c.args in
-    (ap (λ (b : _). b.now) e.0, omega (arith, e.1), subst (Good a.t.now a.trace.now a.first c.going-c.result) (sym e.1) (subst (λ (z : Checking). Good a.t.now a.trace.now a.first z 1) (sym c.going-c.ensures) (walk_start a.t.now a.trace.now a.first c.requires)))
+    (ap (λ (b : _). b.now) e.0, omega (arith, e.1), subst (Good a.view.table.now a.trace.now a.view.state.now c.going-c.result) (sym e.1) (subst (λ (z : Checking). Good a.view.table.now a.trace.now a.view.state.now z 1) (sym c.going-c.ensures) (walk_start a.view.table.now a.trace.now a.view.state.now a.view.ready)))
 
 pub check_record-c-requires : goal.check_record-c-requires
 check_record-c-requires c =
     let a = c.args in
     let w = c.loop-c in
-    let g = good_on a.t.now a.trace.now a.first w.c w.r.at w.invariant.2 c.loop-c-test.true in
+    let g = good_on a.view.table.now a.trace.now a.view.state.now w.c w.r.at w.invariant.2 c.loop-c-test.true in
     let few = g.1.1.1 in
     let within = w.invariant.1 in
     (g.0, omega arith)
@@ -59,14 +59,14 @@ loop-c-preserved c =
     let e = c.moved-r.ensures in (
       ap (λ (b : _). b.now) e.0 ∙ w.invariant.0,
       rw (e.1, w.invariant.0) (after_within a.trace.now w.r.at w.invariant.1),
-      (turned a.t.now a.trace.now w.r.src.now a.first w.c c.check_record-c.result c.peek.result w.r.at c.moved-r.result.at w.invariant.0 w.invariant.2 c.loop-c-test.true c.peek.ensures c.check_record-c.ensures e.1).0,
+      (turned a.view.table.now a.trace.now w.r.src.now a.view.state.now w.c c.check_record-c.result c.peek.result w.r.at c.moved-r.result.at w.invariant.0 w.invariant.2 c.loop-c-test.true c.peek.ensures c.check_record-c.ensures e.1).0,
     )
 
 pub loop-c-smaller : goal.loop-c-smaller
 loop-c-smaller c =
     let a = c.args in
     let w = c.loop-c in
-    (turned a.t.now a.trace.now w.r.src.now a.first w.c c.check_record-c.result c.peek.result w.r.at c.moved-r.result.at w.invariant.0 w.invariant.2 c.loop-c-test.true c.peek.ensures c.check_record-c.ensures c.moved-r.ensures.1).1
+    (turned a.view.table.now a.trace.now w.r.src.now a.view.state.now w.c c.check_record-c.result c.peek.result w.r.at c.moved-r.result.at w.invariant.0 w.invariant.2 c.loop-c-test.true c.peek.ensures c.check_record-c.ensures c.moved-r.ensures.1).1
 
 pub returns : goal.returns
-returns c = let a = c.args in let w = c.loop-c in good_off a.t.now a.trace.now a.first w.c w.r.at w.invariant.2 c.loop-c-test.false
+returns c = let a = c.args in let w = c.loop-c in good_off a.view.table.now a.trace.now a.view.state.now w.c w.r.at w.invariant.2 c.loop-c-test.false

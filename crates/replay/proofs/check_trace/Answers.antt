@@ -13,8 +13,8 @@ returns-then-trace-eq0 c = let a = c.args in let P = held a.t.now in c.fault.ens
 pub returns-then-trace-ne1 : goal.returns-then-trace-ne1
 returns-then-trace-ne1 c = let a = c.args in let P = held a.t.now in c.fault-then-trace-ne1.ensures ∙ ap (walk_ended P (full P)) (sym (wrong_front P a.trace.now c.if-trace-eq0.false c.if-trace-ne1.true))
 
-pub check_records-requires : goal.check_records-requires
-check_records-requires c = let p = c.requires in (ready_full p.0 _ p.1).0
+pub invariant_of-view : goal.invariant_of-view
+invariant_of-view c = let p = c.requires in record { ready = (ready_full p.0 _ p.1).0 }
 
 pub returns : goal.returns
 returns c = let a = c.args in let p = c.requires in let P = held a.t.now in let e = (ready_full p.0 a.first p.1).1 in c.check_records.ensures ∙ ap (λ (z : State). walk_ended P z (checked_from P a.trace.now z 0 1)) e ∙ ap (walk_ended P (full P)) (sym (right_front P a.trace.now c.if-trace-eq0.false c.if-trace-ne1.false))

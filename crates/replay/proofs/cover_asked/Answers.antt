@@ -10,7 +10,7 @@ pub returns-then-i-lt32 : goal.returns-then-i-lt32
 unfolding cover_asked state_of
 returns-then-i-lt32 c =
     let a = c.args in
-    λ j. c.has32.ensures j && (not (eqb a.a a.b) && (c.is_live.ensures j && (c.is_live-then-i-lt32.ensures j && c.none_empty.ensures j)))
+    λ j. c.has.ensures j && (not (eqb a.a a.b) && (c.is_live.ensures j && (c.is_live-then-i-lt32.ensures j && c.none_empty.ensures j)))
 
 pub returns-else-i-lt32 : goal.returns-else-i-lt32
-returns-else-i-lt32 c = asked_out c.requires _ _ _ c.if-i-lt32.false
+returns-else-i-lt32 c = asked_out c.args.view.ready _ _ _ c.if-i-lt32.false

@@ -1,6 +1,6 @@
 -- `replay::fault`. Assumes nothing.
-use Rattle.replay.specs.declared.TraceCheck.TheVariants.{Fault}
+use Rattle.std.specs.Prelude.{Err}
 use Rattle.replay.proofs.fault.Goals as goal
 
 pub returns : goal.returns
-returns c = λ k. record { check = Fault c.args.e; state = c.empty_masks.ensures k }
+returns c = λ k. record { check = Err c.args.e; state = c.empty_masks.ensures k }

@@ -4,7 +4,7 @@ use Rattle.replay.proofs.Range.{range3, substitution_out}
 use Rattle.replay.proofs.holds_substitution.Goals as goal
 
 pub snake_substitution-requires : goal.snake_substitution-requires
-snake_substitution-requires c = let a = c.args in let h = range3 a.i 32 a.b 16 a.a 16 c.if-i-b.true in (c.requires, h.0, h.1, h.2)
+snake_substitution-requires c = let a = c.args in let h = range3 a.i 32 a.b 16 a.a 16 c.if-i-b.true in (h.0, h.1, h.2)
 
 pub returns-else-i-b : goal.returns-else-i-b
-returns-else-i-b c = sym (substitution_out c.requires _ _ _ c.if-i-b.false)
+returns-else-i-b c = sym (substitution_out c.args.view.ready _ _ _ c.if-i-b.false)

@@ -17,7 +17,7 @@ loop-c-preserved c =
     let w = c.loop-c in
     let x = c.args.x in
     let e : w.sum + c.one_if-sum.result ≡ count_below (w.c + 1) (λ k. bit x k) =
-    (λ i. w.invariant.1.0 i + (c.one_if-sum.ensures.is ∙ ap one_if c.has32.ensures) i) ∙ sym (count_more (λ k. bit x k) w.c) in
+    (λ i. w.invariant.1.0 i + (c.one_if-sum.ensures.is ∙ ap one_if c.has.ensures) i) ∙ sym (count_more (λ k. bit x k) w.c) in
     (omega arith, (e, omega (arith, e, count_most (w.c + 1) (λ k. bit x k))))
 
 pub overflow_add-sum : goal.overflow_add-sum
@@ -30,11 +30,5 @@ returns c =
     let e : w.c ≡ c.args.n = omega arith in
     record { is = w.invariant.1.0 ∙ ap (λ (k : ℕ). count_below k (λ c. bit x c)) e; within = omega arith }
 
-pub has32-requires : goal.has32-requires
-has32-requires c = omega arith
-
-pub overflow_add-c : goal.overflow_add-c
-overflow_add-c c = omega arith
-
-pub loop-c-smaller : goal.loop-c-smaller
-loop-c-smaller c = omega arith
+pub has-requires : goal.has-requires
+has-requires c = omega arith

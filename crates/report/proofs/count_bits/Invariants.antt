@@ -6,6 +6,3 @@ use Rattle.report.proofs.count_bits.Given as goal
 
 abbrev pub invariant-loop-c : goal.invariant-loop-c
 invariant-loop-c l = (l.c ≤ l.n) × ((l.sum ≡ count_below l.c (λ k. bit l.x k)) × (l.sum ≤ l.c))
-
-abbrev pub decreases-loop-c : goal.decreases-loop-c
-decreases-loop-c l = l.n - l.c

@@ -23,9 +23,3 @@ returns c =
     let w = c.loop-i in
     let e : w.i ≡ 32 = omega arith in
     record { is = sum_end _ 32 w.i _ e w.invariant.1.0; within = omega arith }
-
-pub overflow_add-i : goal.overflow_add-i
-overflow_add-i c = omega arith
-
-pub loop-i-smaller : goal.loop-i-smaller
-loop-i-smaller c = omega arith

@@ -6,6 +6,3 @@ use Rattle.report.proofs.count_values.Given as goal
 
 abbrev pub invariant-loop-i : goal.invariant-loop-i
 invariant-loop-i l = (l.i ≤ 32) × ((l.sum ≡ sum_to l.i (λ k. count_below 16 ((state_of l.m).live k))) × (l.sum ≤ 16 * l.i))
-
-abbrev pub decreases-loop-i : goal.decreases-loop-i
-decreases-loop-i l = 32 - l.i

@@ -44,12 +44,3 @@ shape_of-out c = kept_length _ _ _ _ _ _ _ _ _ c.loop-k.invariant
 
 pub returns : goal.returns
 returns c = let w = c.loop-k in record { text = all_put _ _ _ _ _ _ _ _ _ w.invariant (all_lines _ _ _ _ (omega arith)); within = omega arith }
-
-pub overflow_add-k : goal.overflow_add-k
-overflow_add-k c = omega arith
-
-pub overflow_add-k-in-Read : goal.overflow_add-k-in-Read
-overflow_add-k-in-Read c = omega arith
-
-pub loop-k-smaller : goal.loop-k-smaller
-loop-k-smaller c = omega arith

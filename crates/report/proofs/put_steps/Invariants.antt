@@ -7,6 +7,3 @@ use Rattle.report.proofs.put_steps.Given as goal
 
 abbrev pub invariant-loop-k : goal.invariant-loop-k
 invariant-loop-k l = Putting 30 l.steps l.initial.out l.at (step_lines 1 (records_in l.steps l.trace 1)) l.out l.end l.k (lines_left l.trace l.steps l.place l.k)
-
-abbrev pub decreases-loop-k : goal.decreases-loop-k
-decreases-loop-k l = l.steps - l.k

@@ -17,9 +17,6 @@ byte-n-requires c = let f = facts layout _ c.requires in omega arith
 pub loop-i-init : goal.loop-i-init
 loop-i-init c = (sym (sum_none _), (omega arith, omega arith))
 
-pub overflow_add-i : goal.overflow_add-i
-overflow_add-i c = let f = (facts layout _ c.requires).front.few in search rules
-
 pub byte-sum-requires : goal.byte-sum-requires
 byte-sum-requires c = let f = (facts layout _ c.requires).front.room in omega arith
 

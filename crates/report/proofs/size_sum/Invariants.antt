@@ -7,6 +7,3 @@ use Rattle.report.proofs.size_sum.Given as goal
 
 abbrev pub invariant-loop-i : goal.invariant-loop-i
 invariant-loop-i l = (l.sum ≡ sum_to l.i (size_of layout l.s)) × ((l.sum ≤ 16 * l.i) × (l.i ≤ l.n))
-
-abbrev pub decreases-loop-i : goal.decreases-loop-i
-decreases-loop-i l = l.n - l.i

@@ -8,17 +8,17 @@ pub row_among-good-requires : goal.row_among-good-requires
 row_among-good-requires c =
     let p = c.requires in
     let a = c.args in
-    (p.0.table, domain_values p.0 _ p.3, p.1, p.3, other_apart a.rest a.active _ _ p.2 p.1.variable p.4)
+    (c.args.view.ready.table, domain_values c.args.view.ready _ p.2, p.0, p.2, other_apart a.rest a.view.state.now.active _ _ p.1 p.0.variable p.3)
 
 pub unserved-requires : goal.unserved-requires
 unserved-requires c =
     let p = c.requires in
     let a = c.args in
-    (p.0, rw c.row_among-good.ensures (word_among p.0 _ _ _), domain_among p.0 _, rw c.without32.ensures (others_out a.rest _ p.3), p.3)
+    (rw c.row_among-good.ensures (word_among c.args.view.ready _ _ _), domain_among c.args.view.ready _, rw c.without.ensures (others_out a.rest _ p.2), p.2)
 
 pub returns : goal.returns
 returns c =
     let p = c.requires in
     let a = c.args in
-    other_at p.0 _ _ _ p.1.variable p.3 _ (other_apart a.rest a.active _ _ p.2 p.1.variable p.4)
-    (rw (c.without32.ensures, p.2, c.row_among-good.ensures) at c.unserved.ensures)
+    other_at c.args.view.ready _ _ _ p.0.variable p.2 _ (other_apart a.rest a.view.state.now.active _ _ p.1 p.0.variable p.3)
+    (rw (c.without.ensures, p.1, c.row_among-good.ensures) at c.unserved.ensures)

@@ -2,17 +2,8 @@
 use native.Mathlib.Omega.{arith}
 use borrow.Author.Rules.{rules}
 use borrow.Author.Tests.{not-false, eqb-true}
-use Rattle.snake_substitution.proofs.Words.{gathered_none, gathered_more, closed_gathered}
+use Rattle.snake_substitution.proofs.Words.{gathered_more, closed_gathered}
 use Rattle.snake_substitution.proofs.asks.Goals as goal
-
-pub loop-b-init : goal.loop-b-init
-loop-b-init c = (omega arith, gathered_none _)
-
-pub overflow_add-b : goal.overflow_add-b
-overflow_add-b c = omega arith
-
-pub loop-b-smaller : goal.loop-b-smaller
-loop-b-smaller c = omega arith
 
 pub loop-b-preserved : goal.loop-b-preserved
 loop-b-preserved c = let w = c.loop-b in (omega arith, gathered_more _ c.where16-all.ensures w.invariant.1)

@@ -1,5 +1,5 @@
 use mathlib.Core.Bool.{cond}
-use Prim.Native.Nat.{◌≤◌, ◌-◌}
+use Prim.Native.Nat.{◌≤◌}
 use lib.ListN.{get_or}
 use Rattle.bounded.specs.Mask.{bit}
 use Rattle.snake_substitution.proofs.Words.{Gathered}
@@ -7,6 +7,3 @@ use Rattle.snake_substitution.proofs.asks.Given as goal
 
 abbrev pub invariant-loop-b : goal.invariant-loop-b
 invariant-loop-b l = (l.b ≤ 16) × Gathered (λ k. cond (bit l.set k) (get_or l.goals k 0) 0) l.b l.all
-
-abbrev pub decreases-loop-b : goal.decreases-loop-b
-decreases-loop-b l = 16 - l.b

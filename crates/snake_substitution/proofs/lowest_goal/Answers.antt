@@ -7,4 +7,4 @@ pub returns-then-word-eq0 : goal.returns-then-word-eq0
 returns-then-word-eq0 c = lowest_goal_none _ _ _ c.if-word-eq0.true
 
 pub returns-else-word-eq0 : goal.returns-else-word-eq0
-returns-else-word-eq0 c = rw c.lowest16.ensures (lowest_goal_at _ _ _ (search rules) c.if-word-eq0.false)
+returns-else-word-eq0 c = rw c.lowest.ensures (lowest_goal_at _ _ _ (search rules) c.if-word-eq0.false)

@@ -4,15 +4,14 @@ use Prim.Native.Nat.{ℕ, ◌<◌}
 use native.Mathlib.Nat.{lt_of_le_of_lt}
 use lib.Bits.{bit_and, and_le_r}
 use lib.Dec.{T}
-use borrow.Author.Tests.{not-true, eqb-false}
 use Rattle.bounded.specs.Mask.{bit, without, Highest}
-use Rattle.bounded.proofs.Truth.{T_true, both, and_iff}
+use Rattle.bounded.proofs.Truth.{T_true, and_iff}
 use Rattle.bounded.proofs.Mask.{bit_and_lem, bit_without32}
 use Rattle.bounded.proofs.Members.{Left, left_all, left_next, left_highest}
 use Rattle.cover.proofs.Laws.{other_apart}
 use Rattle.snake_substitution.proofs.Goals.{goals_part, variables_first, variables_next, variables_end}
 use Rattle.snake_substitution.proofs.narrow_from.Goals as goal
-use Rattle.snake_substitution.proofs.narrow_from.Goals.{After-highest32-k}
+use Rattle.snake_substitution.proofs.narrow_from.Goals.{After-highest-k}
 
 -- the variable of a turn: one of `rest`, and left
 turn : {left l : ℕ} (rest x : ℕ) → Left 32 (bit_and rest x) left → Highest 32 left l → (l < 32) × T (bit rest l) × (without 32 left l < left)
@@ -20,46 +19,30 @@ turn {left} {l} rest x L H =
     let k = left_highest 32 bit_without32 L H in
     (k.0, ((and_iff (bit rest l) (bit x l)).0 (subst T (bit_and_lem rest x l) (L.part l k.1))).0, k.2)
 
-at_turn : (c : After-highest32-k) → let k = c.highest32-k.result in let left = c.loop-left.left in
-    (k < 32) × T (bit c.without32-rest.result k) × (without 32 left k < left)
-at_turn c = turn c.without32-rest.result c.neighbours.result c.loop-left.invariant.0 c.highest32-k.ensures
+at_turn : (c : After-highest-k) → let k = c.highest-k.result in let left = c.loop-left.left in
+    (k < 32) × T (bit c.without-rest.result k) × (without 32 left k < left)
+at_turn c = turn c.without-rest.result c.neighbours.result c.loop-left.invariant.0 c.highest-k.ensures
 
 pub narrow_at-rests-requires : goal.narrow_at-rests-requires
 narrow_at-rests-requires c =
     let p = c.requires in
     let v = c.loop-left.invariant in
-    let rest = c.without32-rest in
-    let k = at_turn (goal.at.narrow_at-rests-requires c).After-highest32-k in
-    (p.0, goals_part p.1 v.1, p.2, c.without32.ensures ∙ ap (λ (x : ℕ). without 32 x c.highest32-k.result) rest.ensures, k.0, other_apart rest.result c.args.active _ _ rest.ensures p.2 (T_true _ k.1))
+    let rest = c.without-rest in
+    let k = at_turn (goal.at.narrow_at-rests-requires c).After-highest-k in
+    (goals_part p.0 v.1, p.1, c.without.ensures ∙ ap (λ (x : ℕ). without 32 x c.highest-k.result) rest.ensures, k.0, other_apart rest.result c.args.view.state.now.active _ _ rest.ensures p.1 (T_true _ k.1))
 
 pub loop-left-preserved : goal.loop-left-preserved
 loop-left-preserved c =
-    let p = c.requires in
     let v = c.loop-left in
-    rw c.without32-left.ensures (left_next _ v.invariant.0, variables_next p.0 v.left _ (at_turn (goal.at.loop-left-preserved c).After-highest32-k).0 v.invariant.1 c.narrow_at-rests.ensures)
+    rw c.without-left.ensures (left_next _ v.invariant.0, variables_next c.args.view.ready v.left _ (at_turn (goal.at.loop-left-preserved c).After-highest-k).0 v.invariant.1 c.narrow_at-rests.ensures)
 
 pub returns : goal.returns
 returns c =
     let v = c.loop-left in
-    variables_end c.requires.0 v.left c.some_goal.result c.loop-left-test.false c.some_goal.ensures v.invariant.1
-
-pub neighbours-requires : goal.neighbours-requires
-neighbours-requires c = let p = c.requires in (p.0.table, p.2)
+    variables_end c.args.view.ready v.left c.some_goal.result c.loop-left-test.false c.some_goal.ensures v.invariant.1
 
 pub loop-left-init : goal.loop-left-init
-loop-left-init c = let p = c.requires in (left_all 32 _ (lt_of_le_of_lt (and_le_r c.without32-rest.result _) c.neighbours.ensures.small), variables_first p.0 c.without32-rest.ensures p.2 c.neighbours.ensures p.1)
-
-pub some_goal-requires : goal.some_goal-requires
-some_goal-requires c = c.loop-left.invariant.1.long
-
-pub highest32-k-requires : goal.highest32-k-requires
-highest32-k-requires c = eqb-false _ _ (not-true _ (both _ _ c.loop-left-test.true).0)
-
-pub without32-requires : goal.without32-requires
-without32-requires c = (at_turn (goal.at.without32-requires c).After-highest32-k).0
-
-pub without32-left-requires : goal.without32-left-requires
-without32-left-requires c = (at_turn (goal.at.without32-left-requires c).After-highest32-k).0
+loop-left-init c = let p = c.requires in (left_all 32 _ (lt_of_le_of_lt (and_le_r c.without-rest.result _) c.neighbours.ensures.small), variables_first c.args.view.ready c.without-rest.ensures p.1 c.neighbours.ensures p.0)
 
 pub loop-left-smaller : goal.loop-left-smaller
-loop-left-smaller c = rw c.without32-left.ensures (at_turn (goal.at.loop-left-smaller c).After-highest32-k).2
+loop-left-smaller c = rw c.without-left.ensures (at_turn (goal.at.loop-left-smaller c).After-highest-k).2

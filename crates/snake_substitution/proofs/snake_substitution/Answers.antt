@@ -9,14 +9,13 @@ use Rattle.snake_substitution.proofs.snake_substitution.Goals as goal
 
 pub substitution_others-requires : goal.substitution_others-requires
 substitution_others-requires c =
-    let p = c.requires in
-    let h = guard c.has16.result c.has16-2.result c.args.a c.args.b c.if-has16-a.true in
-    (p.0, bit_value p.0 _ _ (sym c.has16.ensures ∙ h.0), bit_value p.0 _ _ (sym c.has16-2.ensures ∙ h.1))
+    let h = guard c.has.result c.has-2.result c.args.a c.args.b c.if-has-a.true in
+    (bit_value c.args.view.ready _ _ (sym c.has.ensures ∙ h.0), bit_value c.args.view.ready _ _ (sym c.has-2.ensures ∙ h.1))
 
-pub returns-then-has16-a : goal.returns-then-has16-a
+pub returns-then-has-a : goal.returns-then-has-a
 unfolding snake_substitution substitution_at state_of
-returns-then-has16-a c = c.substitution_others.ensures ∙ sym (guard_met _ _ c.has16.ensures c.has16-2.ensures c.if-has16-a.true)
+returns-then-has-a c = c.substitution_others.ensures ∙ sym (guard_met _ _ c.has.ensures c.has-2.ensures c.if-has-a.true)
 
-pub returns-else-has16-a : goal.returns-else-has16-a
+pub returns-else-has-a : goal.returns-else-has-a
 unfolding snake_substitution state_of
-returns-else-has16-a c = sym (guard_left _ _ c.has16.ensures c.has16-2.ensures c.if-has16-a.false)
+returns-else-has-a c = sym (guard_left _ _ c.has.ensures c.has-2.ensures c.if-has-a.false)

@@ -1,21 +1,8 @@
 -- `snake_substitution::some_goal`: the words so far are gathered. Assumes nothing.
 use mathlib.Core.Path.{refl}
 use native.Mathlib.Omega.{arith}
-use borrow.Author.Tests.{not-false, eqb-true}
-use Rattle.snake_substitution.proofs.Words.{gathered_none, gathered_more, none_gathered}
+use Rattle.snake_substitution.proofs.Words.{gathered_more}
 use Rattle.snake_substitution.proofs.some_goal.Goals as goal
-
-pub loop-b-init : goal.loop-b-init
-loop-b-init c = (omega arith, gathered_none _)
-
-pub overflow_add-b : goal.overflow_add-b
-overflow_add-b c = omega arith
-
-pub loop-b-smaller : goal.loop-b-smaller
-loop-b-smaller c = omega arith
 
 pub loop-b-preserved : goal.loop-b-preserved
 loop-b-preserved c = let w = c.loop-b in (omega arith, gathered_more _ refl w.invariant.1)
-
-pub returns : goal.returns
-returns c e = let w = c.loop-b in none_gathered w.b w.all c.requires (omega arith) w.invariant.1 (eqb-true _ _ (not-false _ e))

@@ -1,22 +1,26 @@
--- `start::same_domains`: a loop over the variables. Assumes nothing.
-use mathlib.Core.Path.{sym}
-use borrow.Author.Tests.{ne_eqb, eq-eqb}
-use Rattle.bounded.proofs.Loops.{all_none, all_more, all_fail, all_end}
-use Rattle.start.specs.Parts.{same_domains}
-use borrow.Author.Rules.{rules}
+-- `start::same_domains`: two lists of 32 words are equal where their words are. Assumes nothing.
+use mathlib.Core.Path.{◌≡◌, ap, ◌∙◌}
+use mathlib.Core.List.{List}
+use Prim.Native.Nat.{ℕ}
 use native.Mathlib.Omega.{arith}
+use lib.ListN.{length, get_or}
+use lib.Pointwise.{bytes_decides}
+use lib.Seq.{ext_get_or}
+use borrow.Author.Rules.{rules}
+use borrow.Author.Tests.{eq-eqb, eqb-true}
+use Rattle.bounded.proofs.Truth.{T_ext, T_of, T_true}
+use Rattle.bounded.proofs.Loops.{all_each, all_intro}
+use Rattle.start.specs.Parts.{same_domains}
 use Rattle.start.proofs.same_domains.Goals as goal
-
-pub loop-i-init : goal.loop-i-init
-loop-i-init c = (search rules, all_none _)
-
-pub returns-then-not-same : goal.returns-then-not-same
-unfolding same_domains
-returns-then-not-same c = sym (all_fail _ 32 c.loop-i.i (omega arith) (ne_eqb _ _ c.if-not-same.true))
-
-pub loop-i-preserved : goal.loop-i-preserved
-loop-i-preserved c = (omega arith, all_more _ c.loop-i.i c.loop-i.invariant.1 (eq-eqb _ _ c.if-not-same.false))
 
 pub returns : goal.returns
 unfolding same_domains
-returns c = sym (all_end _ 32 _ (omega arith) c.loop-i.invariant.1)
+returns c =
+    let x = c.args.x.domains in
+    let y = c.args.y.domains in
+    let long : length x ≡ 32 = search rules in
+    let same : length x ≡ length y = search rules in
+    c.eq.ensures ∙ T_ext (
+      λ h. T_of (all_intro _ 32 (λ k l. eq-eqb _ _ (ap (λ (z : List ℕ). get_or z k 0) ((bytes_decides x y).0 (T_true _ h))))),
+      λ h. T_of ((bytes_decides x y).1 (ext_get_or 0 x y same (λ k l. eqb-true _ _ (all_each _ 32 (T_true _ h) k (omega arith))))),
+    )

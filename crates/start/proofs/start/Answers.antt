@@ -5,14 +5,14 @@ use Rattle.jobs.proofs.Opened.{table_refused, table_rows, table_job}
 use Rattle.hand.proofs.Opened.{start_refused_lem, start_kept}
 use Rattle.start.proofs.start.Goals as goal
 
-pub returns-in-Refused : goal.returns-in-Refused
-returns-in-Refused c = c.refused_start.ensures ∙ sym (start_refused_lem _ _ (table_refused _ _ (c.read_table.ensures.answer, c.read_table.ensures.filled) c.in-Refused.is))
+pub returns-in-Err : goal.returns-in-Err
+returns-in-Err c = c.refused_start.ensures ∙ sym (start_refused_lem _ _ (table_refused _ _ (c.read_table.ensures.answer, c.read_table.ensures.filled) c.in-Err.is))
 
-pub returns-in-Accepted : goal.returns-in-Accepted
-returns-in-Accepted c = c.start_over.ensures ∙ table_job _ _ (c.read_table.ensures.answer, c.read_table.ensures.filled) c.in-Accepted.is start_over (start_kept _)
+pub returns-in-Ok : goal.returns-in-Ok
+returns-in-Ok c = c.start_over.ensures ∙ table_job _ _ (c.read_table.ensures.answer, c.read_table.ensures.filled) c.in-Ok.is start_over (start_kept _)
 
 pub read_table-requires : goal.read_table-requires
 read_table-requires c = c.blank_table-t.ensures
 
 pub start_over-requires : goal.start_over-requires
-start_over-requires c = table_rows _ _ (c.read_table.ensures.answer, c.read_table.ensures.filled) c.in-Accepted.is
+start_over-requires c = table_rows _ _ (c.read_table.ensures.answer, c.read_table.ensures.filled) c.in-Ok.is

@@ -15,7 +15,7 @@ loop-other-init c = (search rules, refl, sym (filled_none _ _))
 pub loop-other-preserved : goal.loop-other-preserved
 loop-other-preserved c =
     let w = c.loop-other in
-    let len : length c.args.m.domains ≡ 32 = search rules in
+    let len : length c.args.view.state.now.domains ≡ 32 = search rules in
     (omega arith, w.invariant.1, rw (w.invariant.2, c.domain_after.ensures) (filled_more w.other _ _ (omega arith)))
 
 pub returns : goal.returns
@@ -23,7 +23,7 @@ unfolding masks_of domain_after
 returns c =
     let w = c.loop-other in
     let a = c.requires in
-    let len : length c.args.m.domains ≡ 32 = search rules in
-    let p = w.invariant.1 ∙ c.without32.ensures ∙ active_after a.0 _ a.1 in
+    let len : length c.args.view.state.now.domains ≡ 32 = search rules in
+    let p = w.invariant.1 ∙ c.without.ensures ∙ active_after c.args.view.ready _ a in
     let q = w.invariant.2 ∙ filled_end 32 w.other _ _ len (omega arith) (omega arith) in
     λ k. record { active = p k; domains = q k }

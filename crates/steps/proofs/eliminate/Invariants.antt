@@ -1,4 +1,4 @@
-use Prim.Native.Nat.{◌≤◌, ◌-◌}
+use Prim.Native.Nat.{◌≤◌}
 use mathlib.Core.Path.{◌≡◌}
 use Rattle.bounded.specs.Table.{filled}
 use Rattle.problem.specs.Held.{held}
@@ -7,7 +7,4 @@ use Rattle.steps.specs.Words.{domain_after}
 use Rattle.steps.proofs.eliminate.Given as goal
 
 abbrev pub invariant-loop-other : goal.invariant-loop-other
-invariant-loop-other l = (l.other ≤ 32) × (l.r.active ≡ l.initial.r.active) × (l.r.domains ≡ filled l.other (domain_after (held l.t) (state_of l.m) l.i) l.initial.r.domains)
-
-abbrev pub decreases-loop-other : goal.decreases-loop-other
-decreases-loop-other l = 32 - l.other
+invariant-loop-other l = (l.other ≤ 32) × (l.r.active ≡ l.initial.r.active) × (l.r.domains ≡ filled l.other (domain_after (held l.view.table.now) (state_of l.view.state.now) l.i) l.initial.r.domains)

@@ -1,5 +1,5 @@
 -- `support::partners`: the union so far has the values with a support among those passed. Assumes nothing.
-use mathlib.Core.Path.{◌≡◌, sym, ap, ◌∙◌}
+use mathlib.Core.Path.{◌≡◌, ap, ◌∙◌}
 use mathlib.Core.Bool.{cond}
 use Prim.Native.Nat.{ℕ, ◌+◌}
 use native.Mathlib.Omega.{arith}
@@ -31,9 +31,6 @@ returns c =
     let w = c.loop-a in
     let e : w.a ≡ 16 = omega arith in
     gathered p.0 _ _ _ p.2 p.5 _ w.x w.a p.1 e w.invariant.1
-
-pub rows_at-at-requires : goal.rows_at-at-requires
-rows_at-at-requires c = let p = c.requires in (p.0.located, p.3, p.4, λ e. p.5 (sym e))
 
 pub loop-a-init : goal.loop-a-init
 loop-a-init c = (search rules, gather_none)

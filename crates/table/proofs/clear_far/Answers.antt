@@ -4,4 +4,4 @@ use Rattle.table.proofs.clear_far.Goals as goal
 
 pub returns : goal.returns
 unfolding cleared
-returns c = rw c.without16.ensures
+returns c = rw c.without.ensures

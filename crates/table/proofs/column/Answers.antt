@@ -22,14 +22,6 @@ pub lane-word-requires : goal.lane-word-requires
 unfolding transposed_row
 lane-word-requires c = search rules
 
-pub overflow_add-a : goal.overflow_add-a
-unfolding transposed_row
-overflow_add-a c = omega arith
-
-pub loop-a-smaller : goal.loop-a-smaller
-unfolding transposed_row
-loop-a-smaller c = omega arith
-
 pub loop-a-preserved : goal.loop-a-preserved
 unfolding transposed_row
 loop-a-preserved c = (omega arith, mask_or _ _ _ _ c.loop-a.invariant.1 c.lane-word.ensures)

@@ -18,9 +18,6 @@ bounds-t-k c =
 pub loop-k-init : goal.loop-k-init
 loop-k-init c = (omega arith, wrote_none _ _ _)
 
-pub loop-k-smaller : goal.loop-k-smaller
-loop-k-smaller c = omega arith
-
 pub loop-k-preserved : goal.loop-k-preserved
 loop-k-preserved c = let l = c.loop-k in (omega arith, wrote_more _ _ _ _ _ _ (inside _ _ _ c.requires.0 refl c.loop-k-test.true) refl l.invariant.1)
 

@@ -17,9 +17,6 @@ bounds-t-at c =
 pub loop-a-init : goal.loop-a-init
 loop-a-init c = (omega arith, wrote_none _ _ _)
 
-pub loop-a-smaller : goal.loop-a-smaller
-loop-a-smaller c = omega arith
-
 pub loop-a-preserved : goal.loop-a-preserved
 loop-a-preserved c = let l = c.loop-a in (omega arith, wrote_more _ _ _ _ _ _ (inside _ _ _ _ c.requires refl c.loop-a-test.true) refl l.invariant.1)
 

@@ -34,14 +34,6 @@ pub bounds-turned-b : goal.bounds-turned-b
 unfolding transposed_rows
 bounds-turned-b c = search rules
 
-pub overflow_add-b : goal.overflow_add-b
-unfolding transposed_rows
-overflow_add-b c = omega arith
-
-pub loop-b-smaller : goal.loop-b-smaller
-unfolding transposed_rows
-loop-b-smaller c = omega arith
-
 pub returns : goal.returns
 unfolding transposed_rows
 returns c = let l = c.loop-b in l.invariant.2 ∙ filled_end 16 l.b _ _ l.invariant.1 (omega arith) l.invariant.0

@@ -14,13 +14,13 @@ pub returns-then-s-at-2 : goal.returns-then-s-at-2
 returns-then-s-at-2 c = sym (at_cut _ _ (omega arith) (omega arith))
 
 pub overflow_add-parts_of : goal.overflow_add-parts_of
-overflow_add-parts_of c = let r = c.in-Kind.record in omega (arith, parts_few _ r c.parts_of.ensures)
+overflow_add-parts_of c = let r = c.in-Some.record in omega (arith, parts_few _ r c.parts_of.ensures)
 
 pub returns-then-n-parts_of : goal.returns-then-n-parts_of
-returns-then-n-parts_of c = let r = c.in-Kind.record in let k = (parts_few _ r c.parts_of.ensures).0 in let n = c.byte_at-n.ensures in sym (at_wrong _ _ r (omega arith) (sym c.numbered_at.ensures ∙ c.in-Kind.is) (λ e. c.if-n-parts_of.true (omega arith)))
+returns-then-n-parts_of c = let r = c.in-Some.record in let k = (parts_few _ r c.parts_of.ensures).0 in let n = c.byte_at-n.ensures in sym (at_wrong _ _ r (omega arith) (sym c.numbered_at.ensures ∙ c.in-Some.is) (λ e. c.if-n-parts_of.true (omega arith)))
 
-pub returns-in-NoKind : goal.returns-in-NoKind
-returns-in-NoKind c = sym (at_none _ _ (omega arith) (sym c.numbered_at.ensures ∙ c.in-NoKind.is))
+pub returns-in-None : goal.returns-in-None
+returns-in-None c = sym (at_none _ _ (omega arith) (sym c.numbered_at.ensures ∙ c.in-None.is))
 
 pub returns-else-n-parts_of : goal.returns-else-n-parts_of
-returns-else-n-parts_of c = let r = c.in-Kind.record in let k = (parts_few _ r c.parts_of.ensures).0 in let n = c.byte_at-n.ensures in let a = c.args in ap (λ (x : ℕ). Read r (a.at + 1 + x)) n ∙ sym (at_record _ _ r (omega arith) (sym c.numbered_at.ensures ∙ c.in-Kind.is) (omega arith))
+returns-else-n-parts_of c = let r = c.in-Some.record in let k = (parts_few _ r c.parts_of.ensures).0 in let n = c.byte_at-n.ensures in let a = c.args in ap (λ (x : ℕ). Read r (a.at + 1 + x)) n ∙ sym (at_record _ _ r (omega arith) (sym c.numbered_at.ensures ∙ c.in-Some.is) (omega arith))

@@ -8,19 +8,16 @@ use Rattle.triangle.proofs.triangle_servers.Goals as goal
 pub row_among-good-requires : goal.row_among-good-requires
 row_among-good-requires c =
     let p = c.requires in
-    (p.0.table, domain_values p.0 _ p.2, p.1, p.2, λ e. p.3 (sym e))
-
-pub third_set-requires : goal.third_set-requires
-third_set-requires c = let p = c.requires in (p.2, p.1.variable)
+    (c.args.view.ready.table, domain_values c.args.view.ready _ p.1, p.0, p.1, λ e. p.2 (sym e))
 
 pub serving-requires : goal.serving-requires
 serving-requires c =
     let a = c.args in
     let p = c.requires in
-    let o = thirds_out a.active _ _ p.2 p.1.variable in
-    (p.0, rw c.row_among-good.ensures (word_among p.0 _ _ _), p.1, rw c.third_set.ensures o.0, rw c.third_set.ensures o.1, p.2)
+    let o = thirds_out a.view.state.now.active _ _ p.1 p.0.variable in
+    (rw c.row_among-good.ensures (word_among c.args.view.ready _ _ _), p.0, rw c.third_set.ensures o.0, rw c.third_set.ensures o.1, p.1)
 
 pub returns : goal.returns
 returns c =
     let p = c.requires in
-    rw (c.serving.ensures.is, c.third_set.ensures, c.row_among-good.ensures) (servers_mask p.0 _ _ p.2 p.1.variable _)
+    rw (c.serving.ensures.is, c.third_set.ensures, c.row_among-good.ensures) (servers_mask c.args.view.ready _ _ p.1 p.0.variable _)

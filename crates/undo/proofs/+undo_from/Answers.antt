@@ -1,5 +1,5 @@
 -- `undo::undo_from`, the cycle of its own call: what the reader finds is undone once the later records are. Assumes nothing.
-use mathlib.Core.Path.{◌≡◌, sym, ap, ◌∙◌, subst}
+use mathlib.Core.Path.{◌≡◌, refl, sym, ap, ◌∙◌, subst}
 use mathlib.Core.Bool.{true}
 use mathlib.Core.List.{List}
 use Prim.Native.Nat.{ℕ, ◌-◌, ◌<◌}
@@ -51,45 +51,50 @@ module _ {t : List ℕ} {m : Masks} (R : Ready t m) (s : List ℕ) (p : ℕ) {pl
       undone_here : (zs : List ℕ) → zs ≡ undone_found (held t) (state_of m) x ys → zs ≡ undone_by (held t) (state_of m) (checked_from (held t) s (state_of m) 0 p) plan
       undone_here zs ez = found_undone R s p U here ys later_is zs (ez ∙ ap (λ (y : RecordRead). undone_found (held t) (state_of m) y ys) ex)
 
-pub after_found-requires : goal.after_found-requires
-after_found-requires t c = let a = c.args in let R = c.requires in (R.0, lawful_here R.0 a.r.src.now a.r.at R.1 c.peek-x.result c.peek-x.ensures)
+pub after_found-state-requires : goal.after_found-state-requires
+after_found-state-requires t c = let a = c.args in lawful_here a.view.ready a.r.src.now a.r.at c.requires c.peek-x.result c.peek-x.ensures
+
+pub invariant_of-later : goal.invariant_of-later
+invariant_of-later t c =
+    let a = c.args in
+    let on : is_record c.peek-x.result ≡ true = sym c.is_record.ensures ∙ c.if-is_record.true in
+    record { ready = ready a.view.ready a.r.src.now a.r.at c.requires c.peek-x.result c.peek-x.ensures on c.after_found-state.result c.after_found-state.ensures a.r.src.now refl (place_after a.r.src.now a.r.at) refl }
 
 pub undo_from-requires : goal.undo_from-requires
 undo_from-requires t c =
     let a = c.args in
-    let R = c.requires in
+    let R = a.view.ready in
+    let U = c.requires in
     let on : is_record c.peek-x.result ≡ true = sym c.is_record.ensures ∙ c.if-is_record.true in
     let w = c.moved.result.src.now in
     let ew : w ≡ a.r.src.now = ap (λ (b : _). b.now) c.moved.ensures.0 in
-    let l = falls R.0 a.r.src.now a.r.at R.1 c.peek-x.result c.peek-x.ensures on c.after_found.result c.after_found.ensures w ew c.moved.result.at c.moved.ensures.1 in (
+    let l = falls R a.r.src.now a.r.at U c.peek-x.result c.peek-x.ensures on c.after_found-state.result c.after_found-state.ensures w ew c.moved.result.at c.moved.ensures.1 in (
       omega arith,
-      (
-        ready R.0 a.r.src.now a.r.at R.1 c.peek-x.result c.peek-x.ensures on c.after_found.result c.after_found.ensures w ew c.moved.result.at c.moved.ensures.1,
-        undoable R.0 a.r.src.now a.r.at R.1 c.peek-x.result c.peek-x.ensures on c.after_found.result c.after_found.ensures w ew c.moved.result.at c.moved.ensures.1,
-      ),
+      undoable R a.r.src.now a.r.at U c.peek-x.result c.peek-x.ensures on c.after_found-state.result c.after_found-state.ensures w ew c.moved.result.at c.moved.ensures.1,
     )
 
 pub undo_found-requires : goal.undo_found-requires
 undo_found-requires t c =
     let a = c.args in
-    let R = c.requires in
+    let R = a.view.ready in
+    let U = c.requires in
     let on : is_record c.peek-x.result ≡ true = sym c.is_record.ensures ∙ c.if-is_record.true in
-    let ew : c.moved.result.src.now ≡ a.r.src.now = ap (λ (b : _). b.now) c.moved.ensures.0 in (
-      R.0,
-      undoable_here R.0 a.r.src.now a.r.at R.1 c.peek-x.result c.peek-x.ensures on c.after_found.result c.after_found.ensures c.moved.result.src.now ew c.moved.result.at c.moved.ensures.1 c.undo_from.new.out c.undo_from.ensures,
-    )
+    let ew : c.moved.result.src.now ≡ a.r.src.now = ap (λ (b : _). b.now) c.moved.ensures.0 in
+    undoable_here R a.r.src.now a.r.at U c.peek-x.result c.peek-x.ensures on c.after_found-state.result c.after_found-state.ensures c.moved.result.src.now ew c.moved.result.at c.moved.ensures.1 c.undo_from.new.out c.undo_from.ensures
 
 pub returns-then-is_record : goal.returns-then-is_record
 returns-then-is_record t c =
     let a = c.args in
-    let R = c.requires in
+    let R = a.view.ready in
+    let U = c.requires in
     let on : is_record c.peek-x.result ≡ true = sym c.is_record.ensures ∙ c.if-is_record.true in
     let ew : c.moved.result.src.now ≡ a.r.src.now = ap (λ (b : _). b.now) c.moved.ensures.0 in
-    undone_here R.0 a.r.src.now a.r.at R.1 c.peek-x.result c.peek-x.ensures on c.after_found.result c.after_found.ensures c.moved.result.src.now ew c.moved.result.at c.moved.ensures.1 c.undo_from.new.out c.undo_from.ensures
+    undone_here R a.r.src.now a.r.at U c.peek-x.result c.peek-x.ensures on c.after_found-state.result c.after_found-state.ensures c.moved.result.src.now ew c.moved.result.at c.moved.ensures.1 c.undo_from.new.out c.undo_from.ensures
     c.undo_found.new.out c.undo_found.ensures
 
 pub returns-else-is_record : goal.returns-else-is_record
 returns-else-is_record t c =
     let a = c.args in
-    let R = c.requires in
-    none_undone R.0 a.r.src.now a.r.at R.1 (ap is_record (sym c.peek-x.ensures) ∙ (sym c.is_record.ensures ∙ c.if-is_record.false))
+    let R = a.view.ready in
+    let U = c.requires in
+    none_undone R a.r.src.now a.r.at U (ap is_record (sym c.peek-x.ensures) ∙ (sym c.is_record.ensures ∙ c.if-is_record.false))

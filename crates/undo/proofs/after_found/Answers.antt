@@ -5,7 +5,7 @@ use Rattle.undo.specs.Found.{LawfulFound, after_found}
 use Rattle.undo.proofs.after_found.Goals as goal
 
 pub after_lawful-requires : goal.after_lawful-requires
-after_lawful-requires c = let p = c.requires in let a = c.args in (p.0, subst (LawfulFound a.t.now a.m) c.in-Read.is p.1)
+after_lawful-requires c = let p = c.requires in let a = c.args in (subst (LawfulFound a.view.table.now a.view.state.now) c.in-Read.is p)
 
 pub returns-in-Read : goal.returns-in-Read
-returns-in-Read c = let a = c.args in c.after_lawful.ensures ∙ sym (ap (after_found (held a.t.now) a.m) c.in-Read.is)
+returns-in-Read c = let a = c.args in c.after_lawful.ensures ∙ sym (ap (after_found (held a.view.table.now) a.view.state.now) c.in-Read.is)

@@ -4,15 +4,15 @@ use Rattle.undo.proofs.Lowest.{passing_values, passing_lowest}
 use Rattle.undo.proofs.lowest_triangle.Goals as goal
 
 pub triangle_servers-requires : goal.triangle_servers-requires
-triangle_servers-requires c = let p = c.requires in (p.0, p.1.0, p.1.1.0, p.1.1.1)
+triangle_servers-requires c = let p = c.requires in (p.0, p.1.0, p.1.1)
 
 pub lowest_of-requires : goal.lowest_of-requires
 lowest_of-requires c =
     let p = c.requires in
-    (p.0.table, rw c.triangle_servers.ensures (passing_values p.0 _ _), p.1.1.0)
+    (c.args.view.ready.table, rw c.triangle_servers.ensures (passing_values c.args.view.ready _ _), p.1.0)
 
 pub returns : goal.returns
 returns c =
     let p = c.requires in
     let r = rw c.triangle_servers.ensures at c.lowest_of.ensures in
-    record { is = r.is ∙ passing_lowest p.0 _ _; below = r.below }
+    record { is = r.is ∙ passing_lowest c.args.view.ready _ _; below = r.below }

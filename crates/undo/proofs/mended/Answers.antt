@@ -8,8 +8,8 @@ use Rattle.undo.proofs.mended.Goals as goal
 
 pub mended_other-requires : goal.mended_other-requires
 unfolding state_of
-mended_other-requires c = let p = c.requires in let a = c.args in let x = other_active c.has32.result a.j a.i c.if-has32-j.true in let h = sym c.has32.ensures ∙ x.0 in (p.0, (p.1.0, (live_value p.0 a.j a.w (p.1.1.1 (T_of h) x.1), (h, x.1))))
+mended_other-requires c = let p = c.requires in let a = c.args in let x = other_active c.has.result a.j a.i c.if-has-j.true in let h = sym c.has.ensures ∙ x.0 in (p.0, (live_value c.args.view.ready a.j a.w (p.1.1 (T_of h) x.1), (h, x.1)))
 
-pub returns-else-has32-j : goal.returns-else-has32-j
+pub returns-else-has-j : goal.returns-else-has-j
 unfolding state_of
-returns-else-has32-j c = mended_out _ _ _ _ _ _ c.has32.ensures c.if-has32-j.false
+returns-else-has-j c = mended_out _ _ _ _ _ _ c.has.ensures c.if-has-j.false

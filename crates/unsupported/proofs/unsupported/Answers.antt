@@ -9,13 +9,13 @@ use Rattle.unsupported.proofs.unsupported.Goals as goal
 pub unsupported_at-requires : goal.unsupported_at-requires
 unsupported_at-requires c =
     let p = c.requires in
-    let h = guard c.has16.result c.has32.result c.args.k c.args.i c.if-has16-has32.true in
-    (p.0, bit_value p.0 _ _ (sym c.has16.ensures ∙ h.0), p.3, h.2)
+    let h = guard c.has.result c.has-2.result c.args.k c.args.i c.if-has-k.true in
+    (bit_value c.args.view.ready _ _ (sym c.has.ensures ∙ h.0), p.2, h.2)
 
-pub returns-then-has16-has32 : goal.returns-then-has16-has32
+pub returns-then-has-k : goal.returns-then-has-k
 unfolding unsupported state_of
-returns-then-has16-has32 c = c.unsupported_at.ensures ∙ sym (guard_met _ _ c.has16.ensures c.has32.ensures c.if-has16-has32.true)
+returns-then-has-k c = c.unsupported_at.ensures ∙ sym (guard_met _ _ c.has.ensures c.has-2.ensures c.if-has-k.true)
 
-pub returns-else-has16-has32 : goal.returns-else-has16-has32
+pub returns-else-has-k : goal.returns-else-has-k
 unfolding unsupported state_of
-returns-else-has16-has32 c = sym (guard_left _ _ c.has16.ensures c.has32.ensures c.if-has16-has32.false)
+returns-else-has-k c = sym (guard_left _ _ c.has.ensures c.has-2.ensures c.if-has-k.false)

@@ -9,10 +9,10 @@ use Rattle.waiting_run.proofs.end_of.Goals as goal
 pub returns-then-not-none_empty : goal.returns-then-not-none_empty
 returns-then-not-none_empty c = sym (end_impossible _ _ (sym c.none_empty.ensures ∙ c.if-not-none_empty.true))
 
-pub returns-then-m-eq0 : goal.returns-then-m-eq0
-returns-then-m-eq0 c =
-    sym (end_solved _ _ (sym c.none_empty.ensures ∙ c.if-not-none_empty.false) (sym (some_active c.requires) ∙ ap not (eq-eqb _ 0 c.if-m-eq0.true)))
+pub returns-then-view-eq0 : goal.returns-then-view-eq0
+returns-then-view-eq0 c =
+    sym (end_solved _ _ (sym c.none_empty.ensures ∙ c.if-not-none_empty.false) (sym (some_active c.args.view.ready) ∙ ap not (eq-eqb _ 0 c.if-view-eq0.true)))
 
 pub returns : goal.returns
 returns c =
-    sym (end_rest _ _ (sym c.none_empty.ensures ∙ c.if-not-none_empty.false) (sym (some_active c.requires) ∙ ap not (ne_eqb _ 0 c.if-m-eq0.false)))
+    sym (end_rest _ _ (sym c.none_empty.ensures ∙ c.if-not-none_empty.false) (sym (some_active c.args.view.ready) ∙ ap not (ne_eqb _ 0 c.if-view-eq0.false)))

@@ -6,16 +6,16 @@ use Rattle.jobs.proofs.Opened.{table_refused, table_rows, table_job}
 use Rattle.run.proofs.Opened.{run_sheet_refused, run_kept}
 use Rattle.waiting_run.proofs.run_sheet.Goals as goal
 
-pub returns-in-Refused : goal.returns-in-Refused
-returns-in-Refused c =
+pub returns-in-Err : goal.returns-in-Err
+returns-in-Err c =
     let a = c.args in
-    let q = sym (run_sheet_refused a.s.now a.b.now _ (table_refused _ _ (c.read_table.ensures.answer, c.read_table.ensures.filled) c.in-Refused.is)) in
+    let q = sym (run_sheet_refused a.s.now a.b.now _ (table_refused _ _ (c.read_table.ensures.answer, c.read_table.ensures.filled) c.in-Err.is)) in
     (c.refused.ensures ∙ ap (λ (x : RunResult). x.answer) q, ap (λ (x : RunResult). x.buffer) q)
 
-pub returns-in-Accepted : goal.returns-in-Accepted
-returns-in-Accepted c =
+pub returns-in-Ok : goal.returns-in-Ok
+returns-in-Ok c =
     let a = c.args in
-    let q = table_job _ _ (c.read_table.ensures.answer, c.read_table.ensures.filled) c.in-Accepted.is (λ (P : Problem). run_over P a.b.now) (run_kept a.s.now a.b.now) in
+    let q = table_job _ _ (c.read_table.ensures.answer, c.read_table.ensures.filled) c.in-Ok.is (λ (P : Problem). run_over P a.b.now) (run_kept a.s.now a.b.now) in
     let p = c.run_over.ensures in
     (p.0 ∙ ap (λ (x : RunResult). x.answer) q, p.1 ∙ ap (λ (x : RunResult). x.buffer) q)
 
@@ -23,4 +23,4 @@ pub read_table-requires : goal.read_table-requires
 read_table-requires c = c.blank_table-t.ensures
 
 pub run_over-requires : goal.run_over-requires
-run_over-requires c = table_rows _ _ (c.read_table.ensures.answer, c.read_table.ensures.filled) c.in-Accepted.is
+run_over-requires c = table_rows _ _ (c.read_table.ensures.answer, c.read_table.ensures.filled) c.in-Ok.is

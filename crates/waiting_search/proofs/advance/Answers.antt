@@ -10,22 +10,20 @@ use Rattle.waiting_search.proofs.Known.{step_holds, known_after, holds_mendable}
 use Rattle.waiting_search.proofs.advance.Goals as goal
 
 pub apply-state-requires : goal.apply-state-requires
-apply-state-requires c = let q = c.requires in (q.0, holds_within q.0 _ (step_holds q.0.fits _ q.3).1)
+apply-state-requires c = let R = c.args.view.ready in holds_within R _ (step_holds R.fits _ c.requires.2).1
 
 pub mend-requires : goal.mend-requires
 mend-requires c =
-    let q = c.requires in
-    let k = sym c.apply-state.ensures in (
-      subst (Ready c.args.t.now) k (after_ready q.0 _),
-      subst (λ (m : Masks). Mendable c.args.t.now m c.args.r) k (holds_mendable q.0 _ (step_holds q.0.fits _ q.3).1),
-      q.1.long,
-      q.2.narrow,
-      q.2.long,
-    )
+    let R = c.args.view.ready in
+    subst (λ (m : Masks). Mendable c.args.view.table.now m c.args.r) (sym c.apply-state.ensures) (holds_mendable R _ (step_holds R.fits _ c.requires.2).1)
+
+pub invariant_of-reached : goal.invariant_of-reached
+invariant_of-reached c = record { ready = subst (Ready c.args.view.table.now) (sym c.apply-state.ensures) (after_ready c.args.view.ready _) }
 
 pub returns : goal.returns
 returns c =
+    let R = c.args.view.ready in
     let q = c.requires in
     let e = c.apply-state.ensures in
-    let k = known_after q.0.fits _ q.3 (held_few c.args.t.now) q.1 q.2 (ap state_of e ∙ after_state q.0 _) c.mend.ensures in
+    let k = known_after R.fits _ q.2 (held_few c.args.view.table.now) q.0 q.1 (ap state_of e ∙ after_state R _) c.mend.ensures in
     record { is = e; words = k.0; waits = k.1 }

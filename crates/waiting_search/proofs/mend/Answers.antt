@@ -1,23 +1,22 @@
 -- `waiting_search::mend`: each arm by itself. Assumes nothing.
 use mathlib.Core.Path.{refl, subst}
-use Rattle.problem.specs.Masks.{sets}
 use Rattle.waiting_search.specs.Known.{Mendable}
 use Rattle.waiting_search.proofs.mend.Goals as goal
 
 pub remove_known-requires : goal.remove_known-requires
-remove_known-requires c = let q = c.requires in let w = subst (Mendable _ (sets c.args.active c.args.on.now)) c.in-Unsupported.is q.1 in (q.0, w.0, w.1, q.2, q.3, q.4)
+remove_known-requires c = let w = subst (Mendable _ c.args.view.state.now) c.in-Unsupported.is c.requires in (w.0, w.1)
 
 pub wake-requires : goal.wake-requires
-wake-requires c = let q = c.requires in let w = subst (Mendable _ (sets c.args.active c.args.on.now)) c.in-Snake.is q.1 in (w, q.3, q.4)
+wake-requires c = let w = subst (Mendable _ c.args.view.state.now) c.in-Snake.is c.requires in w
 
 pub wake-requires-in-Triangle : goal.wake-requires-in-Triangle
-wake-requires-in-Triangle c = let q = c.requires in let w = subst (Mendable _ (sets c.args.active c.args.on.now)) c.in-Triangle.is q.1 in (w, q.3, q.4)
+wake-requires-in-Triangle c = let w = subst (Mendable _ c.args.view.state.now) c.in-Triangle.is c.requires in w
 
 pub wake_value-requires : goal.wake_value-requires
-wake_value-requires c = let q = c.requires in let w = subst (Mendable _ (sets c.args.active c.args.on.now)) c.in-Neighbourhood.is q.1 in (w.0.variable, w.0.value, q.3, q.4)
+wake_value-requires c = let w = subst (Mendable _ c.args.view.state.now) c.in-Neighbourhood.is c.requires in (w.0.variable, w.0.value)
 
 pub remove_known-requires-in-SnakeSubstitution : goal.remove_known-requires-in-SnakeSubstitution
-remove_known-requires-in-SnakeSubstitution c = let q = c.requires in let w = subst (Mendable _ (sets c.args.active c.args.on.now)) c.in-SnakeSubstitution.is q.1 in (q.0, w.0, w.1, q.2, q.3, q.4)
+remove_known-requires-in-SnakeSubstitution c = let w = subst (Mendable _ c.args.view.state.now) c.in-SnakeSubstitution.is c.requires in (w.0, w.1)
 
 pub returns-in-Unsupported : goal.returns-in-Unsupported
 returns-in-Unsupported c = rw c.in-Unsupported.is (c.remove_known.ensures.words, c.remove_known.ensures.wakes)

@@ -1,5 +1,5 @@
 use mathlib.Core.Path.{◌≡◌}
-use Prim.Native.Nat.{ℕ, ◌+◌, ◌-◌, ◌≤◌}
+use Prim.Native.Nat.{ℕ, ◌+◌, ◌≤◌}
 use lib.Bits.{bit_and}
 use lib.Dec.{eqb}
 use lib.ListN.{get_or}
@@ -9,6 +9,3 @@ use Rattle.waiting_unsupported.proofs.all_alone.Given as goal
 
 abbrev pub invariant-loop-u : goal.invariant-loop-u
 invariant-loop-u l = (l.u ≤ 16) × (l.word ≡ mask_of l.u (λ (k : ℕ). eqb (bit_and l.domain (get_or l.t (rows_at l.i l.l + k) 0)) 0))
-
-abbrev pub decreases-loop-u : goal.decreases-loop-u
-decreases-loop-u l = 16 - l.u

@@ -10,7 +10,7 @@ loop-i-preserved c =
     (omega arith, filling_more w.i _ (omega arith) c.unsupported_of.ensures w.invariant.1)
 
 pub loop-i-init : goal.loop-i-init
-loop-i-init c = (search rules, filling_none c.requires.2)
+loop-i-init c = (search rules, filling_none (search rules))
 
 pub offset_bounds-words-i : goal.offset_bounds-words-i
 offset_bounds-words-i c = let long = c.loop-i.invariant.1.long in search rules
@@ -19,4 +19,4 @@ pub bounds-words-i : goal.bounds-words-i
 bounds-words-i c = let long = c.loop-i.invariant.1.long in search rules
 
 pub returns : goal.returns
-returns c = filling_end c.requires.0 (omega arith) c.loop-i.invariant.1
+returns c = filling_end c.args.view.ready (omega arith) c.loop-i.invariant.1

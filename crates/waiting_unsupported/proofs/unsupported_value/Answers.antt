@@ -7,21 +7,21 @@ use Rattle.problem.proofs.Search.{step_if_on, step_if_off, first_none, first_mor
 use Rattle.waiting_unsupported.proofs.Search.{value_off}
 use Rattle.waiting_unsupported.proofs.unsupported_value.Goals as goal
 
-pub offset_bounds-on-i : goal.offset_bounds-on-i
+pub offset_bounds-view-i : goal.offset_bounds-view-i
 unfolding step_at
-offset_bounds-on-i c = search rules
+offset_bounds-view-i c = search rules
 
-pub bounds-on-i : goal.bounds-on-i
+pub bounds-view-i : goal.bounds-view-i
 unfolding step_at
-bounds-on-i c = search rules
+bounds-view-i c = search rules
 
-pub has16-requires : goal.has16-requires
+pub has-requires : goal.has-requires
 unfolding step_at
-has16-requires c = search rules
+has-requires c = search rules
 
-pub returns-then-not-has16 : goal.returns-then-not-has16
+pub returns-then-not-has : goal.returns-then-not-has
 unfolding step_at
-returns-then-not-has16 c = sym (value_off c.requires.0 _ _ (sym c.has16.ensures ∙ c.if-not-has16.true))
+returns-then-not-has c = sym (value_off c.args.view.ready _ _ (sym c.has.ensures ∙ c.if-not-has.true))
 
 pub loop-k-init : goal.loop-k-init
 unfolding step_at
@@ -34,14 +34,6 @@ unsupported-requires c = search rules
 pub returns-then-unsupported : goal.returns-then-unsupported
 unfolding step_at
 returns-then-unsupported c = sym (first_hit _ 32 _ _ (omega arith) c.loop-k.invariant.1 (step_if_on _ _ (sym c.unsupported.ensures ∙ c.if-unsupported.true)) refl)
-
-pub overflow_add-k : goal.overflow_add-k
-unfolding step_at
-overflow_add-k c = omega arith
-
-pub loop-k-smaller : goal.loop-k-smaller
-unfolding step_at
-loop-k-smaller c = omega arith
 
 pub loop-k-preserved : goal.loop-k-preserved
 unfolding step_at

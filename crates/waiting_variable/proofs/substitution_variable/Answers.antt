@@ -3,7 +3,7 @@ use mathlib.Core.Path.{◌≡◌, sym, ◌∙◌}
 use native.Mathlib.Omega.{arith}
 use borrow.Author.Rules.{rules}
 use Rattle.problem.specs.Held.{held}
-use Rattle.problem.specs.Masks.{state_of, sets}
+use Rattle.problem.specs.Masks.{state_of}
 use Rattle.problem.proofs.Search.{nothing_is}
 use Rattle.waiting.proofs.Waiting.{waits_learned}
 use Rattle.search_order.specs.Lowest.{step_from}
@@ -11,27 +11,27 @@ use Rattle.waiting_variable.proofs.Trying.{goals_first, goals_rest, goals_none}
 use Rattle.waiting_variable.proofs.substitution_variable.Goals as goal
 use Rattle.waiting_variable.proofs.substitution_variable.Goals.{After-lowest_substitution-found}
 
-pub returns-then-has16-on : goal.returns-then-has16-on
-returns-then-has16-on c =
+pub returns-then-has-view : goal.returns-then-has-view
+returns-then-has-view c =
     let p = c.requires in
-    record { is = sym (goals_none p.0 _ p.2 p.1 c.pending_of.result c.has16.result c.pending_of.ensures c.has16.ensures c.if-has16-on.true); waits = p.1 }
+    record { is = sym (goals_none c.args.view.ready _ p.1 p.0 c.pending_of.result c.has.result c.pending_of.ensures c.has.ensures c.if-has-view.true); waits = p.0 }
 
 -- what the goals left say
 lowest : (c : After-lowest_substitution-found) → let a = c.args in
-    c.lowest_substitution-found.result ≡ step_from (held a.t.now) (state_of (sets a.active a.on.now)) 5 a.i
-lowest c = let p = c.requires in c.lowest_substitution-found.ensures ∙ goals_first p.0 _ p.2 c.substitution_rests-rests.ensures
+    c.lowest_substitution-found.result ≡ step_from (held a.view.table.now) (state_of a.view.state.now) 5 a.i
+lowest c = let p = c.requires in c.lowest_substitution-found.ensures ∙ goals_first c.args.view.ready _ p.1 c.substitution_rests-rests.ensures
 
-pub returns-then-is_step : goal.returns-then-is_step
-returns-then-is_step c = record { is = lowest (goal.at.returns-then-is_step c).After-lowest_substitution-found; waits = c.requires.1 }
+pub returns-then-is_some : goal.returns-then-is_some
+returns-then-is_some c = record { is = lowest (goal.at.returns-then-is_some c).After-lowest_substitution-found; waits = c.requires.0 }
 
 pub returns : goal.returns
 returns c =
     let p = c.requires in
-    let none = sym (lowest (goal.at.returns c).After-lowest_substitution-found) ∙ nothing_is _ (sym c.is_step.ensures ∙ c.if-is_step.false) in
-    record { is = sym none; waits = waits_learned p.1 4 _ 0 (omega arith) p.2 (omega arith) c.learn.ensures (goals_rest p.0 _ p.2 c.substitution_rests-rests.ensures none) (search rules) }
+    let none = sym (lowest (goal.at.returns c).After-lowest_substitution-found) ∙ nothing_is _ (sym c.is_some.ensures ∙ c.if-is_some.false) in
+    record { is = sym none; waits = waits_learned p.0 4 _ 0 (omega arith) p.1 (omega arith) c.learn.ensures (goals_rest c.args.view.ready _ p.1 c.substitution_rests-rests.ensures none) (search rules) }
 
 pub pending_of-requires : goal.pending_of-requires
-pending_of-requires c = let p = c.requires in (omega arith, p.2, p.1.narrow)
+pending_of-requires c = let p = c.requires in (omega arith, p.1)
 
 pub learn-requires : goal.learn-requires
-learn-requires c = let p = c.requires in (omega arith, p.2, omega arith, p.1.narrow, p.1.long)
+learn-requires c = let p = c.requires in (omega arith, p.1, omega arith)

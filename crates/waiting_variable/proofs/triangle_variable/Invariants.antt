@@ -1,11 +1,11 @@
 use Rattle.problem.specs.Held.{held}
-use Rattle.problem.specs.Masks.{state_of, sets}
+use Rattle.problem.specs.Masks.{state_of}
 use Rattle.waiting.specs.Waiting.{Waits}
 use Rattle.search_order.proofs.Lowest.{Seeking}
 use Rattle.waiting_variable.proofs.triangle_variable.Given as goal
 
 abbrev pub invariant-loop-left : goal.invariant-loop-left
-invariant-loop-left l = Seeking (held l.t) (state_of (sets l.active l.on)) 3 l.i l.initial.left l.left × Waits (held l.t) (state_of (sets l.active l.on)) l.pending l.waiting
+invariant-loop-left l = Seeking (held l.view.table.now) (state_of l.view.state.now) 3 l.i l.initial.left l.left × Waits (held l.view.table.now) (state_of l.view.state.now) l.memory.pending l.memory.waiting
 
 abbrev pub decreases-loop-left : goal.decreases-loop-left
 decreases-loop-left l = l.left

@@ -1,6 +1,0 @@
--- `most_apart::without_unless`. Assumes nothing.
-use mathlib.Core.Path.{◌∙◌}
-use Rattle.most_apart.proofs.without_unless.Goals as goal
-
-pub returns-else-b : goal.returns-else-b
-returns-else-b c = c.without32.ensures ∙ rw c.if-b.false

@@ -1,6 +1,0 @@
--- `waiting::learn_triangle`: the value is stored, and the test entered. Assumes nothing.
-use Rattle.waiting.proofs.Words.{triangle_learned}
-use Rattle.waiting.proofs.learn_triangle.Goals as goal
-
-pub returns : goal.returns
-returns c = let p = c.requires in triangle_learned _ p.0 p.1 p.4 c.learn.ensures
