@@ -52,7 +52,7 @@ fn pieces<R: Read, W: Write, J: Fn(&mut W, u8, &[u8]) -> io::Result<()>>(
 
 // Reads on behind the bytes that are held at the front: how many bytes the text has then. As many as before where the input has ended or
 // the text is full.
-fn read_on<R: Read>(input: &mut R, text: &mut [u8], held: usize) -> io::Result<usize>
+pub fn read_on<R: Read>(input: &mut R, text: &mut [u8], held: usize) -> io::Result<usize>
     requires { held ≤ length text.old }
     ensures ok { IfOk result (λ n. (held ≤ n) × (n ≤ length text.new)) }
     ensures err { OnErr result (length text.new ≡ length text.old) }
@@ -77,7 +77,7 @@ fn piece<W: Write, J: Fn(&mut W, u8, &[u8]) -> io::Result<()>>(
 }
 
 // The place after the last line that ends in the text, 0 where none does.
-fn lines_end(text: &[u8]) -> usize
+pub fn lines_end(text: &[u8]) -> usize
     ensures { IsPrefixLen result text.now }
 {
     text.iter().rposition(|c| *c == b'\n').map_or(0, |k| k + 1)
@@ -143,9 +143,10 @@ pub fn bytes(line: &[u8], out: &mut [u8]) -> usize
 
 // The number of the digits from one place up to another, or up to the first byte that is none: its last sixteen.
 pub fn number(line: &[u8], from: usize, to: usize) -> u64 {
-    line.iter()
-        .take(to)
-        .skip(from)
+    let end = to.min(line.len());
+    // a slice from there, since `skip` would go over each byte before it
+    line[from.min(end)..end]
+        .iter()
         .map_while(|c| digit(*c))
         .fold(0, |x, d| x << 4 | u64::from(d))
 }

@@ -1,6 +1,6 @@
 -- Why a pigeonhole has no solution: the values of variables that all differ are as many as the variables. Assumes nothing.
 use mathlib.Core.Path.{◌≡◌, refl, sym, ap, subst, ◌∙◌}
-use mathlib.Core.Bool.{Bool, true, false, ◌||◌}
+use mathlib.Core.Bool.{Bool, true, false, ◌||◌, cond}
 use mathlib.Core.List.{List}
 use mathlib.Core.Logic.{◌⊎◌, inl, inr, ◌≢◌, ⊎_elim}
 use Prim.Native.Nat.{ℕ, zero, suc, max, ◌+◌, ◌-◌, ◌/◌, ◌%◌, ◌^◌, ◌≤◌, ◌<◌}
@@ -90,6 +90,12 @@ sift_gone {P} {on} {i} {far} {rest} j l S = record { small = less; each = λ k h
         absurd (left_other 32 bit_without32 far j (left_all 32 (without 32 far j) less) refl l m h (without_gone 32 bit_without32 rest j l k m y off))
     go k h off (inr n) = S.each k (without_part 32 far j k h) n
 
+-- j stays or goes
+pub sift_more : {P : Problem} {on : List ℕ} {i far rest : ℕ} (b : Bool) (j : ℕ) → j < 32 → ApartIf P (get_or on i 0) (get_or on j 0) i j b → Sifted P on i far rest
+    → Sifted P on i (cond b far (without 32 far j)) (without 32 rest j)
+sift_more true j l H S = sift_kept j l H refl S
+sift_more false j l H S = sift_gone j l S
+
 pub sift_end : {P : Problem} {on : List ℕ} {i far rest : ℕ} → rest ≡ 0 → Sifted P on i far rest → AllApart P on i far
 sift_end {rest = rest} e S = record { each = λ j h. S.each j h (λ y. member_some rest j y e) }
 
@@ -117,13 +123,18 @@ rows_written_more {P} {on} {far} i x l A W = record { long = length-set far i x 
 
 -- ---- the best so far
 
--- the best so far is one of `rest`, if both are
-pub best_more : (rest best x j r : ℕ) → T (bit rest (31 - best % 32)) → 31 - x % 32 ≡ j → T (bit rest j) → r ≡ max best x → T (bit rest (31 - r % 32))
-best_more rest best x j r h e g p = go (lt_dec best x)
+-- the best so far is one of `rest`, if either was
+pub best_more : (rest best x j r : ℕ) → T (bit rest (31 - best % 32)) → 31 - x % 32 ≡ j → T (bit rest j) → (r ≡ best) ⊎ (r ≡ x) → T (bit rest (31 - r % 32))
+best_more rest best x j r h e g (inl p) = subst (λ (z : ℕ). T (bit rest (31 - z % 32))) (sym p) h
+best_more rest best x j r h e g (inr p) = subst (λ (z : ℕ). T (bit rest z)) (sym (ap (λ (z : ℕ). 31 - z % 32) p ∙ e)) g
+
+-- the greater of two is one of them
+pub best_max : (rest best x j r : ℕ) → T (bit rest (31 - best % 32)) → 31 - x % 32 ≡ j → T (bit rest j) → r ≡ max best x → T (bit rest (31 - r % 32))
+best_max rest best x j r h e g p = best_more rest best x j r h e g (go (lt_dec best x))
   where
-    go : (best < x) ⊎ (x ≤ best) → T (bit rest (31 - r % 32))
-    go (inl l) = subst (λ (z : ℕ). T (bit rest z)) (sym (ap (λ (z : ℕ). 31 - z % 32) (p ∙ max-eq_right (omega (arith, l))) ∙ e)) g
-    go (inr l) = subst (λ (z : ℕ). T (bit rest (31 - z % 32))) (sym (p ∙ max-eq_left l)) h
+    go : (best < x) ⊎ (x ≤ best) → (r ≡ best) ⊎ (r ≡ x)
+    go (inl l) = inr (p ∙ max-eq_right (omega (arith, l)))
+    go (inr l) = inl (p ∙ max-eq_left l)
 
 -- ---- members of a set
 

@@ -1,6 +1,6 @@
 -- Why a pigeonhole has no solution: the values of variables that all differ are as many as the variables. Assumes nothing.
 use mathlib.Core.Path.{◌≡◌, refl, sym, ap, subst, ◌∙◌}
-use mathlib.Core.Bool.{Bool, true, false, ◌||◌}
+use mathlib.Core.Bool.{Bool, true, false, ◌||◌, cond}
 use mathlib.Core.List.{List}
 use mathlib.Core.Logic.{◌⊎◌, inl, inr, ◌≢◌, ⊎_elim}
 use Prim.Native.Nat.{ℕ, zero, suc, ◌+◌, ◌/◌, ◌%◌, ◌^◌, ◌≤◌, ◌<◌}
@@ -81,6 +81,11 @@ sift_gone P i far rest j l S = record { small = less; each = λ k on off. go k o
         let m : k < 32 = small 32 (without 32 far j) k less on in
         absurd (left_other 32 bit_without32 far j (left_all 32 (without 32 far j) less) refl l m on (without_gone 32 bit_without32 rest j l k m y off))
     go k on off (inr n) = S.each k (without_part 32 far j k on) n
+
+-- j stays or goes
+pub sift_more : (P : Problem) (i far rest : ℕ) (b : Bool) (j : ℕ) → j < 32 → ApartIf P i j b → Sifted P i far rest → Sifted P i (cond b far (without 32 far j)) (without 32 rest j)
+sift_more P i far rest true j l H S = sift_kept P i far rest j l H refl S
+sift_more P i far rest false j l H S = sift_gone P i far rest j l S
 
 pub sift_end : (P : Problem) (i far rest : ℕ) → rest ≡ 0 → Sifted P i far rest → AllApart P i far
 sift_end P i far rest e S = record { each = λ j on. S.each j on (λ y. T_not (ap (λ (z : ℕ). bit z j) e ∙ bit_none j) y) }

@@ -30,7 +30,7 @@ pub const SUBSTITUTIONS: usize = 4;
 
 // What a search knows of the tests that failed: by rows, those that are pending, and for each variable those that wait for it, then for
 // each triangle the value that it waits for.
-#[derive(Drop)]
+#[derive(Clone, Copy)]
 pub struct Memory {
     pub pending: [u16; ROWS],
     pub waiting: [u16; WAITING],
@@ -58,6 +58,38 @@ fn watch(waiting: &mut [u16; WAITING], rests: u32, row: usize, c: usize)
     }
 }
 
+// The tests of variable i in a group that are pending.
+pub fn pending_of(pending: &[u16; ROWS], group: usize, i: usize) -> u16
+    requires { (group < groups) × (i < 32) }
+    ensures { result ≡ get_or pending.now (row_of group i) 0 }
+{
+    pending[row_at(group, i)]
+}
+
+// The variables whose triangle with i is pending.
+pub fn pending_triangles(pending: &[u16; ROWS], i: usize) -> u32
+    requires { i < 32 }
+    ensures { TrianglesPending pending.now i result }
+{
+    joined(
+        pending_of(pending, TRIANGLES, i),
+        pending_of(pending, TRIANGLES + 1, i),
+    )
+}
+
+// Value c has gone off at l: triangles with l that wait for it are pending. The loop loads and stores each word, so that the compiler can do
+// many at once.
+pub fn wake_triangles(pending: &mut [u16; ROWS], waiting: &[u16; WAITING], l: usize, c: usize)
+    requires { (l < 32) × (c < 16) }
+    ensures { TrianglesWoken l c pending.old waiting.now pending.new }
+{
+    let row = 32 * (TRIANGLES + l / 16);
+    let from = TRIANGLES_FROM + 32 * l;
+    for i in 0..32 {
+        pending[row + i] = pending[row + i] | weight(waiting[from + i] == c as u16, l % 16);
+    }
+}
+
 impl Memory {
     // At first every test is pending. Inlined, so that it is built where it stays: a copy more is more stack than the header asks for.
     #[inline(always)]
@@ -76,7 +108,7 @@ impl Memory {
         requires { (group < groups) × (i < 32) }
         ensures { result ≡ get_or self.now.pending (row_of group i) 0 }
     {
-        self.pending[row_at(group, i)]
+        pending_of(&self.pending, group, i)
     }
 
     // The variables whose triangle with i is pending.
@@ -84,10 +116,7 @@ impl Memory {
         requires { i < 32 }
         ensures { TrianglesPending self.now.pending i result }
     {
-        joined(
-            self.pending_of(TRIANGLES, i),
-            self.pending_of(TRIANGLES + 1, i),
-        )
+        pending_triangles(&self.pending, i)
     }
 
     // ---- a test has failed
@@ -125,17 +154,12 @@ impl Memory {
         }
     }
 
-    // Value c has gone off at l: triangles with l that wait for it are pending. The loop loads and stores each word, as above.
+    // Value c has gone off at l: triangles with l that wait for it are pending.
     pub fn wake_triangles(&mut self, l: usize, c: usize)
         requires { (l < 32) × (c < 16) }
         ensures wakes { TrianglesWoken l c self.old.pending self.old.waiting self.new.pending }
         ensures same { self.new.waiting ≡ self.old.waiting }
     {
-        let row = 32 * (TRIANGLES + l / 16);
-        let from = TRIANGLES_FROM + 32 * l;
-        for i in 0..32 {
-            self.pending[row + i] = self.pending[row + i]
-                | weight(self.waiting[from + i] == c as u16, l % 16);
-        }
+        wake_triangles(&mut self.pending, &self.waiting, l, c);
     }
 }

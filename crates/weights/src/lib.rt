@@ -9,17 +9,18 @@ use bounded::Set;
 // The most that a value costs.
 const COST: u16 = 2047;
 
-// The weights of 32 variables: the more a variable failed, the less a value of it costs.
-#[derive(Drop)]
+// The weights of 32 variables: the more a variable failed, the less a value of it costs. Any words are weights: a search ends with its answer
+// whatever they are, so the fields are public and there is no invariant.
+#[derive(Clone, Copy)]
 pub struct Weights {
     // what a value of each variable costs
-    costs: [u16; 32],
+    pub costs: [u16; 32],
     // 16 powers of 2, which the compiler is not to know: so it does the lanes of `marked` at once
-    powers: [u16; 16],
+    pub powers: [u16; 16],
     // how often each variable failed, counted from its degree
-    tallies: [u32; 32],
+    pub tallies: [u32; 32],
     // what a value costs where its variable failed once
-    scale: u32,
+    pub scale: u32,
 }
 
 // 65535 for true, 0 for false.

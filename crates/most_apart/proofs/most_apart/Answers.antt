@@ -7,7 +7,7 @@ use borrow.Author.Rules.{rules}
 use Rattle.bounded.specs.Mask.{bit}
 use Rattle.bounded.proofs.Mask.{bit_without32}
 use Rattle.bounded.proofs.Members.{left_all, left_next, left_lowest}
-use Rattle.most_apart.proofs.Laws.{best_more}
+use Rattle.most_apart.proofs.Laws.{best_max}
 use Rattle.most_apart.proofs.most_apart.Goals as goal
 
 pub overflow_sub-best : goal.overflow_sub-best
@@ -38,4 +38,4 @@ pub loop-left-preserved : goal.loop-left-preserved
 loop-left-preserved c =
     let w = c.loop-left in
     let l = (left_lowest 32 bit_without32 w.invariant.0 c.loop-left-test.true c.lowest-j.ensures).1 in
-    (rw c.without-left.ensures (left_next _ w.invariant.0), best_more _ _ _ _ _ w.invariant.1 c.rank.ensures (w.invariant.0.part _ l) c.max-best.ensures)
+    (rw c.without-left.ensures (left_next _ w.invariant.0), best_max _ _ _ _ _ w.invariant.1 c.rank.ensures (w.invariant.0.part _ l) c.max-best.ensures)

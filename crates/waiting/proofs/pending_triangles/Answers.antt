@@ -1,6 +1,6 @@
--- `waiting::Memory::pending_triangles`: the two words of i. Assumes nothing.
+-- `waiting::pending_triangles`: the two words of i. Assumes nothing.
 use Rattle.waiting.proofs.Words.{triangles_joined}
-use Rattle.waiting.proofs.Memory.pending_triangles.Goals as goal
+use Rattle.waiting.proofs.pending_triangles.Goals as goal
 
 pub returns : goal.returns
 returns c =

@@ -1,5 +1,0 @@
--- `waiting::Memory::pending_of`: the word of the row. Assumes nothing.
-use Rattle.waiting.proofs.Memory.pending_of.Goals as goal
-
-pub returns : goal.returns
-returns c = rw c.row_at.ensures
